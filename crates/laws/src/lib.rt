@@ -1,0 +1,1 @@
+// Theorems over the definitions of meaning; there is no function here.

@@ -1,0 +1,16 @@
+-- What document 01 says a literal means. Read in this order.
+pub mod Bytes
+pub mod Chars
+pub mod Walk
+pub mod Steps
+pub mod Cutting
+pub mod Spelling
+pub mod Reading
+pub mod Numbers
+pub mod Halves
+pub mod Kinds
+pub mod Helpers
+pub mod Answers
+pub mod Questions
+pub mod Writer
+pub mod Records

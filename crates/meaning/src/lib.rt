@@ -1,0 +1,179 @@
+// What goes into a question and what comes out of it. The definitions of specs/ give these types their meaning; there is no function here.
+
+// What the reading of strings may differ by, given at each call.
+pub struct Settings {
+    // MySQL's backslash escapes in standard strings
+    pub backslash: bool,
+}
+
+// The WITH or WITHOUT TIME ZONE of a TIME or TIMESTAMP.
+pub enum TimeZone {
+    Unspecified,
+    WithTimeZone,
+    WithoutTimeZone,
+}
+
+// The qualifier behind an INTERVAL.
+pub enum IntervalFields {
+    Year,
+    Month,
+    Day,
+    Hour,
+    Minute,
+    Second,
+    YearToMonth,
+    DayToHour,
+    DayToMinute,
+    DayToSecond,
+    HourToMinute,
+    HourToSecond,
+    MinuteToSecond,
+    Week,
+    Quarter,
+    Decade,
+    Century,
+    Millennium,
+    Millisecond,
+    Microsecond,
+    DayToMicrosecond,
+    HourToMicrosecond,
+    MinuteToMicrosecond,
+    SecondToMicrosecond,
+}
+
+// An INTERVAL's qualifier, which may be absent.
+pub enum Fields {
+    Absent,
+    Given(IntervalFields),
+}
+
+// An INTERVAL's precision, which may be absent.
+pub enum Precision {
+    Absent,
+    Given(u32),
+}
+
+// The base of a bit string's digits.
+pub enum BitStringRadix {
+    Binary,
+    Hex,
+}
+
+// What a literal is said to be.
+pub enum LiteralKind {
+    Integer,
+    Float,
+    Decimal,
+    String,
+    Boolean(bool),
+    Null,
+    Date,
+    Time(TimeZone),
+    Timestamp(TimeZone),
+    Interval(Fields, Precision),
+    BitString(BitStringRadix),
+    Money,
+}
+
+// What a question expects a literal to be.
+pub enum LiteralExpected {
+    Integer,
+    DecimalText,
+    String,
+    Boolean,
+    Null,
+    Temporal,
+    BitString,
+    Money,
+}
+
+// From a place of the source up to another.
+pub struct Span {
+    pub start: u32,
+    pub end: u32,
+}
+
+// A literal: its kind, whether it stands in no source, and its span.
+pub struct Literal {
+    pub kind: LiteralKind,
+    pub synthetic: bool,
+    pub span: Span,
+}
+
+// Why a question on a literal is refused: numbers 1 to 9.
+pub enum Refusal {
+    WrongKind(LiteralExpected, LiteralKind),
+    MissingSource(Span),
+    InvalidSourceRange(Span),
+    NotUtf8(Span),
+    InvalidInteger(Span),
+    InvalidString(Span),
+    InvalidBitString(Span),
+    InvalidMoney(Span),
+    NoRoom { needed: usize },
+}
+
+// A text: a part of the source, or the first bytes of the buffer.
+pub enum Text {
+    Borrowed { start: usize, end: usize },
+    Written { len: usize },
+    Refused(Refusal),
+}
+
+// A part of the source.
+pub enum Range {
+    Found { start: usize, end: usize },
+    Refused(Refusal),
+}
+
+// A character set's name, a part of the source; or that there is none.
+pub enum Charset {
+    Named { start: usize, end: usize },
+    Unnamed,
+    Refused(Refusal),
+}
+
+pub enum Integer {
+    Value(i64),
+    Refused(Refusal),
+}
+
+pub enum Truth {
+    Value(bool),
+    Refused(Refusal),
+}
+
+pub enum Nullness {
+    IsNull,
+    Refused(Refusal),
+}
+
+// An identifier's text, of a bare text: no literal, so no span to give back.
+pub enum Identifier {
+    Borrowed { start: usize, end: usize },
+    Written { len: usize },
+    NotUtf8,
+    InvalidString,
+    NoRoom { needed: usize },
+}
+
+// What the writer did.
+pub enum Writing {
+    Written { len: usize },
+    OverLimit,
+    NotUtf8,
+    HoldsNul,
+    NoRoom { needed: usize },
+}
+
+// How many value bytes a written part may hold.
+pub enum PartSize {
+    Whole,
+    AtMost(usize),
+}
+
+// A number's base by its prefix, and where the digits begin.
+pub struct RadixPrefix {
+    pub base: u32,
+    pub start: usize,
+}
