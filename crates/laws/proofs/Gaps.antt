@@ -1,0 +1,143 @@
+-- Laws of white space, and of openings. Assumes nothing.
+use mathlib.Core.Path.{_≡_, refl, ap, sym, _∙_, subst}
+use mathlib.Core.Bool.{Bool, true, false, _&&_, _||_, not, and-false}
+use mathlib.Core.List.{List, [], _∷_, _++_, append-assoc}
+use Prim.Native.Nat.{ℕ, zero, suc, _+_, _-_, _*_, _≤_, _<_}
+use Prim.Native.Char.{code}
+use native.Mathlib.Nat.{add-zero, zero-add}
+use native.Mathlib.Omega.{arith}
+use lib.Dec.{T, eqb, eqb→eq, eqb-refl, ltb, leb, le→leb, leb→le}
+use lib.ListN.{length, getD, take, drop, length-append}
+use Rattle.meaning.specs.Bytes.{if_then_else_, _!_, has, ascii, within, isMark, quote, dquote, inName, span}
+use Rattle.meaning.specs.Chars.{leads, leadIn, Due, due, broken, lead, gather, base, isSpace, space, spaceAt}
+use Rattle.meaning.specs.Walk.{Step, keep, give, stop, Trace, ended, stopped, kept, gave, after, walk, size, stops}
+use Rattle.meaning.specs.Steps.{spaceStep, spaceBy, gap, trim}
+use Rattle.meaning.specs.Cutting.{opening, named}
+use Rattle.laws.proofs.Walks.{walk-append, LocalIn, Inside, Exact, exact-ends, graft, size-graft, Fits, FitsIn, fits-size}
+use Rattle.laws.proofs.Enclosed.{T→true, true→T}
+
+-- a later byte that is due is never below 80
+abbrev Rows : List (ℕ × ℕ × ℕ × ℕ × ℕ) → Type 0
+Rows [] = Unit {0}
+Rows (r ∷ rs) = (leb 0x80 (r .3) ≡ true) × Rows rs
+
+rows-low : (rs : List (ℕ × ℕ × ℕ × ℕ × ℕ)) → Rows rs → (b n lo hi : ℕ) → leadIn rs b ≡ due n lo hi → leb 0x80 lo ≡ true
+rows-low [] a b n lo hi e = let z : _≡_ {A = ℕ} 0 1 = cc in absurd (omega arith)
+rows-low (r ∷ rs) a b n lo hi e = go (within (r .0) (r .1) b) e (rows-low rs (a .1) b n lo hi)
+  where
+    go : (x : Bool) → (if x then due (r .2) (r .3) (r .4) else leadIn rs b) ≡ due n lo hi → (leadIn rs b ≡ due n lo hi → leb 0x80 lo ≡ true) → leb 0x80 lo ≡ true
+    go true e ih = let l : r .3 ≡ lo = cc in subst (λ (m : ℕ). leb 0x80 m ≡ true) l (a .0)
+    go false e ih = ih e
+
+pub lead-low : (b n lo hi : ℕ) → lead b ≡ due n lo hi → leb 0x80 lo ≡ true
+unfolding lead
+lead-low b n lo hi e = rows-low leads (refl, (refl, (refl, (refl, (refl, (refl, (refl, (refl, (refl, tt))))))))) b n lo hi e
+
+pub due-high : (lo hi b : ℕ) → leb 0x80 lo ≡ true → within lo hi b ≡ true → leb 0x80 b ≡ true
+unfolding within
+due-high lo hi b l e =
+    let h = leb→le 0x80 lo (true→T (leb 0x80 lo) l) in
+    let k = leb→le lo b (true→T (leb lo b) (and-left (leb lo b) (leb b hi) e)) in
+    T→true (leb 0x80 b) (le→leb 0x80 b (omega arith))
+  where
+    and-left : (x y : Bool) → (x && y) ≡ true → x ≡ true
+    and-left true y e = refl
+    and-left false y e = e
+
+pub below-due : (lo hi b : ℕ) → leb 0x80 lo ≡ true → leb 0x80 b ≡ false → within lo hi b ≡ false
+below-due lo hi b l e = go (within lo hi b) refl
+  where
+    go : (x : Bool) → within lo hi b ≡ x → x ≡ false
+    go true h = sym (due-high lo hi b l h) ∙ e
+    go false h = refl
+
+pub no-space : isSpace 0 ≡ false
+unfolding isSpace within
+no-space = refl
+
+pub gather-append : (n lo hi v : ℕ) (t r : List ℕ) → isSpace (gather n lo hi v t) ≡ true → gather n lo hi v (t ++ r) ≡ gather n lo hi v t
+gather-append zero lo hi v t r h = refl
+gather-append (suc n) lo hi v [] r h = absurd (true→T false (sym no-space ∙ h))
+gather-append (suc n) lo hi v (b ∷ t) r h = go (within lo hi b) refl h (gather-append n 0x80 0xBF (v * 64 + (b - 0x80)) t r)
+  where
+    inner : List ℕ → ℕ
+    inner s = gather n 0x80 0xBF (v * 64 + (b - 0x80)) s
+
+    go : (x : Bool) → within lo hi b ≡ x → isSpace (if x then inner t else 0) ≡ true
+        → (isSpace (inner t) ≡ true → inner (t ++ r) ≡ inner t)
+        → gather (suc n) lo hi v (b ∷ (t ++ r)) ≡ gather (suc n) lo hi v (b ∷ t)
+    go true e g ih = rw e (ih g)
+    go false e g ih = rw e
+
+pub gather-fits : (n lo hi v : ℕ) (t : List ℕ) → isSpace (gather n lo hi v t) ≡ true → n ≤ length t
+gather-fits zero lo hi v t h = omega arith
+gather-fits (suc n) lo hi v [] h = absurd (true→T false (sym no-space ∙ h))
+gather-fits (suc n) lo hi v (b ∷ t) h = go (within lo hi b) h (gather-fits n 0x80 0xBF (v * 64 + (b - 0x80)) t)
+  where
+    go : (x : Bool) → isSpace (if x then gather n 0x80 0xBF (v * 64 + (b - 0x80)) t else 0) ≡ true
+        → (isSpace (gather n 0x80 0xBF (v * 64 + (b - 0x80)) t) ≡ true → n ≤ length t) → suc n ≤ suc (length t)
+    go true g ih = let r = ih g in omega arith
+    go false g ih = absurd (true→T false (sym no-space ∙ g))
+
+pub space-local : (r : List ℕ) → LocalIn spaceStep r
+space-local r b t i = go (lead b) refl i
+  where
+    at : (n lo hi : ℕ) (x : Bool) → isSpace (gather n lo hi (b - base n) t) ≡ x → Inside (spaceBy (if x then suc n else 0)) (length t)
+        → spaceBy (spaceAt (due n lo hi) b (t ++ r)) ≡ spaceBy (spaceAt (due n lo hi) b t)
+    at n lo hi true ex j = rw (gather-append n lo hi (b - base n) t r ex)
+    at n lo hi false ex j = absurd j
+
+    go : (d : Due) → lead b ≡ d → Inside (spaceBy (spaceAt d b t)) (length t) → spaceStep (b ∷ (t ++ r)) ≡ spaceStep (b ∷ t)
+    go broken e j = absurd j
+    go (due n lo hi) e j = rw e (at n lo hi (isSpace (gather n lo hi (b - base n) t)) refl j)
+
+pub space-fits : Fits spaceStep
+space-fits b t = go (lead b)
+  where
+    at : (n lo hi : ℕ) (x : Bool) → isSpace (gather n lo hi (b - base n) t) ≡ x → FitsIn (spaceBy (if x then suc n else 0)) (length t)
+    at n lo hi true ex = gather-fits n lo hi (b - base n) t ex
+    at n lo hi false ex = tt
+
+    go : (d : Due) → FitsIn (spaceBy (spaceAt d b t)) (length t)
+    go broken = tt
+    go (due n lo hi) = at n lo hi (isSpace (gather n lo hi (b - base n) t)) refl
+
+pub gap-fits : (t : List ℕ) → gap t ≤ length t
+gap-fits t = let h = fits-size spaceStep space-fits 0 t (omega arith) in omega arith
+
+-- white space w, and behind it a byte that begins none
+pub gap-append : (w : List ℕ) → Exact spaceStep w → (c : ℕ) (t : List ℕ) → space (c ∷ t) ≡ 0 → gap (w ++ (c ∷ t)) ≡ length w
+gap-append w ex c t s =
+    rw (walk-append spaceStep (c ∷ t) (space-local (c ∷ t)) 0 w (zero-add (size (walk spaceStep 0 w)) ∙ ex))
+    (size-graft (walk spaceStep 0 w) (walk spaceStep 0 (c ∷ t)) (exact-ends spaceStep 0 w (zero-add (size (walk spaceStep 0 w)) ∙ ex))
+    ∙ ap (λ (m : ℕ). size (walk spaceStep 0 w) + m) at-rest ∙ add-zero (size (walk spaceStep 0 w)) ∙ ex)
+  where
+    at-rest : size (walk spaceStep 0 (c ∷ t)) ≡ 0
+    at-rest = rw s
+
+-- A byte of a list that all pass
+abbrev pub AllP : (ℕ → Type 0) → List ℕ → Type 0
+AllP P [] = Unit {0}
+AllP P (c ∷ l) = P c × AllP P l
+
+pub has-all : (P : ℕ → Type 0) (b : ℕ) (l : List ℕ) → AllP P l → has b l ≡ true → P b
+has-all P b [] a h = absurd (subst T (sym h) tt)
+has-all P b (c ∷ l) a h = go (eqb b c) refl h (has-all P b l (a .1))
+  where
+    go : (x : Bool) → eqb b c ≡ x → (x || has b l) ≡ true → (has b l ≡ true → P b) → P b
+    go true e g ih = subst P (sym (eqb→eq b c (true→T (eqb b c) e))) (a .0)
+    go false e g ih = ih g
+
+-- no byte that opens a segment begins white space
+abbrev pub Solid : ℕ → Type 0
+Solid b = (t : List ℕ) → space (b ∷ t) ≡ 0
+
+pub mark-solid : (b : ℕ) → isMark b ≡ true → Solid b
+unfolding isMark lead within isSpace
+mark-solid b h = has-all Solid b (39 ∷ 34 ∷ []) ((λ t. refl), ((λ t. refl), tt)) h
+
+pub prefix-solid : (b : ℕ) → has b (ascii "EeNnBbXxUu_") ≡ true → Solid b
+unfolding lead within isSpace
+prefix-solid b h =
+    has-all Solid b (ascii "EeNnBbXxUu_")
+    ((λ t. refl), ((λ t. refl), ((λ t. refl), ((λ t. refl), ((λ t. refl), ((λ t. refl), ((λ t. refl), ((λ t. refl), ((λ t. refl), ((λ t. refl), ((λ t. refl), tt))))))))))) h

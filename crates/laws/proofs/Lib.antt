@@ -1,0 +1,24 @@
+-- Theorems over the definitions of `meaning`, callees first.
+pub mod Walks
+pub mod Enclosed
+pub mod Gaps
+pub mod Openings
+pub mod Alone
+pub mod Joining
+pub mod BodyStops
+pub mod EscapeStops
+pub mod WholeRefused
+pub mod UnicodeOff
+pub mod UnicodePassed
+pub mod Ready
+pub mod UnicodeOn
+pub mod ClauseStops
+pub mod ClauseFacts
+pub mod ClauseRefused
+pub mod Utf8
+pub mod JoiningLaw
+pub mod SegmentsRule
+pub mod Chain
+pub mod Written
+pub mod WrittenUtf8
+pub mod Parts

@@ -1,0 +1,204 @@
+-- Laws of openings and segments: what follows a segment changes nothing in it. Assumes nothing.
+use mathlib.Core.Path.{_≡_, refl, ap, sym, _∙_, subst}
+use mathlib.Core.Bool.{Bool, true, false, _&&_, _||_, not, and-false}
+use mathlib.Core.List.{List, [], _∷_, _++_, append-assoc}
+use Prim.Native.Nat.{ℕ, zero, suc, _+_, _-_, _*_, _≤_, _<_}
+use Prim.Native.Char.{code}
+use native.Mathlib.Nat.{add-zero, zero-add}
+use native.Mathlib.Omega.{arith}
+use lib.Dec.{T, eqb, eqb→eq, eqb-refl, ltb, leb, le→leb, leb→le}
+use lib.ListN.{length, getD, take, drop, length-append, length-drop, List·getD-append}
+use lib.Seq.{drop-append-le}
+use Rattle.meaning.specs.declared.Settings.{Settings}
+use Rattle.meaning.specs.Bytes.{if_then_else_, _!_, has, ascii, within, isMark, quote, dquote, backslash, inName, span}
+use Rattle.meaning.specs.Walk.{Step, keep, give, stop, Trace, ended, stopped, kept, gave, after, walk, size, stops}
+use Rattle.meaning.specs.Steps.{closingStep, doubled}
+use Rattle.meaning.specs.Cutting.{opening, named, hides, closedAt, segmentAt, segment}
+use Rattle.laws.proofs.Walks.{Local, walk-extend, stops-inside}
+use Rattle.laws.proofs.Enclosed.{T→true, true→T, has-append}
+use Rattle.laws.proofs.Gaps.{Solid, mark-solid, prefix-solid}
+
+pub if-suc : (x : Bool) (m n : ℕ) → (if x then m else 0) ≡ suc n → (x ≡ true) × (m ≡ suc n)
+if-suc true m n e = (refl, e)
+if-suc false m n e = absurd (omega arith)
+
+pub and-left : (x y : Bool) → (x && y) ≡ true → x ≡ true
+and-left true y e = refl
+and-left false y e = e
+
+pub and-right : (x y : Bool) → (x && y) ≡ true → y ≡ true
+and-right true y e = e
+and-right false y e = absurd (subst T (sym e) tt)
+
+-- a byte other than 0 lies inside the text
+pub inside : (f : ℕ → Bool) → f 0 ≡ false → (t : List ℕ) (i : ℕ) → f (t ! i) ≡ true → i < length t
+inside f z [] i h = absurd (subst T (sym h ∙ z) tt)
+inside f z (b ∷ t) zero h = omega arith
+inside f z (b ∷ t) (suc i) h = let r = inside f z t i h in omega arith
+
+pub mark-inside : (t : List ℕ) (i : ℕ) → isMark (t ! i) ≡ true → i < length t
+unfolding isMark
+mark-inside t i h = inside isMark refl t i h
+
+pub same-byte : (f : ℕ → Bool) → f 0 ≡ false → (t r : List ℕ) (i : ℕ) → f (t ! i) ≡ true → (t ++ r) ! i ≡ t ! i
+same-byte f z t r i h = List·getD-append t r 0 i (inside f z t i h)
+
+span-extend : (p : ℕ → Bool) (t r : List ℕ) → isMark (t ! span p t) ≡ true → span p (t ++ r) ≡ span p t
+unfolding isMark
+span-extend p [] r h = absurd (subst T (sym h) tt)
+span-extend p (b ∷ t) r h = go (p b) refl h (span-extend p t r)
+  where
+    go : (x : Bool) → p b ≡ x → isMark ((b ∷ t) ! (if x then suc (span p t) else 0)) ≡ true → (isMark (t ! span p t) ≡ true → span p (t ++ r) ≡ span p t)
+        → span p (b ∷ (t ++ r)) ≡ span p (b ∷ t)
+    go true e g ih = rw e (ap suc (ih g))
+    go false e g ih = rw e
+
+named-extend : (t r : List ℕ) (n : ℕ) → named t ≡ suc n → named (t ++ r) ≡ suc n
+unfolding named isMark
+named-extend t r n e =
+    let c = if-suc (ltb 0 (span inName t) && isMark (t ! span inName t)) (suc (suc (span inName t))) n e in
+    let m : isMark (t ! span inName t) ≡ true = and-right (ltb 0 (span inName t)) (isMark (t ! span inName t)) (c .0) in
+    rw (span-extend inName t r m, same-byte isMark refl t r (span inName t) m) e
+
+pub opening-extend : (t r : List ℕ) (n : ℕ) → opening t ≡ suc n → opening (t ++ r) ≡ suc n
+opening-extend [] r n e = absurd (omega arith)
+opening-extend (b ∷ t) r n e = go (isMark b) (has b (ascii "EeNnBbXx")) (has b (ascii "Uu")) (eqb b (code "_")) refl refl refl refl e
+  where
+    go : (x y z u : Bool) → isMark b ≡ x → has b (ascii "EeNnBbXx") ≡ y → has b (ascii "Uu") ≡ z → eqb b (code "_") ≡ u
+        → (if x then 1
+        else if y then (if eqb (t ! 0) quote then 2 else 0)
+        else if z then (if eqb (t ! 0) (code "&") && eqb (t ! 1) quote then 3 else 0)
+        else if u then named t else 0) ≡ suc n
+        → opening (b ∷ (t ++ r)) ≡ suc n
+    go true y z u ex ey ez eu g = rw ex g
+    go false true z u ex ey ez eu g =
+        let c = if-suc (eqb (t ! 0) quote) 2 n g in
+        rw (ex, ey, same-byte (λ x. eqb x quote) refl t r 0 (c .0)) g
+    go false false true u ex ey ez eu g =
+        let c = if-suc (eqb (t ! 0) (code "&") && eqb (t ! 1) quote) 3 n g in
+        rw (
+          ex,
+          ey,
+          ez,
+          same-byte (λ x. eqb x (code "&")) refl t r 0 (and-left (eqb (t ! 0) (code "&")) (eqb (t ! 1) quote) (c .0)),
+          same-byte (λ x. eqb x quote) refl t r 1 (and-right (eqb (t ! 0) (code "&")) (eqb (t ! 1) quote) (c .0)),
+        ) g
+    go false false false true ex ey ez eu g = rw (ex, ey, ez, eu) (named-extend t r n g)
+    go false false false false ex ey ez eu g = absurd (omega arith)
+
+-- the opening's last byte is its mark, and its first is no white space
+eqb-mark : (b : ℕ) → eqb b quote ≡ true → isMark b ≡ true
+unfolding isMark
+eqb-mark b e = rw e
+
+pub opening-mark : (t : List ℕ) (n : ℕ) → opening t ≡ suc n → isMark (t ! n) ≡ true
+unfolding named
+opening-mark [] n e = absurd (omega arith)
+opening-mark (b ∷ t) n e = go (isMark b) (has b (ascii "EeNnBbXx")) (has b (ascii "Uu")) (eqb b (code "_")) refl e
+  where
+    go : (x y z u : Bool) → isMark b ≡ x
+        → (if x then 1
+        else if y then (if eqb (t ! 0) quote then 2 else 0)
+        else if z then (if eqb (t ! 0) (code "&") && eqb (t ! 1) quote then 3 else 0)
+        else if u then named t else 0) ≡ suc n
+        → isMark ((b ∷ t) ! n) ≡ true
+    go true y z u ex g = let k : 0 ≡ n = omega arith in rw (← k) ex
+    go false true z u ex g =
+        let c = if-suc (eqb (t ! 0) quote) 2 n g in
+        let k : 1 ≡ n = let d = c .1 in omega arith in rw (← k) (eqb-mark (t ! 0) (c .0))
+    go false false true u ex g =
+        let c = if-suc (eqb (t ! 0) (code "&") && eqb (t ! 1) quote) 3 n g in
+        let k : 2 ≡ n = let d = c .1 in omega arith in
+        rw (← k) (eqb-mark (t ! 1) (and-right (eqb (t ! 0) (code "&")) (eqb (t ! 1) quote) (c .0)))
+    go false false false true ex g =
+        let c = if-suc (ltb 0 (span inName t) && isMark (t ! span inName t)) (suc (suc (span inName t))) n g in
+        let k : suc (span inName t) ≡ n = let d = c .1 in omega arith in
+        rw (← k) (and-right (ltb 0 (span inName t)) (isMark (t ! span inName t)) (c .0))
+    go false false false false ex g = absurd (omega arith)
+
+pub opening-solid : (b : ℕ) (t : List ℕ) (n : ℕ) → opening (b ∷ t) ≡ suc n → Solid b
+opening-solid b t n e = go (isMark b) (has b (ascii "EeNnBbXx")) (has b (ascii "Uu")) (eqb b (code "_")) refl refl refl refl e
+  where
+    go : (x y z u : Bool) → isMark b ≡ x → has b (ascii "EeNnBbXx") ≡ y → has b (ascii "Uu") ≡ z → eqb b (code "_") ≡ u
+        → (if x then 1
+        else if y then (if eqb (t ! 0) quote then 2 else 0)
+        else if z then (if eqb (t ! 0) (code "&") && eqb (t ! 1) quote then 3 else 0)
+        else if u then named t else 0) ≡ suc n
+        → Solid b
+    go true y z u ex ey ez eu g = mark-solid b ex
+    go false true z u ex ey ez eu g = prefix-solid b (has-append b (ascii "EeNnBbXx") (ascii "Uu_") ∙ ap (λ (v : Bool). v || has b (ascii "Uu_")) ey)
+    go false false true u ex ey ez eu g =
+        prefix-solid b
+        (has-append b (ascii "EeNnBbXx") (ascii "Uu_") ∙ ap (λ (v : Bool). v || has b (ascii "Uu_")) ey
+        ∙ has-append b (ascii "Uu") (ascii "_") ∙ ap (λ (v : Bool). v || has b (ascii "_")) ez)
+    go false false false true ex ey ez eu g =
+        prefix-solid b
+        (has-append b (ascii "EeNnBbXx") (ascii "Uu_") ∙ ap (λ (v : Bool). v || has b (ascii "Uu_")) ey
+        ∙ has-append b (ascii "Uu") (ascii "_") ∙ ap (λ (v : Bool). v || has b (ascii "_")) ez ∙ rw eu)
+    go false false false false ex ey ez eu g = absurd (omega arith)
+
+-- the search for the mark q does not look past a text that is followed by another byte than q
+pub closing-local-all : (h : Bool) (q : ℕ) (r : List ℕ) → eqb 0 q ≡ false → eqb (r ! 0) q ≡ false → Local (closingStep h q) r
+unfolding doubled
+closing-local-all h q r nz na b (c ∷ t) = refl
+closing-local-all h q r nz na b [] = rw (na, nz)
+
+-- a mark is not 0, and no other byte is a mark's equal
+pub apart-of-mark : (q b : ℕ) → isMark q ≡ true → isMark b ≡ false → eqb b q ≡ false
+apart-of-mark q b m n = go (eqb b q) refl
+  where
+    go : (x : Bool) → eqb b q ≡ x → x ≡ false
+    go true e = sym m ∙ ap isMark (sym (eqb→eq b q (true→T (eqb b q) e))) ∙ n
+    go false e = refl
+
+pub mark-0 : isMark 0 ≡ false
+unfolding isMark
+mark-0 = refl
+
+hides-extend : (σ : Settings) (t r : List ℕ) (n : ℕ) → opening t ≡ suc n → hides σ (t ++ r) ≡ hides σ t
+hides-extend σ [] r n e = absurd (omega arith)
+hides-extend σ (b ∷ t) r n e = refl
+
+-- what a segment is, by parts
+pub segment-of : (σ : Settings) (t : List ℕ) (e : ℕ) → segment σ t ≡ suc e
+    → (n : ℕ) × (opening t ≡ suc n)
+    × (stops (walk (closingStep (hides σ t) (t ! n)) 0 (drop (suc n) t)) ≡ true)
+    × (suc n + size (walk (closingStep (hides σ t) (t ! n)) 0 (drop (suc n) t)) + 1 ≡ suc e)
+unfolding segment
+segment-of σ t e h = go (opening t) refl h
+  where
+    go : (o : ℕ) → opening t ≡ o → segmentAt σ t o ≡ suc e
+        → (n : ℕ) × (opening t ≡ suc n)
+        × (stops (walk (closingStep (hides σ t) (t ! n)) 0 (drop (suc n) t)) ≡ true)
+        × (suc n + size (walk (closingStep (hides σ t) (t ! n)) 0 (drop (suc n) t)) + 1 ≡ suc e)
+    go zero p g = absurd (omega arith)
+    go (suc n) p g =
+        let c = if-suc (stops (walk (closingStep (hides σ t) (t ! n)) 0 (drop (suc n) t)))
+        (suc n + size (walk (closingStep (hides σ t) (t ! n)) 0 (drop (suc n) t)) + 1) e g in
+        (n, p, c .0, c .1)
+
+pub segment-fits : (σ : Settings) (t : List ℕ) (e : ℕ) → segment σ t ≡ suc e → suc e ≤ length t
+segment-fits σ t e h =
+    let s = segment-of σ t e h in
+    let i = stops-inside (closingStep (hides σ t) (t ! (s .0))) 0 (drop (suc (s .0)) t) (true→T _ (s .2)) in
+    let m = mark-inside t (s .0) (opening-mark t (s .0) (s .1)) in
+    let k = s .3 in
+    omega (arith, length-drop (suc (s .0)) t)
+
+pub segment-extend : (σ : Settings) (t r : List ℕ) (e : ℕ) → isMark (r ! 0) ≡ false → segment σ t ≡ suc e → segment σ (t ++ r) ≡ suc e
+unfolding segment
+segment-extend σ t r e a h =
+    let s = segment-of σ t e h in
+    let n : ℕ = s .0 in
+    let m = opening-mark t n (s .1) in
+    let i = mark-inside t n m in
+    rw (
+      opening-extend t r n (s .1),
+      hides-extend σ t r n (s .1),
+      List·getD-append t r 0 n i,
+      drop-append-le (suc n) t r i,
+      walk-extend (closingStep (hides σ t) (t ! n)) r
+          (closing-local-all (hides σ t) (t ! n) r (apart-of-mark (t ! n) 0 m mark-0) (apart-of-mark (t ! n) (r ! 0) m a)) 0 (drop (suc n) t) (true→T _ (s .2)),
+      s .2,
+    )
+    (s .3)

@@ -1,0 +1,180 @@
+-- What the plain writer writes reads back, at either setting. Assumes nothing.
+use mathlib.Core.Path.{_≡_, refl, ap, sym, _∙_, subst}
+use mathlib.Core.Bool.{Bool, true, false, _&&_, _||_, not, or-false, and-false}
+use mathlib.Core.List.{List, [], _∷_, _++_, append-assoc, append-nil}
+use Prim.Native.Nat.{ℕ, zero, suc, _+_, _-_, _*_, _≤_, _<_}
+use native.Mathlib.Nat.{add-zero, zero-add}
+use native.Mathlib.Omega.{arith}
+use lib.Dec.{T, eqb, eqb→eq, ltb, leb, le→leb, lt→ltb}
+use lib.ListN.{length, getD, take, drop, length-append}
+use lib.Seq.{drop-length}
+use Rattle.meaning.specs.declared.Settings.{Settings}
+use Rattle.meaning.specs.Bytes.{if_then_else_, _!_, has, quote, dquote, backslash, isMark, part}
+use Rattle.meaning.specs.Walk.{Step, keep, give, stop, Trace, ended, stopped, kept, gave, after, walk, size, stops, plain, value}
+use Rattle.meaning.specs.Steps.{standardStep, closingStep, doubled, mysql}
+use Rattle.meaning.specs.Cutting.{segment, continues}
+use Rattle.meaning.specs.Spelling.{spelling, standard, encloses}
+use Rattle.meaning.specs.Reading.{Answer, borrowed, written, refused, Value, means, fails, valueOf, answer, one, read, read-as}
+use Rattle.meaning.specs.Writer.{spell, spells, literal}
+use Rattle.laws.proofs.Enclosed.{T→true, true→T, eqb-same, eqb-sym, has-append, encloses-body, part-body}
+use Rattle.laws.proofs.Walks.{walk-keep, walk-give, walk-stop, walk-plain, walk-append, LocalIn, Inside, Exact, exact-append, exact-ends, graft, size-graft, stops-graft}
+
+-- READING. The body means the value, and nothing stops
+pub spells-value : (bs : Bool) (v : List ℕ) → value (walk (standardStep bs quote) 0 (spells bs v)) ≡ v
+unfolding spell doubled
+spells-value bs [] = refl
+spells-value true (b ∷ v) = go (eqb b quote) (eqb b backslash) (eqb b 0) refl refl refl (spells-value true v)
+  where
+    go : (x y z : Bool) → eqb b quote ≡ x → eqb b backslash ≡ y → eqb b 0 ≡ z
+        → value (walk (standardStep true quote) 0 (spells true v)) ≡ v
+        → value (walk (standardStep true quote) 0 (spell true b ++ spells true v)) ≡ b ∷ v
+    go true y z ex ey ez ih = rw ex (rw (eqb→eq b quote (subst T (sym ex) tt)) (ap (quote ∷_) ih))
+    go false true z ex ey ez ih = rw (ex, ey) (rw (eqb→eq b backslash (subst T (sym ey) tt)) (ap (backslash ∷_) ih))
+    go false false true ex ey ez ih = rw (ex, ey, ez) (rw (eqb→eq b 0 (subst T (sym ez) tt)) (ap (0 ∷_) ih))
+    go false false false ex ey ez ih = rw (ex, ey, ez) (rw (ey, ex) (ap (b ∷_) ih))
+spells-value false (b ∷ v) = go (eqb b quote) refl (spells-value false v)
+  where
+    go : (x : Bool) → eqb b quote ≡ x → value (walk (standardStep false quote) 0 (spells false v)) ≡ v
+        → value (walk (standardStep false quote) 0 (spell false b ++ spells false v)) ≡ b ∷ v
+    go true ex ih = rw ex (rw (eqb→eq b quote (subst T (sym ex) tt)) (ap (quote ∷_) ih))
+    go false ex ih = rw (ex, ex) (ap (b ∷_) ih)
+
+pub spells-goes : (bs : Bool) (v : List ℕ) → stops (walk (standardStep bs quote) 0 (spells bs v)) ≡ false
+unfolding spell doubled
+spells-goes bs [] = refl
+spells-goes true (b ∷ v) = go (eqb b quote) (eqb b backslash) (eqb b 0) refl refl refl (spells-goes true v)
+  where
+    go : (x y z : Bool) → eqb b quote ≡ x → eqb b backslash ≡ y → eqb b 0 ≡ z
+        → stops (walk (standardStep true quote) 0 (spells true v)) ≡ false
+        → stops (walk (standardStep true quote) 0 (spell true b ++ spells true v)) ≡ false
+    go true y z ex ey ez ih = rw ex ih
+    go false true z ex ey ez ih = rw (ex, ey) ih
+    go false false true ex ey ez ih = rw (ex, ey, ez) ih
+    go false false false ex ey ez ih = rw (ex, ey, ez) (rw (ey, ex) ih)
+spells-goes false (b ∷ v) = go (eqb b quote) refl (spells-goes false v)
+  where
+    go : (x : Bool) → eqb b quote ≡ x → stops (walk (standardStep false quote) 0 (spells false v)) ≡ false
+        → stops (walk (standardStep false quote) 0 (spell false b ++ spells false v)) ≡ false
+    go true ex ih = rw ex ih
+    go false ex ih = rw (ex, ex) ih
+
+-- CLOSING. The search for the closing mark takes all of the body
+pub closing-local : (hides : Bool) (q : ℕ) (r : List ℕ) → eqb 0 q ≡ false → LocalIn (closingStep hides q) r
+unfolding doubled
+closing-local hides q r nz b (c ∷ t) i = refl
+closing-local hides q r nz b [] i = go (hides && eqb b backslash) (eqb b q) refl refl i
+  where
+    go : (x y : Bool) → (hides && eqb b backslash) ≡ x → eqb b q ≡ y
+        → Inside (if x then give 1 [] else if y then (if eqb 0 q then give 1 (q ∷ []) else stop) else keep) 0
+        → closingStep hides q (b ∷ r) ≡ closingStep hides q (b ∷ [])
+    go true y ex ey j = absurd (omega arith)
+    go false true ex ey j = absurd (rw nz at j)
+    go false false ex ey j = rw (ex, ey)
+
+pub spell-exact : (bs : Bool) (b : ℕ) → Exact (closingStep bs quote) (spell bs b)
+unfolding spell doubled
+spell-exact true b = go (eqb b quote) (eqb b backslash) (eqb b 0) refl refl refl
+  where
+    go : (x y z : Bool) → eqb b quote ≡ x → eqb b backslash ≡ y → eqb b 0 ≡ z → Exact (closingStep true quote) (spell true b)
+    go true y z ex ey ez = rw ex
+    go false true z ex ey ez = rw (ex, ey)
+    go false false true ex ey ez = rw (ex, ey, ez)
+    go false false false ex ey ez = rw (ex, ey, ez) (rw (ey, ex) refl)
+spell-exact false b = go (eqb b quote) refl
+  where
+    go : (x : Bool) → eqb b quote ≡ x → Exact (closingStep false quote) (spell false b)
+    go true ex = rw ex
+    go false ex = rw (ex, ex)
+
+pub spells-exact : (bs : Bool) (v : List ℕ) → Exact (closingStep bs quote) (spells bs v)
+spells-exact bs [] = refl
+spells-exact bs (b ∷ v) =
+    exact-append (closingStep bs quote) (spell bs b) (spells bs v) (closing-local bs quote (spells bs v) refl) (spell-exact bs b) (spells-exact bs v)
+
+-- the closing mark is found behind the body, whatever other byte comes next
+module _ (σ : Settings) (v r : List ℕ) (apart : eqb (r ! 0) quote ≡ false) where
+  at-mark : (b : Bool) → walk (closingStep b quote) 0 (quote ∷ r) ≡ stopped
+  unfolding doubled
+  at-mark true = rw apart
+  at-mark false = rw apart
+
+  closing-course : walk (closingStep (σ .backslash) quote) 0 (spells (σ .backslash) v ++ (quote ∷ r)) ≡ graft (walk (closingStep (σ .backslash) quote) 0 (spells (σ .backslash) v)) stopped
+  closing-course =
+      walk-append (closingStep (σ .backslash) quote) (quote ∷ r) (closing-local (σ .backslash) quote (quote ∷ r) refl) 0 (spells (σ .backslash) v)
+      (zero-add (size (walk (closingStep (σ .backslash) quote) 0 (spells (σ .backslash) v))) ∙ spells-exact (σ .backslash) v)
+      ∙ ap (graft (walk (closingStep (σ .backslash) quote) 0 (spells (σ .backslash) v))) (at-mark (σ .backslash))
+
+  ends : stops (walk (closingStep (σ .backslash) quote) 0 (spells (σ .backslash) v)) ≡ false
+  ends = exact-ends (closingStep (σ .backslash) quote) 0 (spells (σ .backslash) v) (zero-add (size (walk (closingStep (σ .backslash) quote) 0 (spells (σ .backslash) v))) ∙ spells-exact (σ .backslash) v)
+
+  pub literal-segment : segment σ (literal (σ .backslash) v ++ r) ≡ length (literal (σ .backslash) v)
+  unfolding segment isMark
+  literal-segment =
+      rw (
+        append-assoc (spells (σ .backslash) v) (quote ∷ []) r,
+        or-false (σ .backslash),
+        closing-course,
+        stops-graft (walk (closingStep (σ .backslash) quote) 0 (spells (σ .backslash) v)) stopped ends,
+        size-graft (walk (closingStep (σ .backslash) quote) 0 (spells (σ .backslash) v)) stopped ends,
+        spells-exact (σ .backslash) v,
+        length-append,
+      )
+      (omega arith)
+
+-- NUL: the writer refuses it with the setting off, and spells it with the setting on
+abbrev pub writable : Bool → List ℕ → Bool
+writable true v = true
+writable false v = not (has 0 v)
+
+no-nul-spell : (bs : Bool) (b : ℕ) → writable bs (b ∷ []) ≡ true → has 0 (spell bs b) ≡ false
+unfolding spell
+no-nul-spell true b w = go (eqb b quote) (eqb b backslash) (eqb b 0) refl refl refl
+  where
+    go : (x y z : Bool) → eqb b quote ≡ x → eqb b backslash ≡ y → eqb b 0 ≡ z → has 0 (spell true b) ≡ false
+    go true y z ex ey ez = rw ex
+    go false true z ex ey ez = rw (ex, ey)
+    go false false true ex ey ez = rw (ex, ey, ez)
+    go false false false ex ey ez = rw (ex, ey, ez) (rw (or-false (eqb 0 b)) (eqb-sym 0 b ∙ ez))
+no-nul-spell false b w = go (eqb b quote) (eqb 0 b) refl refl w
+  where
+    go : (x z : Bool) → eqb b quote ≡ x → eqb 0 b ≡ z → not (z || false) ≡ true → has 0 (spell false b) ≡ false
+    go true z ex ez w = rw ex
+    go false true ex ez w = absurd (subst T (sym w) tt)
+    go false false ex ez w = rw (ex, ez)
+
+pub no-nul : (bs : Bool) (v : List ℕ) → writable bs v ≡ true → has 0 (spells bs v) ≡ false
+no-nul bs [] w = refl
+no-nul true (b ∷ v) w = rw (has-append 0 (spell true b) (spells true v), no-nul-spell true b refl, no-nul true v refl)
+no-nul false (b ∷ v) w = go (eqb 0 b) refl w (no-nul false v)
+  where
+    go : (z : Bool) → eqb 0 b ≡ z → not (z || has 0 v) ≡ true → (not (has 0 v) ≡ true → has 0 (spells false v) ≡ false)
+        → has 0 (spells false (b ∷ v)) ≡ false
+    go true e w ih = absurd (subst T (sym w) tt)
+    go false e w ih = rw (has-append 0 (spell false b) (spells false v), no-nul-spell false b (rw e), ih w)
+
+-- what a course means, borrowed or written
+pub answer-value : (f u : ℕ) (step : List ℕ → Step) (t : List ℕ) (v : List ℕ) → stops (walk step 0 (part f u t)) ≡ false
+    → value (walk step 0 (part f u t)) ≡ v → valueOf t (answer f u (walk step 0 (part f u t))) ≡ means v
+unfolding answer
+answer-value f u step t v st e = go (plain (walk step 0 (part f u t))) refl
+  where
+    go : (x : Bool) → plain (walk step 0 (part f u t)) ≡ x → valueOf t (answer f u (walk step 0 (part f u t))) ≡ means v
+    go true p = rw p (ap means (sym (walk-plain step (part f u t) (true→T (plain (walk step 0 (part f u t))) p)) ∙ e))
+    go false p = rw (p, st) (ap means e)
+
+pub literal-one : (σ : Settings) (v : List ℕ) → writable (σ .backslash) v ≡ true → valueOf (literal (σ .backslash) v) (one σ (literal (σ .backslash) v)) ≡ means v
+unfolding one spelling
+literal-one σ v w =
+    rw (has-append 0 (spells (σ .backslash) v) (quote ∷ []), no-nul (σ .backslash) v w, encloses-body quote (spells (σ .backslash) v))
+    (answer-value 1 (length (literal (σ .backslash) v) - 1) (standardStep (σ .backslash) quote) (literal (σ .backslash) v) v
+    (rw (part-body quote (spells (σ .backslash) v)) (spells-goes (σ .backslash) v)) (rw (part-body quote (spells (σ .backslash) v)) (spells-value (σ .backslash) v)))
+
+-- a text that is one whole segment is read as one
+pub lone : (σ : Settings) (t : List ℕ) → segment σ t ≡ length t → read σ t ≡ one σ t
+unfolding read continues isMark
+lone σ t e = rw (e, drop-length t, and-false (ltb 0 (length t)))
+
+pub round-trip : (σ : Settings) (v : List ℕ) → writable (σ .backslash) v ≡ true → valueOf (literal (σ .backslash) v) (read σ (literal (σ .backslash) v)) ≡ means v
+round-trip σ v w =
+    rw (lone σ (literal (σ .backslash) v) (subst (λ (t : List ℕ). segment σ t ≡ length (literal (σ .backslash) v)) (append-nil (literal (σ .backslash) v)) (literal-segment σ v [] refl)))
+    (literal-one σ v w)
