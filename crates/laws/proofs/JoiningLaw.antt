@@ -1,60 +1,67 @@
--- Demand 3 as the user states it: both settings, with UTF-8 (4) and room (9). Assumes nothing.
-use mathlib.Core.Logic.{_⊎_, inl, inr}
+-- Demand 3 of the order: "Take accepted string texts A and B, at one backslash setting, each cutting completely into segments, B beginning with a
+-- quote mark, at least one white-space character between. If the whole fits a span and the buffer has room, it is accepted and means A's
+-- value followed by B's." Assumes nothing.
 use mathlib.Core.Path.{_≡_, refl, ap, sym, _∙_, subst}
 use mathlib.Core.Bool.{Bool, true, false}
 use mathlib.Core.List.{List, [], _∷_, _++_}
 use Prim.Native.Nat.{ℕ, _≤_, _<_}
 use lib.Dec.{leb, le→leb}
-use lib.ListN.{length}
+use lib.ListN.{length, drop}
 use Rattle.meaning.specs.declared.Settings.{Settings}
+use Rattle.meaning.specs.declared.Literal.{Literal}
+use Rattle.meaning.specs.declared.Text.{Text}
+use Rattle.meaning.specs.declared.Text.the-variants.{Written}
 use Rattle.meaning.specs.Bytes.{if_then_else_, _!_, isMark}
 use Rattle.meaning.specs.Chars.{utf8}
 use Rattle.meaning.specs.Cutting.{complete}
-use Rattle.meaning.specs.Reading.{meaning, Answer, borrowed, written, refused, means, read}
-use Rattle.laws.proofs.Utf8.{utf8-join}
+use Rattle.meaning.specs.Reading.{means, written, read, meaning}
+use Rattle.meaning.specs.Answers.{Outcome, filled}
+use Rattle.meaning.specs.Questions.{isString, stringQuestion, toldAs}
 use Rattle.laws.proofs.Enclosed.{T→true}
+use Rattle.laws.proofs.Utf8.{utf8-join}
+use Rattle.laws.proofs.Asked.{Spans, stringQuestion-reads}
 use Rattle.laws.proofs.Joining.{White}
-use Rattle.laws.proofs.Ready.{joining, joining-off}
+use Rattle.laws.proofs.Ready.{joining-off}
 use Rattle.laws.proofs.ClauseRefused.{joining-on-whole}
 
--- a string question on a text, with a buffer of `room` bytes
-pub data Told : Type 0 where
-  borrows : ℕ → ℕ → Told
-  writes : List ℕ → Told
-  not-utf8 : Told
-  no-string : ℕ → Told
-  short : ℕ → Told
-
-abbrev pub told : ℕ → Answer → Told
-told room (borrowed f u) = borrows f u
-told room (written v) = if leb (length v) room then writes v else short (length v)
-told room (refused p) = no-string p
-
-unfoldable pub tell : Settings → ℕ → List ℕ → Told
-tell σ room t = if utf8 t then told room (read σ t) else not-utf8
-
--- a text that is accepted, cuts completely, and means v
-pub record Complete (σ : Settings) (t v : List ℕ) : Type 0 where
+-- a text that is accepted and means v
+pub record Accepts (σ : Settings) (t v : List ℕ) : Type 0 where
   pub valid : utf8 t ≡ true
-  pub whole : complete σ t ≡ true
   pub value : meaning σ t ≡ means v
 
+-- and that cuts completely
+pub record Complete (σ : Settings) (t v : List ℕ) : Type 0 where
+  pub accepts : Accepts σ t v
+  pub whole : complete σ t ≡ true
+
+-- white space, at least one character of it
 pub record Gap (g : List ℕ) : Type 0 where
   pub valid : utf8 g ≡ true
   pub white : White g
   pub some : 0 < length g
 
-join-by : (bs : Bool) (A G B v w : List ℕ) → Complete (record { backslash = bs }) A v → Gap G → Complete (record { backslash = bs }) B w → isMark (B ! 0) ≡ true
-    → read (record { backslash = bs }) (A ++ (G ++ B)) ≡ written (v ++ w)
-join-by false A G B v w a g b m = joining-off A G B v w (a .whole) (a .value) (b .whole) (b .value) m (g .white) (g .some)
-join-by true A G B v w a g b m = joining-on-whole A G B v w (a .whole) (a .value) (b .whole) (b .value) m (g .white) (g .some)
+join-by : (bs : Bool) (A G B v w : List ℕ) → Complete (record { backslash = bs }) A v → Gap G → Complete (record { backslash = bs }) B w
+    → isMark (B ! 0) ≡ true → read (record { backslash = bs }) (A ++ (G ++ B)) ≡ written (v ++ w)
+join-by false A G B v w a g b m = joining-off A G B v w (a .whole) (a .accepts .value) (b .whole) (b .accepts .value) m (g .white) (g .some)
+join-by true A G B v w a g b m = joining-on-whole A G B v w (a .whole) (a .accepts .value) (b .whole) (b .accepts .value) m (g .white) (g .some)
 
 -- what is read, at every setting
-pub join-read : (σ : Settings) (A G B v w : List ℕ) → Complete σ A v → Gap G → Complete σ B w → isMark (B ! 0) ≡ true → read σ (A ++ (G ++ B)) ≡ written (v ++ w)
+pub join-read : (σ : Settings) (A G B v w : List ℕ) → Complete σ A v → Gap G → Complete σ B w → isMark (B ! 0) ≡ true
+    → read σ (A ++ (G ++ B)) ≡ written (v ++ w)
 join-read σ = join-by (σ .backslash)
 
+-- a text of which a value is written, where there is room
+pub told-written : (l : Literal) (S t v : List ℕ) (σ : Settings) (out : List ℕ) → isString (l .kind) ≡ true → Spans l S t → utf8 t ≡ true
+    → read σ t ≡ written v → length v ≤ length out
+    → stringQuestion l S σ out ≡ record { answer = Written (length v); buffer = v ++ drop (length v) out }
+unfolding filled
+told-written l S t v σ out k h u e r =
+    rw (stringQuestion-reads l S t σ out k h u, e, T→true (leb (length v) (length out)) (le→leb (length v) (length out) r))
+
+-- THE LAW, over the string question
 pub joining-law : (σ : Settings) (A G B v w : List ℕ) → Complete σ A v → Gap G → Complete σ B w → isMark (B ! 0) ≡ true
-    → (room : ℕ) → length (v ++ w) ≤ room → tell σ room (A ++ (G ++ B)) ≡ writes (v ++ w)
-unfolding tell
-joining-law σ A G B v w a g b m room h =
-    rw (utf8-join A G B (a .valid) (g .valid) (b .valid), join-read σ A G B v w a g b m, T→true (leb (length (v ++ w)) room) (le→leb (length (v ++ w)) room h))
+    → (l : Literal) (S out : List ℕ) → isString (l .kind) ≡ true → Spans l S (A ++ (G ++ B)) → length (v ++ w) ≤ length out
+    → stringQuestion l S σ out ≡ record { answer = Written (length (v ++ w)); buffer = (v ++ w) ++ drop (length (v ++ w)) out }
+joining-law σ A G B v w a g b m l S out k h r =
+    told-written l S (A ++ (G ++ B)) (v ++ w) σ out k h (utf8-join A G B (a .accepts .valid) (g .valid) (b .accepts .valid))
+    (join-read σ A G B v w a g b m) r

@@ -22,3 +22,8 @@ pub mod Chain
 pub mod Written
 pub mod WrittenUtf8
 pub mod Parts
+pub mod Determined
+pub mod Asked
+pub mod Sources
+pub mod Buffers
+pub mod Controls
