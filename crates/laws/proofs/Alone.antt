@@ -16,9 +16,9 @@ use Rattle.meaning.specs.Bytes.{if_then_else_, _!_, has, ascii, isMark, quote, 
 use Rattle.meaning.specs.Walk.{Step, keep, give, stop, Trace, ended, stopped, kept, gave, after, walk, size, stops}
 use Rattle.meaning.specs.Steps.{closingStep, doubled}
 use Rattle.meaning.specs.Cutting.{opening, named, hides, closedAt, segmentAt, segment}
+use Rattle.laws.proofs.Tests.{T→true, true→T, if-suc, and-left, and-right}
 use Rattle.laws.proofs.Walks.{FitsIn, stops-inside}
-use Rattle.laws.proofs.Enclosed.{T→true, true→T}
-use Rattle.laws.proofs.Openings.{if-suc, and-left, and-right, opening-mark, mark-inside, apart-of-mark, mark-0, segment-of, segment-fits}
+use Rattle.laws.proofs.Openings.{opening-mark, mark-inside, apart-of-mark, mark-0, segment-of, segment-fits}
 
 -- the other way round than LocalIn: what stands inside the text stands there without what follows
 abbrev pub Back : (List ℕ → Step) → List ℕ → Type 0

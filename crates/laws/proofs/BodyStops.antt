@@ -18,9 +18,9 @@ use Rattle.meaning.specs.Walk.{Step, keep, give, stop, Trace, ended, stopped, k
 use Rattle.meaning.specs.Steps.{closingStep, doubled, standardStep, mysql, mysqlTable, byteOf, escapeStep, escaped, checked, unlessBroken}
 use Rattle.meaning.specs.Cutting.{opening, named, hides, closedAt, segmentAt, segment}
 use Rattle.meaning.specs.Reading.{Answer, borrowed, written, refused, Value, means, fails, valueOf, answer}
+use Rattle.laws.proofs.Tests.{T→true, true→T, if-suc, and-left, and-right}
 use Rattle.laws.proofs.Walks.{FitsIn, stops-inside}
-use Rattle.laws.proofs.Enclosed.{T→true, true→T}
-use Rattle.laws.proofs.Openings.{if-suc, and-left, and-right, opening-mark, mark-inside, apart-of-mark, mark-0, segment-of, segment-fits}
+use Rattle.laws.proofs.Openings.{opening-mark, mark-inside, apart-of-mark, mark-0, segment-of, segment-fits}
 use Rattle.laws.proofs.Alone.{walk-restrict, closing-back}
 
 -- where the search for the closing mark stops in a body, so does reading it

@@ -27,7 +27,7 @@ use Rattle.meaning.specs.Answers.{Outcome, filled}
 use Rattle.meaning.specs.Questions.{Tested, passes, barred, toldAs, told, identifierAs, identifierQuestion}
 use Rattle.meaning.specs.Helpers.{ident}
 use Rattle.meaning.specs.Writer.{overLimit, unwritableNul, writtenText, writes, writeQuestion}
-use Rattle.laws.proofs.Enclosed.{T→true, true→T}
+use Rattle.laws.proofs.Tests.{T→true, true→T}
 
 -- the buffer begins with n bytes of a value, and goes on as it was lent
 pub record Filled (n : ℕ) (out after : List ℕ) : Type 0 where
@@ -95,7 +95,7 @@ unfolding identifierQuestion
 identifier-leaves t out = go (utf8 t)
   where
     go : (x : Bool) → IdentifierLeaves out ((if x then identifierAs out (ident t) else record { answer = Identifier′.NotUtf8; buffer = out }) .answer)
-          ((if x then identifierAs out (ident t) else record { answer = Identifier′.NotUtf8; buffer = out }) .buffer)
+        ((if x then identifierAs out (ident t) else record { answer = Identifier′.NotUtf8; buffer = out }) .buffer)
     go true = identifierAs-leaves out (ident t)
     go false = refl
 
@@ -110,6 +110,7 @@ writing-leaves σ size v out = go (overLimit size v) (not (utf8 v)) (unwritableN
         else if y then record { answer = Writing′.NotUtf8; buffer = out }
         else if z then record { answer = Writing′.HoldsNul; buffer = out }
         else writes (writtenText σ size v) out
+
     go : (x y z : Bool) → WritingLeaves out (chosen x y z .answer) (chosen x y z .buffer)
     go true y z = refl
     go false true z = refl

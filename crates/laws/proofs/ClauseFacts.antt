@@ -9,6 +9,7 @@ use native.Mathlib.Nat.{zero-add, add-zero}
 use native.Mathlib.Omega.{arith}
 use native.Mathlib.Decide.{decLt}
 use lib.Dec.{T, eqb, eqb→eq, ltb, leb, leb→le, le→leb, leb·zero}
+use borrow.Author.Tests.{le-leb, lt-leb, leb-false}
 use lib.ListN.{length, getD, take, drop, length-drop}
 use Rattle.meaning.specs.Bytes.{if_then_else_, _!_, has, same, ascii, isMark, isLetter, isDecimal, within, quote, dquote, backslash, inName, span, digit}
 use Rattle.meaning.specs.Chars.{Due, due, broken, lead, gather, base, laters, isSpace, space, spaceAt}
@@ -16,9 +17,10 @@ use Rattle.meaning.specs.Walk.{Step, keep, give, stop, Trace, ended, stopped, k
 use Rattle.meaning.specs.Steps.{closingStep, doubled, standardStep, spaceStep, spaceBy, gap, trim}
 use Rattle.meaning.specs.Cutting.{opening, named, hides, closedAt, segmentAt, segment}
 use Rattle.meaning.specs.Spelling.{legalEscape, isOne, upper}
-use Rattle.laws.proofs.Enclosed.{T→true, true→T}
+use Rattle.laws.proofs.Utf8.{low-lead}
+use Rattle.laws.proofs.Tests.{T→true, true→T, and-left, and-right, if-suc}
 use Rattle.laws.proofs.Gaps.{due-high, lead-low, Solid, AllP, has-all, no-space}
-use Rattle.laws.proofs.Openings.{and-left, and-right, if-suc, apart-of-mark}
+use Rattle.laws.proofs.Openings.{apart-of-mark}
 use Rattle.laws.proofs.ClauseStops.{Ok, Last}
 
 -- a byte that a search for a mark keeps, and that ends no prefix
@@ -56,23 +58,6 @@ high-quiet b h = (
   ),
 )
 
-pub leb-no : (m n : ℕ) → n < m → leb m n ≡ false
-leb-no m n h = go (leb m n) refl
-  where
-    go : (x : Bool) → leb m n ≡ x → x ≡ false
-    go true e = let p = leb→le m n (true→T (leb m n) e) in absurd (omega arith)
-    go false e = refl
-
-pub leb-yes : (m n : ℕ) → m ≤ n → leb m n ≡ true
-leb-yes m n h = T→true (leb m n) (le→leb m n h)
-
-pub no-leb : (m n : ℕ) → leb m n ≡ false → n < m
-no-leb m n e = go (decLt n m)
-  where
-    go : Dec (n < m) → n < m
-    go (yes h) = h
-    go (no h) = absurd (true→T false (sym e ∙ leb-yes m n (omega arith)))
-
 eqb-no : (b c : ℕ) → b < c → eqb b c ≡ false
 eqb-no b c h = go (eqb b c) refl
   where
@@ -87,7 +72,7 @@ low-quiet b h = (
   (eqb-no b backslash (omega arith), rw (eqb-no b quote (omega arith), eqb-no b dquote (omega arith))),
   (
     eqb-no b backslash (omega arith),
-    rw (leb-no 65 b (omega arith), leb-no 97 b (omega arith), leb-no 48 b (omega arith), eqb-no b 95 (omega arith)) refl,
+    rw (lt-leb 65 b (omega arith), lt-leb 97 b (omega arith), lt-leb 48 b (omega arith), eqb-no b 95 (omega arith)) refl,
     eqb-no b (code "&") (omega arith),
   ),
 )
@@ -101,23 +86,19 @@ low-space b h s = go (decLt 32 b)
     go (yes g) =
         absurd (true→T false (sym
         (rw (
-          leb-no b 13 (omega arith),
+          lt-leb b 13 (omega arith),
           and-false (leb 9 b),
-          leb-no b 32 (omega arith),
+          lt-leb b 32 (omega arith),
           and-false (leb 32 b),
-          leb-no 0x85 b (omega arith),
-          leb-no 0xA0 b (omega arith),
-          leb-no 0x1680 b (omega arith),
-          leb-no 0x2000 b (omega arith),
-          leb-no 0x2028 b (omega arith),
-          leb-no 0x202F b (omega arith),
-          leb-no 0x205F b (omega arith),
-          leb-no 0x3000 b (omega arith),
+          lt-leb 0x85 b (omega arith),
+          lt-leb 0xA0 b (omega arith),
+          lt-leb 0x1680 b (omega arith),
+          lt-leb 0x2000 b (omega arith),
+          lt-leb 0x2028 b (omega arith),
+          lt-leb 0x202F b (omega arith),
+          lt-leb 0x205F b (omega arith),
+          lt-leb 0x3000 b (omega arith),
         ) at (sym s))))
-
-pub low-lead : (b : ℕ) → b < 0x80 → lead b ≡ due 0 0x80 0xBF
-unfolding lead within
-low-lead b h = rw (leb·zero b, leb-yes b 0x7F (omega arith))
 
 pub space-quiet : (b : ℕ) (t : List ℕ) (n : ℕ) → space (b ∷ t) ≡ suc n → Quiet b
 space-quiet b t n h = go (leb 0x80 b) refl
@@ -125,7 +106,7 @@ space-quiet b t n h = go (leb 0x80 b) refl
     go : (x : Bool) → leb 0x80 b ≡ x → Quiet b
     go true e = high-quiet b e
     go false e =
-        let l = no-leb 0x80 b e in
+        let l = leb-false 0x80 b e in
         let z : b - 0 ≡ b = omega arith in
         let k : (if isSpace b then 1 else 0) ≡ suc n = rw (low-lead b l, z) at h in
         low-quiet b (low-space b l (if-suc (isSpace b) 1 n k .0))

@@ -18,11 +18,11 @@ use Rattle.meaning.specs.Steps.{closingStep, doubled, standardStep, spaceStep, 
 use Rattle.meaning.specs.Cutting.{complete, cut, opening, named, hides, closedAt, segmentAt, segment, segmentStep, on}
 use Rattle.meaning.specs.Spelling.{legalEscape, isOne, upper, encloses, argument, argumentOf, chosen, isUnicode}
 use Rattle.meaning.specs.Reading.{meaning, means, read, written}
+use Rattle.laws.proofs.Tests.{T→true, true→T, eqb-sym, and-left, and-right, if-suc}
 use Rattle.laws.proofs.Walks.{stop-at, stops-inside}
-use Rattle.laws.proofs.Enclosed.{T→true, true→T, eqb-sym}
 use Rattle.laws.proofs.Parts.{is-quote}
 use Rattle.laws.proofs.Gaps.{Solid, has-all, no-space}
-use Rattle.laws.proofs.Openings.{and-left, and-right, if-suc, apart-of-mark}
+use Rattle.laws.proofs.Openings.{apart-of-mark}
 use Rattle.laws.proofs.ClauseStops.{Ok, Last, never}
 use Rattle.laws.proofs.ClauseFacts.{Calm, Quiet, AllQ, high-quiet, gap-quiet, last-take, last-append}
 use Rattle.laws.proofs.UnicodeOn.{ClauseRefused, lone-mark, joining-on}

@@ -15,10 +15,10 @@ use Rattle.meaning.specs.Chars.{Due, due, broken, lead, gather, base, isSpace, 
 use Rattle.meaning.specs.Walk.{Step, keep, give, stop, Trace, ended, stopped, kept, gave, after, walk, size, stops}
 use Rattle.meaning.specs.Steps.{closingStep, doubled, spaceStep, spaceBy, gap, trim}
 use Rattle.meaning.specs.Cutting.{opening, named, hides, segment, segmentStep, segmentBy, on}
+use Rattle.laws.proofs.Tests.{T→true, true→T, if-suc, and-left, and-right}
 use Rattle.laws.proofs.Walks.{walk-append, walk-drop, walk-extend, graft, size-graft, stops-graft, stops-inside}
-use Rattle.laws.proofs.Enclosed.{T→true, true→T}
 use Rattle.laws.proofs.Gaps.{below-due, lead-low, Solid, has-all, no-space}
-use Rattle.laws.proofs.Openings.{if-suc, and-left, and-right, opening-mark, apart-of-mark, mark-0, segment-of, closing-local-all}
+use Rattle.laws.proofs.Openings.{opening-mark, apart-of-mark, mark-0, segment-of, closing-local-all}
 use Rattle.laws.proofs.Written.{closing-local}
 
 -- a byte that no name, no U& and no backslash ends in

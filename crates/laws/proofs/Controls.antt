@@ -77,7 +77,7 @@ module _ (p : Program) (right : Right p) where
   unfolding ask
   no-constant c h =
       let e : Written 2 ≡ Refused (NoRoom 2) =
-            sym answers ∙ h (all-of-it two) two off (1 ∷ 2 ∷ 3 ∷ []) ∙ sym (h (all-of-it two) two off []) ∙ right (all-of-it two) two off [] .answer ∙ ask-short in
+      sym answers ∙ h (all-of-it two) two off (1 ∷ 2 ∷ 3 ∷ []) ∙ sym (h (all-of-it two) two off []) ∙ right (all-of-it two) two off [] .answer ∙ ask-short in
       let z : _≡_ {A = ℕ} 0 1 = cc in omega arith
 
   -- "one that writes nothing and reports a length"

@@ -9,25 +9,7 @@ use lib.ListN.{length, getD, take, drop, length-append}
 use lib.Seq.{getD-append-seam, take-append-seam}
 use Rattle.meaning.specs.Bytes.{if_then_else_, _!_, has, part}
 use Rattle.meaning.specs.Spelling.{encloses}
-
-pub T→true : (b : Bool) → T b → b ≡ true
-T→true true t = refl
-T→true false t = absurd t
-
-pub true→T : (b : Bool) → b ≡ true → T b
-true→T b e = subst T (sym e) tt
-
-pub eqb-same : (n : ℕ) → eqb n n ≡ true
-eqb-same n = T→true (eqb n n) (eqb-refl n)
-
-pub eqb-sym : (m n : ℕ) → eqb m n ≡ eqb n m
-eqb-sym m n = go (eqb m n) (eqb n m) refl refl
-  where
-    go : (x y : Bool) → eqb m n ≡ x → eqb n m ≡ y → x ≡ y
-    go true true p q = refl
-    go false false p q = refl
-    go true false p q = sym (eqb-same m) ∙ ap (λ (k : ℕ). eqb k m) (eqb→eq m n (true→T (eqb m n) p)) ∙ q
-    go false true p q = sym p ∙ ap (λ (k : ℕ). eqb m k) (eqb→eq n m (true→T (eqb n m) q)) ∙ eqb-same m
+use Rattle.laws.proofs.Tests.{T→true, true→T, eqb-same, eqb-sym}
 
 pub has-append : (b : ℕ) (u t : List ℕ) → has b (u ++ t) ≡ has b u || has b t
 has-append b [] t = refl

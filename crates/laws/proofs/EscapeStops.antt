@@ -11,8 +11,7 @@ use Rattle.meaning.specs.Bytes.{if_then_else_, _!_, quote, backslash, within, d
 use Rattle.meaning.specs.Chars.{Due, due, broken, push, pushes, encode}
 use Rattle.meaning.specs.Walk.{Step, keep, give, stop, Trace, ended, stopped, kept, gave, after, walk, size, stops}
 use Rattle.meaning.specs.Steps.{mayEscape, closingStep, doubled, escapeStep, escaped, escapeTable, byteOf, oneByte, scalarBy, checked, unlessBroken}
-use Rattle.laws.proofs.Enclosed.{T→true, true→T}
-use Rattle.laws.proofs.Openings.{and-left}
+use Rattle.laws.proofs.Tests.{T→true, true→T, and-left}
 
 abbrev pub Tame : ℕ → Type 0
 Tame b = (eqb b backslash ≡ false) × (eqb b quote ≡ false)

@@ -7,49 +7,30 @@ use Prim.Native.Char.{code}
 use native.Mathlib.Nat.{add-zero, zero-add}
 use native.Mathlib.Omega.{arith}
 use lib.Dec.{T, eqb, eqb→eq, eqb-refl, ltb, leb, le→leb, leb→le}
+use borrow.Author.Tests.{le-leb, leb-true, leb-false}
 use lib.ListN.{length, getD, take, drop, length-append}
 use Rattle.meaning.specs.Bytes.{if_then_else_, _!_, has, ascii, within, isMark, quote, dquote, inName, span}
-use Rattle.meaning.specs.Chars.{leads, leadIn, Due, due, broken, lead, gather, base, isSpace, space, spaceAt}
+use Rattle.meaning.specs.Chars.{Due, due, broken, lead, gather, base, isSpace, space, spaceAt}
 use Rattle.meaning.specs.Walk.{Step, keep, give, stop, Trace, ended, stopped, kept, gave, after, walk, size, stops}
 use Rattle.meaning.specs.Steps.{spaceStep, spaceBy, gap, trim}
 use Rattle.meaning.specs.Cutting.{opening, named}
+use Rattle.laws.proofs.Utf8.{Good, Ranged, lead-good}
+use Rattle.laws.proofs.Tests.{T→true, true→T, within-bounds, within-below}
 use Rattle.laws.proofs.Walks.{walk-append, LocalIn, Inside, Exact, exact-ends, graft, size-graft, Fits, FitsIn, fits-size}
-use Rattle.laws.proofs.Enclosed.{T→true, true→T}
 
 -- a later byte that is due is never below 80
-abbrev Rows : List (ℕ × ℕ × ℕ × ℕ × ℕ) → Type 0
-Rows [] = Unit {0}
-Rows (r ∷ rs) = (leb 0x80 (r .3) ≡ true) × Rows rs
-
-rows-low : (rs : List (ℕ × ℕ × ℕ × ℕ × ℕ)) → Rows rs → (b n lo hi : ℕ) → leadIn rs b ≡ due n lo hi → leb 0x80 lo ≡ true
-rows-low [] a b n lo hi e = let z : _≡_ {A = ℕ} 0 1 = cc in absurd (omega arith)
-rows-low (r ∷ rs) a b n lo hi e = go (within (r .0) (r .1) b) e (rows-low rs (a .1) b n lo hi)
-  where
-    go : (x : Bool) → (if x then due (r .2) (r .3) (r .4) else leadIn rs b) ≡ due n lo hi → (leadIn rs b ≡ due n lo hi → leb 0x80 lo ≡ true) → leb 0x80 lo ≡ true
-    go true e ih = let l : r .3 ≡ lo = cc in subst (λ (m : ℕ). leb 0x80 m ≡ true) l (a .0)
-    go false e ih = ih e
-
 pub lead-low : (b n lo hi : ℕ) → lead b ≡ due n lo hi → leb 0x80 lo ≡ true
-unfolding lead
-lead-low b n lo hi e = rows-low leads (refl, (refl, (refl, (refl, (refl, (refl, (refl, (refl, (refl, tt))))))))) b n lo hi e
+lead-low b n lo hi e = go n (subst Good e (lead-good b))
+  where
+    go : (n : ℕ) → Ranged n lo hi → leb 0x80 lo ≡ true
+    go zero r = le-leb 0x80 lo (omega arith)
+    go (suc n) r = le-leb 0x80 lo (omega arith)
 
 pub due-high : (lo hi b : ℕ) → leb 0x80 lo ≡ true → within lo hi b ≡ true → leb 0x80 b ≡ true
-unfolding within
-due-high lo hi b l e =
-    let h = leb→le 0x80 lo (true→T (leb 0x80 lo) l) in
-    let k = leb→le lo b (true→T (leb lo b) (and-left (leb lo b) (leb b hi) e)) in
-    T→true (leb 0x80 b) (le→leb 0x80 b (omega arith))
-  where
-    and-left : (x y : Bool) → (x && y) ≡ true → x ≡ true
-    and-left true y e = refl
-    and-left false y e = e
+due-high lo hi b l e = let k = within-bounds lo hi b e in let h = leb-true 0x80 lo l in le-leb 0x80 b (omega arith)
 
 pub below-due : (lo hi b : ℕ) → leb 0x80 lo ≡ true → leb 0x80 b ≡ false → within lo hi b ≡ false
-below-due lo hi b l e = go (within lo hi b) refl
-  where
-    go : (x : Bool) → within lo hi b ≡ x → x ≡ false
-    go true h = sym (due-high lo hi b l h) ∙ e
-    go false h = refl
+below-due lo hi b l e = let h = leb-true 0x80 lo l in let k = leb-false 0x80 b e in within-below lo hi b (omega arith)
 
 pub no-space : isSpace 0 ≡ false
 unfolding isSpace within

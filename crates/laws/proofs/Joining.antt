@@ -17,10 +17,10 @@ use Rattle.meaning.specs.Walk.{Step, keep, give, stop, Trace, ended, stopped, k
 use Rattle.meaning.specs.Steps.{spaceStep, spaceBy, gap, trim}
 use Rattle.meaning.specs.Cutting.{continues, segment, segmentBy, segmentStep, cut, complete, covers, opening}
 use Rattle.meaning.specs.Reading.{meaning, Answer, borrowed, written, refused, Value, means, fails, valueOf, onward, both, joined, asWritten, one, read}
+use Rattle.laws.proofs.Tests.{T→true, true→T, and-left, and-right}
 use Rattle.laws.proofs.Walks.{walk-drop, walk-skip, walk-part, Exact, exact-append, stops-inside}
-use Rattle.laws.proofs.Enclosed.{T→true, true→T}
 use Rattle.laws.proofs.Gaps.{Solid, mark-solid, space-local, gap-fits, gap-append}
-use Rattle.laws.proofs.Openings.{opening-solid, segment-of, segment-fits, segment-extend, apart-of-mark, mark-0, and-left, and-right}
+use Rattle.laws.proofs.Openings.{opening-solid, segment-of, segment-fits, segment-extend, apart-of-mark, mark-0}
 
 -- white space: whole white-space characters, and nothing else
 abbrev pub White : List ℕ → Type 0

@@ -17,7 +17,7 @@ use Rattle.meaning.specs.Cutting.{complete}
 use Rattle.meaning.specs.Reading.{means, written, read, meaning}
 use Rattle.meaning.specs.Answers.{Outcome, filled}
 use Rattle.meaning.specs.Questions.{isString, stringQuestion, toldAs}
-use Rattle.laws.proofs.Enclosed.{T→true}
+use Rattle.laws.proofs.Tests.{T→true}
 use Rattle.laws.proofs.Utf8.{utf8-join}
 use Rattle.laws.proofs.Asked.{Spans, stringQuestion-reads}
 use Rattle.laws.proofs.Joining.{White}

@@ -1,4 +1,6 @@
 -- Theorems over the definitions of `meaning`, callees first.
+pub mod Tests
+pub mod Utf8
 pub mod Walks
 pub mod Enclosed
 pub mod Gaps
@@ -15,7 +17,7 @@ pub mod UnicodeOn
 pub mod ClauseStops
 pub mod ClauseFacts
 pub mod ClauseRefused
-pub mod Utf8
+pub mod Asked
 pub mod JoiningLaw
 pub mod SegmentsRule
 pub mod Chain
@@ -23,7 +25,6 @@ pub mod Written
 pub mod WrittenUtf8
 pub mod Parts
 pub mod Determined
-pub mod Asked
 pub mod Sources
 pub mod Buffers
 pub mod Controls

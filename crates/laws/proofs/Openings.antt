@@ -14,21 +14,10 @@ use Rattle.meaning.specs.Bytes.{if_then_else_, _!_, has, ascii, within, isMark,
 use Rattle.meaning.specs.Walk.{Step, keep, give, stop, Trace, ended, stopped, kept, gave, after, walk, size, stops}
 use Rattle.meaning.specs.Steps.{closingStep, doubled}
 use Rattle.meaning.specs.Cutting.{opening, named, hides, closedAt, segmentAt, segment}
+use Rattle.laws.proofs.Tests.{T→true, true→T, if-suc, and-left, and-right}
 use Rattle.laws.proofs.Walks.{Local, walk-extend, stops-inside}
-use Rattle.laws.proofs.Enclosed.{T→true, true→T, has-append}
+use Rattle.laws.proofs.Enclosed.{has-append}
 use Rattle.laws.proofs.Gaps.{Solid, mark-solid, prefix-solid}
-
-pub if-suc : (x : Bool) (m n : ℕ) → (if x then m else 0) ≡ suc n → (x ≡ true) × (m ≡ suc n)
-if-suc true m n e = (refl, e)
-if-suc false m n e = absurd (omega arith)
-
-pub and-left : (x y : Bool) → (x && y) ≡ true → x ≡ true
-and-left true y e = refl
-and-left false y e = e
-
-pub and-right : (x y : Bool) → (x && y) ≡ true → y ≡ true
-and-right true y e = e
-and-right false y e = absurd (subst T (sym e) tt)
 
 -- a byte other than 0 lies inside the text
 pub inside : (f : ℕ → Bool) → f 0 ≡ false → (t : List ℕ) (i : ℕ) → f (t ! i) ≡ true → i < length t

@@ -16,9 +16,9 @@ use Rattle.meaning.specs.Steps.{gap, trim}
 use Rattle.meaning.specs.Cutting.{continues, opening, segment, segmentStep, segmentBy, cut, complete, covers, off}
 use Rattle.meaning.specs.Spelling.{isUnicode, unicodeSpelling}
 use Rattle.meaning.specs.Reading.{meaning, Answer, written, Value, means, fails, valueOf, one, read, read-as}
+use Rattle.laws.proofs.Tests.{T→true, true→T, and-left, and-right}
 use Rattle.laws.proofs.Walks.{walk-drop}
-use Rattle.laws.proofs.Enclosed.{T→true, true→T}
-use Rattle.laws.proofs.Openings.{and-left, and-right, segment-of, segment-fits}
+use Rattle.laws.proofs.Openings.{segment-of, segment-fits}
 use Rattle.laws.proofs.WholeRefused.{refused-whole}
 use Rattle.laws.proofs.UnicodeOff.{unicode-off}
 use Rattle.laws.proofs.Joining.{White, Ready, fails≢means, join}

@@ -14,9 +14,9 @@ use Rattle.meaning.specs.Steps.{closingStep, gap, trim}
 use Rattle.meaning.specs.Cutting.{opening, named, hides, segment, off}
 use Rattle.meaning.specs.Spelling.{Spelling, unicode, unspelt, isUnicode, unicodeSpelling, closedUnicode, unicodeBy, chosen, argument, upper}
 use Rattle.meaning.specs.Reading.{Answer, refused, Value, means, fails, valueOf, answer, read-as}
-use Rattle.laws.proofs.Enclosed.{T→true, true→T}
+use Rattle.laws.proofs.Tests.{T→true, true→T, if-suc, and-left, and-right}
 use Rattle.laws.proofs.Gaps.{AllP, has-all}
-use Rattle.laws.proofs.Openings.{if-suc, and-left, and-right, segment-of}
+use Rattle.laws.proofs.Openings.{segment-of}
 use Rattle.laws.proofs.Joining.{fails≢means}
 
 -- what opens a segment and is no mark is no UESCAPE

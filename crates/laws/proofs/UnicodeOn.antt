@@ -13,8 +13,8 @@ use Rattle.meaning.specs.Steps.{closingStep, doubled, unicodeStep, gap, trim}
 use Rattle.meaning.specs.Cutting.{complete, opening, segment, cut, on}
 use Rattle.meaning.specs.Spelling.{Spelling, unicode, unspelt, isUnicode, unicodeSpelling, closedUnicode, unicodeBy, chosen, argument, upper}
 use Rattle.meaning.specs.Reading.{read, written, meaning, Answer, refused, Value, means, fails, valueOf, answer, read-as}
+use Rattle.laws.proofs.Tests.{T→true, true→T}
 use Rattle.laws.proofs.Walks.{walk-append, graft, size-graft, exact-ends, stop-at, stops-inside}
-use Rattle.laws.proofs.Enclosed.{T→true, true→T}
 use Rattle.laws.proofs.Written.{closing-local}
 use Rattle.laws.proofs.BodyStops.{stops-fails}
 use Rattle.laws.proofs.UnicodePassed.{passes}

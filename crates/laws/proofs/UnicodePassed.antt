@@ -12,8 +12,7 @@ use Rattle.meaning.specs.Bytes.{if_then_else_, _!_, quote, backslash, within, d
 use Rattle.meaning.specs.Chars.{encode}
 use Rattle.meaning.specs.Walk.{Step, keep, give, stop, Trace, ended, stopped, kept, gave, after, walk, size, stops}
 use Rattle.meaning.specs.Steps.{mayEscape, closingStep, doubled, scalarBy, uescaped, lowHalf, pair, unicodeStep}
-use Rattle.laws.proofs.Enclosed.{T→true, true→T, eqb-sym}
-use Rattle.laws.proofs.Openings.{and-left, and-right}
+use Rattle.laws.proofs.Tests.{T→true, true→T, eqb-sym, and-left, and-right}
 use Rattle.laws.proofs.EscapeStops.{Tame, Ahead, digits-tame}
 
 abbrev pub Pass : ℕ → ℕ → List ℕ → Type 0

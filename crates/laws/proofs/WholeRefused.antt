@@ -17,9 +17,9 @@ use Rattle.meaning.specs.Steps.{closingStep, standardStep, escapeStep, checked,
 use Rattle.meaning.specs.Cutting.{opening, named, hides, segment}
 use Rattle.meaning.specs.Spelling.{Spelling, standard, escape, unicode, dollar, unspelt, spelling, encloses, isUnicode, unicodeSpelling, closedUnicode, unicodeBy, chosen, argument, upper, delimiter, dollarBy, tagLength}
 use Rattle.meaning.specs.Reading.{Answer, borrowed, written, refused, Value, means, fails, valueOf, answer, one, read-as}
-use Rattle.laws.proofs.Enclosed.{T→true, true→T}
+use Rattle.laws.proofs.Tests.{T→true, true→T, if-suc, and-left, and-right}
 use Rattle.laws.proofs.Gaps.{AllP, has-all}
-use Rattle.laws.proofs.Openings.{if-suc, and-left, and-right, opening-mark, apart-of-mark, mark-0, segment-of, segment-fits}
+use Rattle.laws.proofs.Openings.{opening-mark, apart-of-mark, mark-0, segment-of, segment-fits}
 use Rattle.laws.proofs.BodyStops.{standard-stops, stops-fails, body-stops}
 use Rattle.laws.proofs.EscapeStops.{escape-stops, checked-stops}
 use Rattle.laws.proofs.Joining.{fails≢means}

@@ -16,7 +16,8 @@ use Rattle.meaning.specs.Cutting.{segment, continues}
 use Rattle.meaning.specs.Spelling.{spelling, standard, encloses}
 use Rattle.meaning.specs.Reading.{Answer, borrowed, written, refused, Value, means, fails, valueOf, answer, one, read, read-as}
 use Rattle.meaning.specs.Writer.{spell, spells, literal}
-use Rattle.laws.proofs.Enclosed.{T→true, true→T, eqb-same, eqb-sym, has-append, encloses-body, part-body}
+use Rattle.laws.proofs.Tests.{T→true, true→T, eqb-same, eqb-sym}
+use Rattle.laws.proofs.Enclosed.{has-append, encloses-body, part-body}
 use Rattle.laws.proofs.Walks.{walk-keep, walk-give, walk-stop, walk-plain, walk-append, LocalIn, Inside, Exact, exact-append, exact-ends, graft, size-graft, stops-graft}
 
 -- READING. The body means the value, and nothing stops

@@ -8,43 +8,10 @@ use lib.Dec.{T, eqb, eqb→eq, leb, leb→le}
 use Rattle.meaning.specs.Bytes.{if_then_else_, within, quote, backslash}
 use Rattle.meaning.specs.Chars.{Due, due, broken, fresh, push, pushes, whole, utf8, lead, leadIn, leads}
 use Rattle.meaning.specs.Writer.{spell, spells, literal}
-use Rattle.laws.proofs.Enclosed.{true→T}
-use Rattle.laws.proofs.Utf8.{pushes-append, utf8-append}
-use Rattle.laws.proofs.ClauseFacts.{leb-no, low-lead}
-
--- a later byte is never below 80
-abbrev pub Good : Due → Type 0
-Good broken = Unit {0}
-Good (due n lo hi) = leb 0x80 lo ≡ true
-
-abbrev Rows : List (ℕ × ℕ × ℕ × ℕ × ℕ) → Type 0
-Rows [] = Unit {0}
-Rows (r ∷ rs) = (leb 0x80 (r .3) ≡ true) × Rows rs
-
-rows-good : (rs : List (ℕ × ℕ × ℕ × ℕ × ℕ)) → Rows rs → (b : ℕ) → Good (leadIn rs b)
-rows-good [] a b = tt
-rows-good (r ∷ rs) a b = go (within (r .0) (r .1) b) (rows-good rs (a .1) b)
-  where
-    go : (x : Bool) → Good (leadIn rs b) → Good (if x then due (r .2) (r .3) (r .4) else leadIn rs b)
-    go true g = a .0
-    go false g = g
-
-pub push-good : (d : Due) (b : ℕ) → Good d → Good (push d b)
-unfolding lead
-push-good broken b g = tt
-push-good (due zero lo hi) b g = rows-good leads (refl, (refl, (refl, (refl, (refl, (refl, (refl, (refl, (refl, tt))))))))) b
-push-good (due (suc n) lo hi) b g = go (within lo hi b)
-  where
-    go : (x : Bool) → Good (if x then due n 0x80 0xBF else broken)
-    go true = refl
-    go false = tt
-
--- an ASCII byte ends a character, or breaks one
-pub ascii-push : (d : Due) (a : ℕ) → Good d → a < 0x80 → push d a ≡ (if whole d then fresh else broken)
-unfolding within
-ascii-push broken a g h = refl
-ascii-push (due zero lo hi) a g h = low-lead a h
-ascii-push (due (suc n) lo hi) a g h = let l = leb→le 0x80 lo (true→T (leb 0x80 lo) g) in rw (leb-no lo a (omega arith))
+use Rattle.laws.proofs.Tests.{true→T}
+use Rattle.laws.proofs.Utf8.{pushes-append, utf8-append, Good, push-good, ascii-push, fresh-good}
+use borrow.Author.Tests.{lt-leb}
+use Rattle.laws.proofs.Utf8.{low-lead, Good, push-good, ascii-push, fresh-good}
 
 pair-push : (d : Due) (a c b : ℕ) → Good d → a < 0x80 → c < 0x80 → b < 0x80 → push (push d a) c ≡ push d b
 pair-push d a c b g ha hc hb =
@@ -87,4 +54,4 @@ literal-utf8 bs v h = utf8-append (quote ∷ []) (spells bs v ++ (quote ∷ []))
     whole′ = whole
 
     spells-push′ : (bs : Bool) (v : List ℕ) → pushes fresh (spells bs v) ≡ pushes fresh v
-    spells-push′ bs v = spells-push bs fresh v refl
+    spells-push′ bs v = spells-push bs fresh v fresh-good
