@@ -3,6 +3,8 @@ pub mod Tests
 pub mod Utf8
 pub mod Encode
 pub mod Sequences
+pub mod Digits
+pub mod Halves
 pub mod Walks
 pub mod Courses
 pub mod Enclosed
