@@ -24,8 +24,7 @@ pub mod ClauseFacts
 pub mod ClauseRefused
 pub mod Asked
 pub mod JoiningLaw
-pub mod SegmentsRule
-pub mod Chain
+pub mod Segments
 pub mod Written
 pub mod WrittenUtf8
 pub mod Parts
