@@ -1,34 +1,37 @@
--- Document 01's rule for joined text, "the text is accepted exactly when each segment is accepted alone": for every text that
--- continues, by its cut; for given segments with white space between each two, whose cut is exactly these; and as a string question
--- answers, with room. The value is the segments' values, one after the other. Assumes nothing.
+-- Document 01's rule, "the text is accepted exactly when each segment is accepted alone": for every text that continues, by its cut
+-- (`cut-means`); for given segments with white space between each two, of which the cut is exactly these (`segments-cut`,
+-- `segments-means`, `segments-accepted`); and over the string question, with UTF-8 and room (`segments-written`, `segments-question`).
+-- The value is the segments' values, one after the other. Assumes nothing.
 use mathlib.Core.Logic.{_↔_, inl}
 use mathlib.Core.Path.{_≡_, refl, ap, sym, _∙_, subst}
-use mathlib.Core.Bool.{Bool, true, false}
+use mathlib.Core.Bool.{Bool, true, false, false≢true}
 use mathlib.Core.List.{List, [], _∷_, _++_, map, flatten}
 use Prim.Native.Nat.{ℕ, zero, suc, pred, _+_, _≤_, _<_}
 use native.Mathlib.Nat.{add-zero}
 use native.Mathlib.Omega.{arith}
-use borrow.Author.Tests.{leb-true, le-leb}
-use lib.Dec.{T, leb}
+use borrow.Author.Tests.{leb-true}
+use lib.Dec.{leb}
 use lib.ListN.{length, drop}
 use lib.Seq.{length-take-le, take-append-seam, drop-append-seam, drop-append-add}
 use Rattle.meaning.specs.declared.Settings.{Settings}
 use Rattle.meaning.specs.declared.Literal.{Literal}
 use Rattle.meaning.specs.declared.Refusal.the-variants.{NotUtf8, InvalidString, NoRoom}
-use Rattle.meaning.specs.declared.Text.the-variants as Text′
-use Rattle.meaning.specs.Answers.{textNumber, filled}
-use Rattle.meaning.specs.Bytes.{if_then_else_, _!_, part, isMark}
+use Rattle.meaning.specs.declared.Text.the-variants.{Written, Refused}
+use Rattle.meaning.specs.Answers.{textNumber}
+use Rattle.meaning.specs.Bytes.{if_then_else_, _!_, within, isMark}
 use Rattle.meaning.specs.Chars.{utf8}
 use Rattle.meaning.specs.Cutting.{continues, segment, segmentStep, cut}
-use Rattle.meaning.specs.Questions.{badSpan, sourceText, tested, passes, barred, isString, toldAs, told, stringQuestion}
+use Rattle.meaning.specs.Questions.{sourceText, tested, isString, toldAs, stringQuestion}
 use Rattle.meaning.specs.Reading.{written, Value, means, fails, valueOf, each, alone, joined, asWritten, read, meaning}
 use Rattle.meaning.specs.Steps.{gap, trim}
 use Rattle.meaning.specs.Walk.{Trace, ended, stopped, kept, gave, walk}
 use Rattle.laws.proofs.Alone.{segment-alone}
+use Rattle.laws.proofs.Asked.{Spans, stringQuestion-reads}
 use Rattle.laws.proofs.Gaps.{gap-append}
 use Rattle.laws.proofs.Joining.{white-head, segment-solid, value-written, lone-read, goes-on, both-means, fails≢means}
-use Rattle.laws.proofs.JoiningLaw.{Gap}
+use Rattle.laws.proofs.JoiningLaw.{Gap, told-written}
 use Rattle.laws.proofs.Openings.{segment-fits, segment-extend, mark-0}
+use Rattle.laws.proofs.Sequences.{utf8-begins, utf8-split}
 use Rattle.laws.proofs.Utf8.{utf8-append}
 use Rattle.laws.proofs.Walks.{walk-drop}
 
@@ -50,6 +53,11 @@ Values f [] [] = Unit {0}
 Values f [] (v ∷ vs) = ⊥
 Values f (s ∷ ss) [] = ⊥
 Values f (s ∷ ss) (v ∷ vs) = (f s ≡ means v) × Values f ss vs
+
+-- each segment is accepted alone, UTF-8 included, and there is room for all their values together
+abbrev pub AllAccepted : Settings → List (List ℕ) → ℕ → Type 0
+AllAccepted σ ss room =
+    Each (λ t. utf8 t ≡ true) ss × (vs : List (List ℕ)) × Values (meaning σ) ss vs × (length (flatten vs) ≤ room)
 
 -- A CUT: its segments, and whether they cover the text
 abbrev pub segmentsOf : Trace → List (List ℕ)
@@ -80,8 +88,8 @@ values-each : (f : List ℕ → Value) (r : Trace) (vs : List (List ℕ)) → co
 unfolding flatten
 values-each f ended [] c h = refl
 values-each f ended (v ∷ vs) c h = absurd h
-values-each f stopped vs c h = absurd (subst T (sym c) tt)
-values-each f (kept b r) vs c h = absurd (subst T (sym c) tt)
+values-each f stopped vs c h = absurd (false≢true c)
+values-each f (kept b r) vs c h = absurd (false≢true c)
 values-each f (gave n s r) [] c h = absurd h
 values-each f (gave n s r) (v ∷ vs) c h = rw (h .0, values-each f r vs c (h .1))
 
@@ -201,7 +209,7 @@ module _ (σ : Settings) where
   mark-follows : (s g t r : List ℕ) → Whole σ s → Gap g → isMark (t ! 0) ≡ true → continues σ (s ++ (g ++ (t ++ r))) ≡ true
   mark-follows [] g t r w v m = absurd (omega arith)
   mark-follows (b ∷ s) [] t r w v m = absurd (omega arith)
-  mark-follows (b ∷ s) (c ∷ g) [] r w v m = absurd (subst T (sym m ∙ mark-0) tt)
+  mark-follows (b ∷ s) (c ∷ g) [] r w v m = absurd (false≢true (sym mark-0 ∙ m))
   mark-follows (b ∷ s) (c ∷ g) (q ∷ t) r w v m = goes-on σ c g (v .white) q (t ++ r) m b s (inl (w .all))
 
 accepted-of : (σ : Settings) (ss vs : List (List ℕ)) → Values (meaning σ) ss vs → Each (Accepted σ) ss
@@ -213,28 +221,36 @@ values-of : (σ : Settings) (ss : List (List ℕ)) → Each (Accepted σ) ss →
 values-of σ [] a = ([], tt)
 values-of σ (s ∷ ss) a = let r = values-of σ ss (a .1) in (a .0 .0 ∷ r .0, (a .0 .1, r .1))
 
--- UTF-8 goes from the pieces to the text
-behind-utf8 : (σ : Settings) (ps : List (Further σ)) → Each (λ t. utf8 t ≡ true) (map (λ p. p .text) ps) → utf8 (behind ps) ≡ true
-unfolding utf8
-behind-utf8 σ [] h = refl
-behind-utf8 σ (p ∷ ps) h =
-    utf8-append (p .gap) (p .text ++ behind ps) (p .white .valid) ∙ utf8-append (p .text) (behind ps) (h .0) ∙ behind-utf8 σ ps (h .1)
+-- the text is UTF-8 exactly when the segments are
+module _ (σ : Settings) where
+  no-later : (ps : List (Further σ)) → within 0x80 0xBF (behind ps ! 0) ≡ false
+  unfolding within
+  no-later [] = refl
+  no-later (p ∷ ps) = at (p .gap) (p .white)
+    where
+      at : (g : List ℕ) → Gap g → within 0x80 0xBF ((g ++ (p .text ++ behind ps)) ! 0) ≡ false
+      at [] w = absurd (omega arith)
+      at (b ∷ g) w = utf8-begins (b ∷ g) (w .valid)
 
-pub segments-utf8 : (σ : Settings) (s : List ℕ) (ps : List (Further σ)) → Each (λ t. utf8 t ≡ true) (segments s ps)
-    → utf8 (strung s ps) ≡ true
-segments-utf8 σ s ps h = utf8-append s (behind ps) (h .0) ∙ behind-utf8 σ ps (h .1)
+  utf8-from : (s : List ℕ) (ps : List (Further σ)) → Each (λ t. utf8 t ≡ true) (segments s ps) → utf8 (strung s ps) ≡ true
+  unfolding utf8
+  utf8-from s [] h = utf8-append s [] (h .0)
+  utf8-from s (p ∷ ps) h =
+      utf8-append s (behind (p ∷ ps)) (h .0) ∙ utf8-append (p .gap) (strung (p .text) ps) (p .white .valid) ∙ utf8-from (p .text) ps (h .1)
 
--- A STRING QUESTION about a text: the tests 1 to 3 are passed
-pub record Asked (l : Literal) (source t : List ℕ) : Type 0 where
-  pub kind : isString (l .kind) ≡ true
-  pub real : l .synthetic ≡ false
-  pub inside : badSpan (l .span) source ≡ false
-  pub text : part (l .span .start) (l .span .end) source ≡ t
+  utf8-to : (s : List ℕ) (ps : List (Further σ)) → utf8 (strung s ps) ≡ true → Each (λ t. utf8 t ≡ true) (segments s ps)
+  utf8-to s [] h = (utf8-split s [] (no-later []) h .0, tt)
+  utf8-to s (p ∷ ps) h =
+      let r = utf8-split s (behind (p ∷ ps)) (no-later (p ∷ ps)) h in
+      (r .0, utf8-to (p .text) ps (sym (utf8-append (p .gap) (strung (p .text) ps) (p .white .valid)) ∙ r .1))
 
-asked : (l : Literal) (source t : List ℕ) (σ : Settings) (out : List ℕ) → Asked l source t → (x : Bool) → utf8 t ≡ x
-    → stringQuestion l source σ out ≡ told (read σ) InvalidString l out (if x then passes t else barred (NotUtf8 (l .span)))
+  pub segments-utf8 : (s : List ℕ) (ps : List (Further σ)) → (utf8 (strung s ps) ≡ true) ↔ Each (λ t. utf8 t ≡ true) (segments s ps)
+  segments-utf8 s ps = (utf8-to s ps, utf8-from s ps)
+
+not-utf8 : (l : Literal) (S t : List ℕ) (σ : Settings) (out : List ℕ) → isString (l .kind) ≡ true → Spans l S t → utf8 t ≡ false
+    → stringQuestion l S σ out .answer ≡ Refused (NotUtf8 (l .span))
 unfolding stringQuestion tested sourceText
-asked l source t σ out a x e = rw (a .kind, a .real, a .inside, a .text, e)
+not-utf8 l S t σ out k h u = rw (k, h .real, h .fits, h .text, u)
 
 -- THE RULE of two or more segments, the second beginning with a quote mark
 module _ (σ : Settings) (s : List ℕ) (p : Further σ) (ps : List (Further σ)) (first : Whole σ s) (mark : isMark (p .text ! 0) ≡ true) where
@@ -266,44 +282,37 @@ module _ (σ : Settings) (s : List ℕ) (p : Further σ) (ps : List (Further σ)
       continues-read σ t segments-continue
       ∙ ap asWritten (joined-means σ t (flatten vs) segments-continue (segments-means (flatten vs) .1 (vs, h, refl)))
 
-  module _ (l : Literal) (source out : List ℕ) (a : Asked l source (strung s (p ∷ ps))) where
-    pub segments-written : Each (λ t. utf8 t ≡ true) (segments s (p ∷ ps)) → (vs : List (List ℕ))
+  -- over the string question: UTF-8, and room for all the values together
+  module _ (l : Literal) (S out : List ℕ) (kind : isString (l .kind) ≡ true) (spans : Spans l S (strung s (p ∷ ps))) where
+    pub segments-written : (vs : List (List ℕ)) → Each (λ t. utf8 t ≡ true) (segments s (p ∷ ps))
         → Values (meaning σ) (segments s (p ∷ ps)) vs → length (flatten vs) ≤ length out
-        → stringQuestion l source σ out
-        ≡ record { answer = Text′.Written (length (flatten vs)); buffer = flatten vs ++ drop (length (flatten vs)) out }
-    unfolding filled
-    segments-written u vs h room =
-        asked l source (strung s (p ∷ ps)) σ out a true (segments-utf8 σ s (p ∷ ps) u)
-        ∙ rw (segments-read vs h, le-leb (length (flatten vs)) (length out) room)
+        → stringQuestion l S σ out
+        ≡ record { answer = Written (length (flatten vs)); buffer = flatten vs ++ drop (length (flatten vs)) out }
+    segments-written vs u h room =
+        told-written l S (strung s (p ∷ ps)) (flatten vs) σ out kind spans (segments-utf8 σ s (p ∷ ps) .1 u) (segments-read vs h) room
 
-    pub segments-answered : textNumber (stringQuestion l source σ out .answer) ≡ 0
-        → (vs : List (List ℕ)) × Values (meaning σ) (segments s (p ∷ ps)) vs × (length (flatten vs) ≤ length out)
-    segments-answered h = by-utf8 (utf8 text) refl
+    by-room : (v : List ℕ) (x : Bool) → leb (length v) (length out) ≡ x
+        → textNumber (if x then Written (length v) else Refused (NoRoom (length v))) ≡ 0 → length v ≤ length out
+    by-room v true e k = leb-true (length v) (length out) e
+    by-room v false e k = absurd (omega arith)
+
+    by-value : (x : Value) → utf8 (strung s (p ∷ ps)) ≡ true → read σ (strung s (p ∷ ps)) ≡ asWritten x
+        → textNumber (toldAs (InvalidString (l .span)) (l .span .start) out (asWritten x) .answer) ≡ 0
+        → AllAccepted σ (segments s (p ∷ ps)) (length out)
+    by-value (fails q) u e k = absurd (omega arith)
+    by-value (means v) u e k =
+        let m = segments-means v .0 (ap (valueOf (strung s (p ∷ ps))) e) in
+        (segments-utf8 σ s (p ∷ ps) .0 u, m .0, m .1, rw (m .2) (by-room v (leb (length v) (length out)) refl k))
+
+    pub segments-answered : textNumber (stringQuestion l S σ out .answer) ≡ 0 → AllAccepted σ (segments s (p ∷ ps)) (length out)
+    segments-answered h = by-utf8 (utf8 (strung s (p ∷ ps))) refl
       where
-        text : List ℕ
-        text = strung s (p ∷ ps)
+        by-utf8 : (x : Bool) → utf8 (strung s (p ∷ ps)) ≡ x → AllAccepted σ (segments s (p ∷ ps)) (length out)
+        by-utf8 false u = let k = rw (not-utf8 l S (strung s (p ∷ ps)) σ out kind spans u) at h in absurd (omega arith)
+        by-utf8 true u =
+            let e = continues-read σ (strung s (p ∷ ps)) segments-continue in
+            by-value (joined σ (cut σ (strung s (p ∷ ps)))) u e
+            (rw (stringQuestion-reads l S (strung s (p ∷ ps)) σ out kind spans u, e) at h)
 
-        by-room : (v : List ℕ) (x : Bool) → leb (length v) (length out) ≡ x
-            → textNumber (if x then Text′.Written (length v) else Text′.Refused (NoRoom (length v))) ≡ 0 → length v ≤ length out
-        by-room v true e k = leb-true (length v) (length out) e
-        by-room v false e k = absurd (omega arith)
-
-        by-value : (x : Value) → read σ text ≡ asWritten x
-            → textNumber (toldAs (InvalidString (l .span)) (l .span .start) out (asWritten x) .answer) ≡ 0
-            → (vs : List (List ℕ)) × Values (meaning σ) (segments s (p ∷ ps)) vs × (length (flatten vs) ≤ length out)
-        by-value (fails q) e k = absurd (omega arith)
-        by-value (means v) e k =
-            let m = segments-means v .0 (ap (valueOf text) e) in
-            (m .0, m .1, rw (m .2) (by-room v (leb (length v) (length out)) refl k))
-
-        by-utf8 : (x : Bool) → utf8 text ≡ x
-            → (vs : List (List ℕ)) × Values (meaning σ) (segments s (p ∷ ps)) vs × (length (flatten vs) ≤ length out)
-        by-utf8 false e = let k = rw (asked l source text σ out a false e) at h in absurd (omega arith)
-        by-utf8 true e =
-            by-value (joined σ (cut σ text)) (continues-read σ text segments-continue)
-            (rw (asked l source text σ out a true e, continues-read σ text segments-continue) at h)
-
-    pub segments-question : Each (λ t. utf8 t ≡ true) (segments s (p ∷ ps))
-        → (textNumber (stringQuestion l source σ out .answer) ≡ 0)
-        ↔ ((vs : List (List ℕ)) × Values (meaning σ) (segments s (p ∷ ps)) vs × (length (flatten vs) ≤ length out))
-    segments-question u = (segments-answered, λ r. rw (segments-written u (r .0) (r .1) (r .2)))
+    pub segments-question : (textNumber (stringQuestion l S σ out .answer) ≡ 0) ↔ AllAccepted σ (segments s (p ∷ ps)) (length out)
+    segments-question = (segments-answered, λ r. rw (segments-written (r .1) (r .0) (r .2) (r .3)))
