@@ -36,7 +36,7 @@ both-means (means v) (fails p) n a e = absurd (fails≢means (n + p) a e)
 both-means (means v) (means w) n a e = (v, w, refl, refl, cc)
 
 -- a segment begins with no white space
-segment-solid : (σ : Settings) (b : ℕ) (t : List ℕ) (e : ℕ) → segment σ (b ∷ t) ≡ suc e → Solid b
+pub segment-solid : (σ : Settings) (b : ℕ) (t : List ℕ) (e : ℕ) → segment σ (b ∷ t) ≡ suc e → Solid b
 segment-solid σ b t e h = let s = segment-of σ (b ∷ t) e h in opening-solid b t (s .0) (s .1)
 
 drop-inside : (n : ℕ) (t : List ℕ) → n < length t → (c : ℕ) × (x : List ℕ) × (drop n t ≡ c ∷ x)
@@ -167,7 +167,7 @@ module _ (σ : Settings) (g : ℕ) (G : List ℕ) (white : White (g ∷ G)) (q :
 abbrev pub Ready : Settings → List ℕ → Type 0
 Ready σ t = (segment σ t ≡ length t) ⊎ (continues σ t ≡ true)
 
-value-written : (t : List ℕ) (x : Value) → valueOf t (asWritten x) ≡ x
+pub value-written : (t : List ℕ) (x : Value) → valueOf t (asWritten x) ≡ x
 value-written t (means v) = refl
 value-written t (fails p) = refl
 

@@ -3,6 +3,8 @@ pub mod Tests
 pub mod Utf8
 pub mod Encode
 pub mod Sequences
+pub mod Digits
+pub mod Halves
 pub mod Walks
 pub mod Courses
 pub mod Enclosed
@@ -22,8 +24,7 @@ pub mod ClauseFacts
 pub mod ClauseRefused
 pub mod Asked
 pub mod JoiningLaw
-pub mod SegmentsRule
-pub mod Chain
+pub mod Segments
 pub mod Written
 pub mod WrittenUtf8
 pub mod Parts
