@@ -28,3 +28,4 @@ pub mod Determined
 pub mod Sources
 pub mod Buffers
 pub mod Controls
+pub mod WriterParts
