@@ -13,9 +13,10 @@ use Rattle.meaning.specs.declared.PartSize.{PartSize}
 use Rattle.meaning.specs.declared.PartSize.the-variants.{Whole, AtMost}
 use Rattle.meaning.specs.Bytes.{if_then_else_, _!_, has, within}
 use Rattle.meaning.specs.Chars.{Due, due, broken, fresh, push, pushes, whole, utf8, lead, leads, width, widthBy}
-use Rattle.meaning.specs.Writer.{onFirst, partsFrom, partsOf, partTooSmall, unwritableNul}
+use Rattle.meaning.specs.Writer.{onFirst, partsFrom, partsOf, partTooSmall, overLimit, unwritableNul, writtenText, writes, writeQuestion}
 use Rattle.laws.proofs.Tests.{within-yes, within-bounds}
 use Rattle.laws.proofs.Utf8.{pushes-broken, Rows, lead-row, Good, lead-good, push-good, fresh-good, later-lead}
+use Rattle.laws.proofs.Ranges.{or-left, or-right}
 use Rattle.laws.proofs.Enclosed.{has-append}
 use Rattle.laws.proofs.Written.{writable}
 
@@ -121,18 +122,25 @@ room-push (due (suc k) lo hi) b n t r l h = go (within lo hi b) (push-good (due 
     go true g h = let i = r .0 in ((omega arith, g), omega arith)
     go false g h = absurd (broken-never t h)
 
--- a byte of a width begins a character, and so the one before it has ended
-pub width-begins : (d : Due) (b : ℕ) (t : List ℕ) → Good d → 0 < width b → whole (pushes (push d b) t) ≡ true → (whole d ≡ true) × (push d b ≡ lead b)
-unfolding width
-width-begins broken b t g l h = absurd (broken-never t h)
-width-begins (due zero lo hi) b t g l h = (refl, refl)
-width-begins (due (suc k) lo hi) b t g l h = absurd (go (within lo hi b) refl h)
+-- where a byte other than 80 to BF stands, the character before it has ended
+pub ended-before : (d : Due) (b : ℕ) (t : List ℕ) → Good d → within 0x80 0xBF b ≡ false → whole (pushes (push d b) t) ≡ true
+    → (whole d ≡ true) × (push d b ≡ lead b)
+ended-before broken b t g l h = absurd (broken-never t h)
+ended-before (due zero lo hi) b t g l h = (refl, refl)
+ended-before (due (suc k) lo hi) b t g l h = absurd (go (within lo hi b) refl h)
   where
     go : (x : Bool) → within lo hi b ≡ x → whole (pushes (if x then due k 0x80 0xBF else broken) t) ≡ true → ⊥
-    go true w h =
-        let i = within-bounds lo hi b w in
-        let z : widthBy (lead b) ≡ 0 = rw (later-lead b (within-yes 0x80 0xBF b (omega arith) (omega arith))) in omega arith
+    go true w h = let i = within-bounds lo hi b w in false≢true (sym l ∙ within-yes 0x80 0xBF b (omega arith) (omega arith))
     go false w h = broken-never t h
+
+-- such is a byte that begins a character
+pub width-apart : (b : ℕ) → 0 < width b → within 0x80 0xBF b ≡ false
+unfolding width
+width-apart b h = go (within 0x80 0xBF b) refl
+  where
+    go : (x : Bool) → within 0x80 0xBF b ≡ x → x ≡ false
+    go true w = let z : widthBy (lead b) ≡ 0 = rw (later-lead b w) in absurd (omega arith)
+    go false w = refl
 
 pub record Fine (w : ℕ) (p : List ℕ) : Type 0 where
   pub valid : utf8 p ≡ true
@@ -156,7 +164,7 @@ fill-fine {n = n} (takes {b = b} {v = v} l f) h d r e =
     let i = fill-fine f h (push d b) (g .0) e in
     (record { valid = i .0 .valid; short = omega arith }, i .1)
 fill-fine {w = w} {n = n} (opens {b = b} {v = v} l f) h d r e =
-    let s = width-begins d b v (room-good d n r) (omega arith) e in
+    let s = ended-before d b v (room-good d n r) (width-apart b (omega arith)) e in
     let e′ : whole (pushes (lead b) v) ≡ true = rw (s .1) at e in
     let k = width-most b in
     let g = room-push fresh b w v (omega arith, fresh-good) (omega arith) e′ in
@@ -229,6 +237,7 @@ abbrev pub Valid : List ℕ → Type 0
 Valid p = utf8 p ≡ true
 
 pub record Parted (v : List ℕ) (ps : List (List ℕ)) : Type 0 where
+  pub any : 0 < length ps
   pub together : concat ps ≡ v
   pub valid : Every Valid ps
   pub five : Five ps
@@ -238,10 +247,10 @@ fine-valid w [] f = tt
 fine-valid w (p ∷ ps) f = (f .0 .valid, fine-valid w ps (f .1))
 
 pub partsOf-parts : (size : PartSize) (v : List ℕ) → partTooSmall size ≡ false → utf8 v ≡ true → Parted v (partsOf size v)
-partsOf-parts Whole v h u = record { together = append-nil v; valid = (u, tt); five = tt }
+partsOf-parts Whole v h u = record { any = omega arith; together = append-nil v; valid = (u, tt); five = tt }
 partsOf-parts (AtMost w) v h u =
     let r = partsFrom-portions w v (ltb-false w 4 h) u in
-    record { together = r .together; valid = fine-valid w (partsFrom w w v) (r .fine); five = r .five }
+    record { any = rw (partsFrom-fills w w v .are) (omega arith); together = r .together; valid = fine-valid w (partsFrom w w v) (r .fine); five = r .five }
 
 -- NUL: the parts of what may be written may be written
 abbrev pub Writable : Bool → List ℕ → Type 0
@@ -266,3 +275,21 @@ nul-writable σ v h = go (σ .backslash) h
     go : (bs : Bool) → (not bs && has 0 v) ≡ false → Writable bs v
     go true h = refl
     go false h = rw h
+
+-- WHAT THE WRITER ACCEPTS
+pub record Accepted (σ : Settings) (size : PartSize) (v : List ℕ) : Type 0 where
+  pub limit : overLimit size v ≡ false
+  pub valid : utf8 v ≡ true
+  pub nul : unwritableNul σ v ≡ false
+
+pub limit-length : (size : PartSize) (v : List ℕ) → overLimit size v ≡ false → length v ≤ 268435456
+unfolding overLimit
+limit-length size v h = ltb-false 268435456 (length v) (or-left (ltb 268435456 (length v)) (partTooSmall size) h)
+
+pub limit-size : (size : PartSize) (v : List ℕ) → overLimit size v ≡ false → partTooSmall size ≡ false
+unfolding overLimit
+limit-size size v h = or-right (ltb 268435456 (length v)) (partTooSmall size) h
+
+pub accepted-writes : (σ : Settings) (size : PartSize) (v out : List ℕ) → Accepted σ size v → writeQuestion σ size v out ≡ writes (writtenText σ size v) out
+unfolding writeQuestion
+accepted-writes σ size v out a = rw (a .limit, a .valid, a .nul)
