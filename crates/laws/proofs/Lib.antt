@@ -1,7 +1,10 @@
 -- Theorems over the definitions of `meaning`, callees first.
 pub mod Tests
 pub mod Utf8
+pub mod Encode
+pub mod Sequences
 pub mod Walks
+pub mod Courses
 pub mod Enclosed
 pub mod Gaps
 pub mod Openings

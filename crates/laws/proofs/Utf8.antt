@@ -49,8 +49,8 @@ leadIn-row : (P : ℕ → ℕ → ℕ → ℕ → ℕ → Type 0) (rs : List (�
 leadIn-row P [] a b n lo hi e = let z : _≡_ {A = ℕ} 0 1 = cc in absurd (omega arith)
 leadIn-row P (r ∷ rs) a b n lo hi e = go (within (r .0) (r .1) b) refl e (leadIn-row P rs (a .1) b n lo hi)
   where
-    go : (x : Bool) → within (r .0) (r .1) b ≡ x → (if x then due (r .2) (r .3) (r .4) else leadIn rs b) ≡ due n lo hi → (leadIn rs b ≡ due n lo hi → InRow P b n lo hi)
-        → InRow P b n lo hi
+    go : (x : Bool) → within (r .0) (r .1) b ≡ x → (if x then due (r .2) (r .3) (r .4) else leadIn rs b) ≡ due n lo hi
+        → (leadIn rs b ≡ due n lo hi → InRow P b n lo hi) → InRow P b n lo hi
     go true w e ih =
         let p : r .2 ≡ n = cc in let q : r .3 ≡ lo = cc in let s : r .4 ≡ hi = cc in
         let k = within-bounds (r .0) (r .1) b w in
@@ -70,6 +70,10 @@ abbrev pub Ranged : ℕ → ℕ → ℕ → Type 0
 Ranged zero lo hi = (lo ≡ 0x80) × (hi ≡ 0xBF)
 Ranged (suc n) lo hi = (0x80 ≤ lo) × (hi ≤ 0xBF)
 
+pub ranged-all : (n : ℕ) → Ranged n 0x80 0xBF
+ranged-all zero = (refl, refl)
+ranged-all (suc n) = omega arith
+
 abbrev pub Good : Due → Type 0
 Good broken = Unit {0}
 Good (due n lo hi) = Ranged n lo hi
@@ -87,19 +91,18 @@ lead-good b = go (lead b) refl
 pub push-good : (d : Due) (b : ℕ) → Good d → Good (push d b)
 push-good broken b g = tt
 push-good (due zero lo hi) b g = lead-good b
-push-good (due (suc n) lo hi) b g = go (within lo hi b) n
+push-good (due (suc n) lo hi) b g = go (within lo hi b)
   where
-    go : (x : Bool) (n : ℕ) → Good (if x then due n 0x80 0xBF else broken)
-    go true zero = omega arith
-    go true (suc n) = omega arith
-    go false n = tt
+    go : (x : Bool) → Good (if x then due n 0x80 0xBF else broken)
+    go true = ranged-all n
+    go false = tt
 
 pub pushes-good : (d : Due) (t : List ℕ) → Good d → Good (pushes d t)
 pushes-good d [] g = g
 pushes-good d (b ∷ t) g = pushes-good (push d b) t (push-good d b g)
 
 pub fresh-good : Good fresh
-fresh-good = omega arith
+fresh-good = ranged-all 0
 
 pub whole-fresh : (d : Due) → Good d → whole d ≡ true → d ≡ fresh
 whole-fresh broken g h = absurd (false≢true h)
