@@ -93,13 +93,15 @@ dollar-body : (t : List ℕ) (n : ℕ) → BodyIn (length t) (dollarBy t n)
 dollar-body t zero = tt
 dollar-body t (suc n) =
     pick (length t) (leb (suc n + suc n) (length t) && twice) (dollar (suc n) (length t - suc n)) unspelt
-    (λ h.
-    let l = leb-true (suc n + suc n) (length t) (and-left (leb (suc n + suc n) (length t)) twice h) in
-    record { ordered = omega arith; inside = omega arith })
-    tt
+    range tt
   where
     twice : Bool
     twice = same (take (suc n) t) (drop (length t - suc n) t)
+
+    range : (leb (suc n + suc n) (length t) && twice) ≡ true → Bounds (length t) (suc n) (length t - suc n)
+    range h =
+        let l = leb-true (suc n + suc n) (length t) (and-left (leb (suc n + suc n) (length t)) twice h) in
+        record { ordered = omega arith; inside = omega arith }
 
 pub spelling-body : (t : List ℕ) → BodyIn (length t) (spelling t)
 unfolding spelling

@@ -23,16 +23,16 @@ use Rattle.laws.proofs.Ranges.{Answered, string-answered}
 use Rattle.laws.proofs.WriterParts.{Accepted, accepted-writes}
 use Rattle.laws.proofs.WriterText.{writtenText-accepts}
 
--- a text that is written: its length is told, and it is what the buffer begins with
-pub record Told (t : List ℕ) (n : ℕ) (after : List ℕ) : Type 0 where
+-- the text t was written: n is its length, and the buffer begins with it
+pub record Wrote (t : List ℕ) (n : ℕ) (after : List ℕ) : Type 0 where
   pub size : n ≡ length t
   pub text : take n after ≡ t
 
-writes-told : (t out : List ℕ) (n : ℕ) → writes t out .answer ≡ Written n → Told t n (writes t out .buffer)
+writes-wrote : (t out : List ℕ) (n : ℕ) → writes t out .answer ≡ Written n → Wrote t n (writes t out .buffer)
 unfolding filled
-writes-told t out n e = go (leb (length t) (length out)) e
+writes-wrote t out n e = go (leb (length t) (length out)) e
   where
-    go : (x : Bool) → (if x then Written (length t) else NoRoom (length t)) ≡ Written n → Told t n (if x then t ++ drop (length t) out else out)
+    go : (x : Bool) → (if x then Written (length t) else NoRoom (length t)) ≡ Written n → Wrote t n (if x then t ++ drop (length t) out else out)
     go true e = let z : n ≡ length t = cc in record { size = z; text = rw z (take-append-seam t (drop (length t) out)) }
     go false e = absurd (omega (arith, ap writingNumber e))
 
@@ -63,12 +63,12 @@ module _ (σ : Settings) (size : PartSize) (v out : List ℕ) where
     accepted : Accepted σ size v
     accepted = written-accepted n answered
 
-    pub written-told : Told (writtenText σ size v) n (writeQuestion σ size v out .buffer)
-    written-told =
-        rw (accepted-writes σ size v out accepted) (writes-told (writtenText σ size v) out n (rw (accepted-writes σ size v out accepted) at answered))
+    pub written-wrote : Wrote (writtenText σ size v) n (writeQuestion σ size v out .buffer)
+    written-wrote =
+        rw (accepted-writes σ size v out accepted) (writes-wrote (writtenText σ size v) out n (rw (accepted-writes σ size v out accepted) at answered))
 
     -- THE ROUND TRIP: the bytes written, in a span of any source, and a buffer with room for the value
     pub writer-round-trip : (l : Literal) (S d : List ℕ) → isString (l .kind) ≡ true → Spans l S (take n (writeQuestion σ size v out .buffer))
         → length v ≤ length d → Answered S v (stringQuestion l S σ d)
     writer-round-trip l S d k h r =
-        string-answered l S (writtenText σ size v) v σ d k (rw (written-told .text) at h) (writtenText-accepts σ size v accepted) r
+        string-answered l S (writtenText σ size v) v σ d k (rw (written-wrote .text) at h) (writtenText-accepts σ size v accepted) r

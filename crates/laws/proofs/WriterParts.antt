@@ -1,8 +1,8 @@
 -- [01 The writer] The parts that a value is cut into: together they are the value; each is UTF-8; none but the empty value's is empty; none is longer
 -- than the part size; and none could have taken one more character. Assumes nothing.
-use mathlib.Core.Path.{_≡_, refl, ap, sym, _∙_, subst}
+use mathlib.Core.Path.{_≡_, refl, ap, sym, subst}
 use mathlib.Core.Bool.{Bool, true, false, _&&_, _||_, not, false≢true}
-use mathlib.Core.List.{List, [], _∷_, _++_, append-nil}
+use mathlib.Core.List.{List, [], _∷_, _++_, append-nil, append-assoc}
 use Prim.Native.Nat.{ℕ, zero, suc, _+_, _-_, _≤_, _<_}
 use native.Mathlib.Omega.{arith}
 use lib.Dec.{ltb}
@@ -14,8 +14,8 @@ use Rattle.meaning.specs.declared.PartSize.the-variants.{Whole, AtMost}
 use Rattle.meaning.specs.Bytes.{if_then_else_, _!_, has, within}
 use Rattle.meaning.specs.Chars.{Due, due, broken, fresh, push, pushes, whole, utf8, lead, leads, width, widthBy}
 use Rattle.meaning.specs.Writer.{onFirst, partsFrom, partsOf, partTooSmall, overLimit, unwritableNul, writtenText, writes, writeQuestion}
-use Rattle.laws.proofs.Tests.{within-yes, within-bounds}
-use Rattle.laws.proofs.Utf8.{pushes-broken, Rows, lead-row, Good, lead-good, push-good, fresh-good, later-lead}
+use Rattle.laws.proofs.Utf8.{pushes-append, pushes-broken, Rows, lead-row, Good, lead-good, push-good, fresh-good, later-lead}
+use Rattle.laws.proofs.Sequences.{utf8-split}
 use Rattle.laws.proofs.Ranges.{or-left, or-right}
 use Rattle.laws.proofs.Enclosed.{has-append}
 use Rattle.laws.proofs.Written.{writable}
@@ -122,18 +122,7 @@ room-push (due (suc k) lo hi) b n t r l h = go (within lo hi b) (push-good (due 
     go true g h = let i = r .0 in ((omega arith, g), omega arith)
     go false g h = absurd (broken-never t h)
 
--- where a byte other than 80 to BF stands, the character before it has ended
-pub ended-before : (d : Due) (b : ℕ) (t : List ℕ) → Good d → within 0x80 0xBF b ≡ false → whole (pushes (push d b) t) ≡ true
-    → (whole d ≡ true) × (push d b ≡ lead b)
-ended-before broken b t g l h = absurd (broken-never t h)
-ended-before (due zero lo hi) b t g l h = (refl, refl)
-ended-before (due (suc k) lo hi) b t g l h = absurd (go (within lo hi b) refl h)
-  where
-    go : (x : Bool) → within lo hi b ≡ x → whole (pushes (if x then due k 0x80 0xBF else broken) t) ≡ true → ⊥
-    go true w h = let i = within-bounds lo hi b w in false≢true (sym l ∙ within-yes 0x80 0xBF b (omega arith) (omega arith))
-    go false w h = broken-never t h
-
--- such is a byte that begins a character
+-- a byte that begins a character is none of 80 to BF
 pub width-apart : (b : ℕ) → 0 < width b → within 0x80 0xBF b ≡ false
 unfolding width
 width-apart b h = go (within 0x80 0xBF b) refl
@@ -142,34 +131,26 @@ width-apart b h = go (within 0x80 0xBF b) refl
     go true w = let z : widthBy (lead b) ≡ 0 = rw (later-lead b w) in absurd (omega arith)
     go false w = refl
 
-pub record Fine (w : ℕ) (p : List ℕ) : Type 0 where
-  pub valid : utf8 p ≡ true
+-- p, of w bytes at the most, is UTF-8 behind a
+pub record Fine (a : List ℕ) (w : ℕ) (p : List ℕ) : Type 0 where
+  pub valid : utf8 (a ++ p) ≡ true
   pub short : length p ≤ w
 
--- the same of the part at hand, d before it and n bytes of room
-pub record FineAt (d : Due) (n : ℕ) (p : List ℕ) : Type 0 where
-  pub valid : whole (pushes d p) ≡ true
-  pub short : length p ≤ n
-
-room-good : (d : Due) (n : ℕ) → Room d n → Good d
-room-good broken n r = absurd r
-room-good (due k lo hi) n r = r .1
-
-pub fill-fine : {w n : ℕ} {v p : List ℕ} {ps : List (List ℕ)} → Fill w n v p ps → 4 ≤ w → (d : Due) → Room d n → whole (pushes d v) ≡ true
-    → FineAt d n p × Every (Fine w) ps
+-- a is what the part at hand has already
+pub fill-fine : {w n : ℕ} {v p : List ℕ} {ps : List (List ℕ)} → Fill w n v p ps → 4 ≤ w → (a : List ℕ) → Room (pushes fresh a) n → utf8 (a ++ v) ≡ true
+    → Fine a n p × Every (Fine [] w) ps
 unfolding utf8
-fill-fine over h d r e = (record { valid = e; short = omega arith }, tt)
-fill-fine {n = n} (takes {b = b} {v = v} l f) h d r e =
-    let g = room-push d b n v r l e in
-    let i = fill-fine f h (push d b) (g .0) e in
-    (record { valid = i .0 .valid; short = omega arith }, i .1)
-fill-fine {w = w} {n = n} (opens {b = b} {v = v} l f) h d r e =
-    let s = ended-before d b v (room-good d n r) (width-apart b (omega arith)) e in
-    let e′ : whole (pushes (lead b) v) ≡ true = rw (s .1) at e in
+fill-fine over h a r e = (record { valid = e; short = omega arith }, tt)
+fill-fine {n = n} (takes {b = b} {v = v} {p = p} l f) h a r e =
+    let g = room-push (pushes fresh a) b n v r l (rw (pushes-append fresh a (b ∷ v)) at e) in
+    let i = fill-fine f h (a ++ (b ∷ [])) (rw (pushes-append fresh a (b ∷ [])) (g .0)) (rw (append-assoc a (b ∷ []) v) e) in
+    (record { valid = rw (append-assoc a (b ∷ []) p) at (i .0 .valid); short = omega arith }, i .1)
+fill-fine {w = w} (opens {b = b} {v = v} l f) h a r e =
+    let s = utf8-split a (b ∷ v) (width-apart b (omega arith)) e in
     let k = width-most b in
-    let g = room-push fresh b w v (omega arith, fresh-good) (omega arith) e′ in
-    let i = fill-fine f h (lead b) (g .0) e′ in
-    (record { valid = s .0; short = omega arith }, (record { valid = i .0 .valid; short = omega arith }, i .1))
+    let g = room-push fresh b w v (omega arith, fresh-good) (omega arith) (s .1) in
+    let i = fill-fine f h (b ∷ []) (g .0) (s .1) in
+    (record { valid = rw (append-nil a) (s .0); short = omega arith }, (record { valid = i .0 .valid; short = omega arith }, i .1))
 
 pub fill-first : {w n : ℕ} {v p : List ℕ} {ps : List (List ℕ)} → Fill w n v p ps → 4 ≤ n → Some v → Some p
 fill-first over h s = absurd (omega arith)
@@ -200,7 +181,7 @@ Five [] = Unit {0}
 Five (p ∷ []) = Unit {0}
 Five (p ∷ (q ∷ ps)) = (5 ≤ length p + length q) × Five (q ∷ ps)
 
-full-five : (w : ℕ) → 4 ≤ w → (p : List ℕ) (ps : List (List ℕ)) → Full w w p ps → Every Some ps → Every (Fine w) ps → Five (p ∷ ps)
+full-five : (w : ℕ) → 4 ≤ w → (p : List ℕ) (ps : List (List ℕ)) → Full w w p ps → Every Some ps → Every (Fine [] w) ps → Five (p ∷ ps)
 full-five w h p [] f s u = tt
 full-five w h p ([] ∷ qs) f s u = let i = s .0 in absurd (omega arith)
 full-five w h p ((c ∷ q) ∷ qs) f s u =
@@ -213,7 +194,7 @@ Greedy w (p ∷ ps) = Full w w p ps
 
 pub record Portioned (w : ℕ) (v : List ℕ) (ps : List (List ℕ)) : Type 0 where
   pub together : concat ps ≡ v
-  pub fine : Every (Fine w) ps
+  pub fine : Every (Fine [] w) ps
   pub some : Some v → Every Some ps
   pub greedy : Greedy w ps
   pub five : Five ps
@@ -223,10 +204,10 @@ unfolding utf8
 partsFrom-portions w v h u =
     let f = partsFrom-fills w w v in
     let c = f .course in
-    let i = fill-fine c h fresh (omega arith, fresh-good) u in
+    let i = fill-fine c h [] (omega arith, fresh-good) u in
     subst (Portioned w v) (sym (f .are)) (record {
       together = fill-concat c;
-      fine = (record { valid = i .0 .valid; short = i .0 .short }, i .1);
+      fine = i;
       some = λ s. (fill-first c h s, fill-some c);
       greedy = fill-full c;
       five = full-five w h (f .first) (f .others) (fill-full c) (fill-some c) (i .1);
@@ -236,18 +217,24 @@ partsFrom-portions w v h u =
 abbrev pub Valid : List ℕ → Type 0
 Valid p = utf8 p ≡ true
 
+-- at every size, and of every value
+pub partsOf-concat : (size : PartSize) (v : List ℕ) → concat (partsOf size v) ≡ v
+partsOf-concat Whole v = append-nil v
+partsOf-concat (AtMost w) v = partsFrom-concat w w v
+
+-- at a size that is not too small, of UTF-8
 pub record Parted (v : List ℕ) (ps : List (List ℕ)) : Type 0 where
   pub any : 0 < length ps
   pub together : concat ps ≡ v
   pub valid : Every Valid ps
   pub five : Five ps
 
-fine-valid : (w : ℕ) (ps : List (List ℕ)) → Every (Fine w) ps → Every Valid ps
+fine-valid : (w : ℕ) (ps : List (List ℕ)) → Every (Fine [] w) ps → Every Valid ps
 fine-valid w [] f = tt
 fine-valid w (p ∷ ps) f = (f .0 .valid, fine-valid w ps (f .1))
 
 pub partsOf-parts : (size : PartSize) (v : List ℕ) → partTooSmall size ≡ false → utf8 v ≡ true → Parted v (partsOf size v)
-partsOf-parts Whole v h u = record { any = omega arith; together = append-nil v; valid = (u, tt); five = tt }
+partsOf-parts Whole v h u = record { any = omega arith; together = partsOf-concat Whole v; valid = (u, tt); five = tt }
 partsOf-parts (AtMost w) v h u =
     let r = partsFrom-portions w v (ltb-false w 4 h) u in
     record { any = rw (partsFrom-fills w w v .are) (omega arith); together = r .together; valid = fine-valid w (partsFrom w w v) (r .fine); five = r .five }
@@ -267,6 +254,9 @@ writable-append false p q h = go (has 0 p) (has 0 q) (rw (has-append 0 p q) at h
 pub concat-writable : (bs : Bool) (ps : List (List ℕ)) → writable bs (concat ps) ≡ true → Every (Writable bs) ps
 concat-writable bs [] h = tt
 concat-writable bs (p ∷ ps) h = let r = writable-append bs p (concat ps) h in (r .0, concat-writable bs ps (r .1))
+
+pub partsOf-writable : (bs : Bool) (size : PartSize) (v : List ℕ) → Writable bs v → Every (Writable bs) (partsOf size v)
+partsOf-writable bs size v h = concat-writable bs (partsOf size v) (rw (partsOf-concat size v) h)
 
 pub nul-writable : (σ : Settings) (v : List ℕ) → unwritableNul σ v ≡ false → Writable (σ .backslash) v
 unfolding unwritableNul

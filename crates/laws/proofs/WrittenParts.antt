@@ -2,7 +2,7 @@
 -- setting, reads back whole under the same condition." Assumes nothing.
 use mathlib.Core.Path.{_≡_, refl, sym, _∙_}
 use mathlib.Core.Bool.{Bool, true, false, _&&_, not, false≢true}
-use mathlib.Core.List.{List, [], _∷_, _++_, append-nil}
+use mathlib.Core.List.{List, [], _∷_, _++_}
 use Prim.Native.Nat.{ℕ, zero, suc, _+_, _-_, _*_, _≤_, _<_}
 use native.Mathlib.Nat.{zero-add}
 use native.Mathlib.Omega.{arith}
@@ -12,13 +12,14 @@ use borrow.Author.Tests.{lt-ltb, le-ltb, not-true}
 use Rattle.meaning.specs.declared.Settings.{Settings}
 use Rattle.meaning.specs.declared.PartSize.the-variants.{Whole}
 use Rattle.meaning.specs.declared.Literal.{Literal}
-use Rattle.meaning.specs.Bytes.{if_then_else_, within, has}
+use Rattle.meaning.specs.Bytes.{if_then_else_, _!_, within, has}
 use Rattle.meaning.specs.Chars.{Due, due, broken, fresh, push, pushes, whole, utf8, lead, base, gather, isSpace}
 use Rattle.meaning.specs.Walk.{after, walk, size}
 use Rattle.meaning.specs.Steps.{spaceStep, spaceBy}
 use Rattle.meaning.specs.Writer.{literal, overLimit, unwritableNul, writtenText, writes, writeQuestion}
 use Rattle.meaning.specs.Questions.{cutsCharacter, isString, stringQuestion}
-use Rattle.laws.proofs.Utf8.{pushes-append, whole-next, utf8-append, utf8-join, pushes-good, fresh-good}
+use Rattle.laws.proofs.Utf8.{whole-next, utf8-join}
+use Rattle.laws.proofs.Sequences.{utf8-split}
 use Rattle.laws.proofs.Gaps.{no-space}
 use Rattle.laws.proofs.Joining.{White}
 use Rattle.laws.proofs.Asked.{Spans}
@@ -26,7 +27,7 @@ use Rattle.laws.proofs.JoiningLaw.{Accepts}
 use Rattle.laws.proofs.WrittenUtf8.{literal-utf8}
 use Rattle.laws.proofs.Parts.{Next, chain, all-of, AllWritable, parts}
 use Rattle.laws.proofs.Ranges.{Answered, string-answered}
-use Rattle.laws.proofs.WriterParts.{Valid, Writable, writable-append, nul-writable, ended-before, Accepted, limit-length, accepted-writes}
+use Rattle.laws.proofs.WriterParts.{Valid, Writable, writable-append, nul-writable, Accepted, limit-length, accepted-writes}
 
 -- WHITE SPACE IS UTF-8: a white-space character has the bytes that are due
 gather-whole : (n lo hi v : ℕ) (t : List ℕ) → isSpace (gather n lo hi v t) ≡ true → whole (pushes (due n lo hi) (take n t)) ≡ true
@@ -75,23 +76,23 @@ pub record CutInto (v p : List ℕ) (xs : List Next) : Type 0 where
   pub valid : Each Valid p xs
   pub together : all-of p xs ≡ v
 
--- Cut so at places that cut no character, UTF-8 gives UTF-8 parts
-pub uncut-valid : (a b : List ℕ) → utf8 (a ++ b) ≡ true → cutsCharacter (length a) (a ++ b) ≡ false → Valid a × Valid b
-unfolding utf8 cutsCharacter
-uncut-valid a [] u c = (rw append-nil at u, refl)
-uncut-valid a (x ∷ b) u c =
+-- a place that cuts no character
+uncut-begins : (a b : List ℕ) → cutsCharacter (length a) (a ++ b) ≡ false → within 0x80 0xBF (b ! 0) ≡ false
+unfolding cutsCharacter within
+uncut-begins a [] c = refl
+uncut-begins a (x ∷ b) c =
     let l : length a < length (a ++ (x ∷ b)) = rw length-append (omega arith) in
-    let n : within 0x80 0xBF x ≡ false = rw (lt-ltb (length a) (length (a ++ (x ∷ b))) l, getD-append-seam a x b 0) at c in
-    let w = ended-before (pushes fresh a) x b (pushes-good fresh a fresh-good) n (rw (pushes-append fresh a (x ∷ b)) at u) .0 in
-    (w, sym (utf8-append a (x ∷ b) w) ∙ u)
+    rw (lt-ltb (length a) (length (a ++ (x ∷ b))) l, getD-append-seam a x b 0) at c
 
+-- each part begins at such a place
 abbrev pub BetweenCharacters : List ℕ → List Next → Type 0
 BetweenCharacters p [] = Unit {0}
 BetweenCharacters p (x ∷ xs) = (cutsCharacter (length p) (p ++ all-of (x .value) xs) ≡ false) × BetweenCharacters (x .value) xs
 
+-- so cut, UTF-8 gives UTF-8 parts
 between-valid : (p : List ℕ) (xs : List Next) → Valid (all-of p xs) → BetweenCharacters p xs → Each Valid p xs
 between-valid p [] u b = u
-between-valid p (x ∷ xs) u b = let r = uncut-valid p (all-of (x .value) xs) u (b .0) in (r .0, between-valid (x .value) xs (r .1) (b .1))
+between-valid p (x ∷ xs) u b = let r = utf8-split p (all-of (x .value) xs) (uncut-begins p (all-of (x .value) xs) (b .0)) u in (r .0, between-valid (x .value) xs (r .1) (b .1))
 
 pub between-cuts : (v p : List ℕ) (xs : List Next) → utf8 v ≡ true → all-of p xs ≡ v → BetweenCharacters p xs → CutInto v p xs
 between-cuts v p xs u e b = record { valid = between-valid p xs (rw e u) b; together = e }
