@@ -32,3 +32,8 @@ pub mod Determined
 pub mod Sources
 pub mod Buffers
 pub mod Controls
+pub mod Ranges
+pub mod WriterParts
+pub mod WrittenParts
+pub mod WriterText
+pub mod RoundTrip
