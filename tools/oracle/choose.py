@@ -18,44 +18,44 @@ SEED = int(sys.argv[1]) if len(sys.argv) > 1 else 20260
 
 # question, kinds, rows, texts
 STRATA = [
-    ('string', [4], 150, lambda t: t.single()),
-    ('string', [4], 130, lambda t: t.double()),
-    ('string', [4], 240, lambda t: t.escaped()),
-    ('string', [4], 80, lambda t: t.national()),
-    ('string', [4], 110, lambda t: t.charset()),
-    ('string', [4], 150, lambda t: t.unicode('\'', 4, 0)),
-    ('string', [4], 150, lambda t: t.unicode('\'', 3, 1)),
-    ('string', [4], 110, lambda t: t.dollar()),
-    ('string', [4], 300, lambda t: t.joined()),
-    ('string', [4], 180, lambda t: t.damaged(t.any())),
+    ('string', [4], 130, lambda t: t.single()),
+    ('string', [4], 110, lambda t: t.double()),
+    ('string', [4], 190, lambda t: t.escaped()),
+    ('string', [4], 70, lambda t: t.national()),
+    ('string', [4], 90, lambda t: t.charset()),
+    ('string', [4], 120, lambda t: t.unicode('\'', 4, 0)),
+    ('string', [4], 120, lambda t: t.unicode('\'', 3, 1)),
+    ('string', [4], 90, lambda t: t.dollar()),
+    ('string', [4], 240, lambda t: t.joined()),
+    ('string', [4], 140, lambda t: t.damaged(t.any())),
     ('plain', [4], 20, lambda t: t.any()),
-    ('i64', [1], 150, lambda t: t.number(63)),
-    ('i64', [1], 25, lambda t: t.damaged(t.number(63))),
-    ('decimal', [1, 2, 3], 150, lambda t: t.decimal()),
-    ('decimal', [1, 2, 3], 40, lambda t: t.damaged(t.decimal())),
-    ('bits', [12], 85, lambda t: t.bits()),
-    ('bits', [13], 85, lambda t: t.bits()),
-    ('bits', [12, 13], 30, lambda t: t.damaged(t.bits())),
-    ('money', [14], 40, lambda t: t.money()),
-    ('temporal', [8, 9, 10, 11], 200, lambda t: t.temporal()),
-    ('temporal', [8, 9, 10, 11], 50, lambda t: t.damaged(t.temporal())),
-    ('charset', [4], 70, lambda t: t.introduced()),
-    ('charset', [4], 20, lambda t: t.damaged(t.introduced())),
-    ('source', list(range(1, 15)), 25, lambda t: t.any()),
-    ('ident', [0], 70, lambda t: t.unicode('"', 4, 0)),
-    ('ident', [0], 70, lambda t: t.unicode('"', 3, 1)),
-    ('ident', [0], 30, lambda t: t.damaged(t.unicode('"', 3, 0.4))),
-    ('isident', [0], 30, lambda t: t.damaged(t.unicode(t.one('\'"'), 1, 0))),
-    ('evalid', [0], 90, lambda t: t.escaped()),
-    ('evalid', [0], 30, lambda t: t.damaged(t.one([t.escaped, t.joined])())),
-    ('uvalid', [0], 90, lambda t: t.unicode('\'', 3, 0.5)),
-    ('uvalid', [0], 30, lambda t: t.damaged(t.one([t.unicode, t.joined])())),
-    ('uescape', [0], 80, lambda t: t.argument()),
-    ('nul', [0], 25, lambda t: t.damaged(t.any())),
-    ('radix', [0], 45, lambda t: t.prefix()),
+    ('i64', [1], 110, lambda t: t.number(63)),
+    ('i64', [1], 20, lambda t: t.damaged(t.number(63))),
+    ('decimal', [1, 2, 3], 110, lambda t: t.decimal()),
+    ('decimal', [1, 2, 3], 30, lambda t: t.damaged(t.decimal())),
+    ('bits', [12], 65, lambda t: t.bits()),
+    ('bits', [13], 65, lambda t: t.bits()),
+    ('bits', [12, 13], 25, lambda t: t.damaged(t.bits())),
+    ('money', [14], 30, lambda t: t.money()),
+    ('temporal', [8, 9, 10, 11], 140, lambda t: t.temporal()),
+    ('temporal', [8, 9, 10, 11], 40, lambda t: t.damaged(t.temporal())),
+    ('charset', [4], 55, lambda t: t.introduced()),
+    ('charset', [4], 15, lambda t: t.damaged(t.introduced())),
+    ('source', list(range(1, 15)), 20, lambda t: t.any()),
+    ('ident', [0], 55, lambda t: t.unicode('"', 4, 0)),
+    ('ident', [0], 55, lambda t: t.unicode('"', 3, 1)),
+    ('ident', [0], 25, lambda t: t.damaged(t.unicode('"', 3, 0.4))),
+    ('isident', [0], 25, lambda t: t.damaged(t.unicode(t.one('\'"'), 1, 0))),
+    ('evalid', [0], 70, lambda t: t.escaped()),
+    ('evalid', [0], 25, lambda t: t.damaged(t.one([t.escaped, t.joined])())),
+    ('uvalid', [0], 70, lambda t: t.unicode('\'', 3, 0.5)),
+    ('uvalid', [0], 25, lambda t: t.damaged(t.one([t.unicode, t.joined])())),
+    ('uescape', [0], 65, lambda t: t.argument()),
+    ('nul', [0], 20, lambda t: t.damaged(t.any())),
+    ('radix', [0], 35, lambda t: t.prefix()),
 ]
 LITERAL = ['string', 'plain', 'decimal', 'bits', 'temporal', 'money', 'source', 'charset', 'i64', 'bool', 'null']
-PADDED = ['', '', 'x', 'SELECT ', 'é', '\'', '1', '\0', '\u3000', '$$', '\\']
+PADDED = ['', '', 'x', '= ', 'é', '\'', '1', '\0', '\u3000', '$$', '\\']
 
 
 def left_out(text):
@@ -100,10 +100,10 @@ def main():
             text = make(texts)
             size = len(text.encode())
             key = (question, text)
-            if size > (60 if rng.random() < 0.1 else 40) or key in seen or left_out(text):
+            if size > (56 if rng.random() < 0.04 else 22) or key in seen or left_out(text):
                 continue
             seen.add(key)
-            before, behind = (rng.choice(PADDED), rng.choice(PADDED)) if question in LITERAL and rng.random() < 0.35 else ('', '')
+            before, behind = (rng.choice(PADDED), rng.choice(PADDED)) if question in LITERAL and rng.random() < 0.25 else ('', '')
             source, start = (before + text + behind).encode(), len(before.encode())
             settings = [rng.choice([0, 1])] if rng.random() < 0.7 else [0, 1]
             for setting in settings if question == 'string' else [0]:

@@ -4,5 +4,3 @@ pub mod Oracle2
 pub mod Oracle3
 pub mod Oracle4
 pub mod Oracle5
-pub mod Oracle6
-pub mod Oracle7
