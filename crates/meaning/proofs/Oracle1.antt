@@ -22,27 +22,27 @@ rows =
     asks (string true) 4 "" "'\\B\\\"\"'" "" (writes 1 "B\"\"") ∷
     asks (string false) 4 "" "'u'''" "" (writes 0 "u'") ∷
     asks (string true) 4 "" "'u'''" "" (writes 0 "u'") ∷
-    asks (string false) 4 "" "'\u{c3}\u{a9}\\f\\''\u{ee}\u{80}\u{80} '" "" (writes 0 "\u{c3}\u{a9}\\f\\'\u{ee}\u{80}\u{80} ") ∷
+    asks (string false) 4 "" "'Ã©\\f\\''î\u{80}\u{80} '" "" (writes 0 "Ã©\\f\\'î\u{80}\u{80} ") ∷
     asks (string true) 4 "" "'!'" "" (borrows 1 2 "!") ∷
     asks (string false) 4 "" "'F\"E'" "" (borrows 1 4 "F\"E") ∷
     asks (string true) 4 "" "'F\"E'" "" (borrows 1 4 "F\"E") ∷
     asks (string false) 4 "" "'g\\B\\'\\N''" "" (refuses 6) ∷
-    asks (string true) 4 "\\" "'g\\Z''\".'" "\u{e3}\u{80}\u{80}" (writes 1 "g\u{1a}'\".") ∷
-    asks (string false) 4 "" "'x\u{ef}\u{bc}\u{99}\"'" "" (borrows 1 6 "x\u{ef}\u{bc}\u{99}\"") ∷
-    asks (string true) 4 "" "'x\u{ef}\u{bc}\u{99}\"'" "" (borrows 1 6 "x\u{ef}\u{bc}\u{99}\"") ∷
+    asks (string true) 4 "\\" "'g\\Z''\".'" "ã\u{80}\u{80}" (writes 1 "g\u{1a}'\".") ∷
+    asks (string false) 4 "" "'xï¼\u{99}\"'" "" (borrows 1 6 "xï¼\u{99}\"") ∷
+    asks (string true) 4 "" "'xï¼\u{99}\"'" "" (borrows 1 6 "xï¼\u{99}\"") ∷
     asks (string false) 4 "" "'\n\"N9'" "" (borrows 1 5 "\n\"N9") ∷
     asks (string true) 4 "" "'\n\"N9'" "" (borrows 1 5 "\n\"N9") ∷
-    asks (string false) 4 "" "'en''\\n\u{df}\u{bf}\\%'" "" (writes 1 "en'\\n\u{df}\u{bf}\\%") ∷
+    asks (string false) 4 "" "'en''\\nß¿\\%'" "" (writes 1 "en'\\nß¿\\%") ∷
     asks (string false) 4 "" "''" "" (borrows 1 1 "") ∷
-    asks (string false) 4 "" "'.Eb\u{c2}\u{80}\u{ee}\u{80}\u{80}n'" "" (borrows 1 10 ".Eb\u{c2}\u{80}\u{ee}\u{80}\u{80}n") ∷
-    asks (string true) 4 "" "'.Eb\u{c2}\u{80}\u{ee}\u{80}\u{80}n'" "" (borrows 1 10 ".Eb\u{c2}\u{80}\u{ee}\u{80}\u{80}n") ∷
-    asks (string false) 4 "" "'\"Z\"\u{df}\u{bf}\\\\'" "" (borrows 1 8 "\"Z\"\u{df}\u{bf}\\\\") ∷
-    asks (string false) 4 "\u{e3}\u{80}\u{80}" "'\\fF\"'" "\u{e3}\u{80}\u{80}" (borrows 4 8 "\\fF\"") ∷
-    asks (string true) 4 "\u{e3}\u{80}\u{80}" "'\\fF\"'" "\u{e3}\u{80}\u{80}" (writes 5 "fF\"") ∷
-    asks (string false) 4 "" "'\\\u{f0}\u{9f}\u{98}\u{80}\"Y\\8!'''" "" (writes 1 "\\\u{f0}\u{9f}\u{98}\u{80}\"Y\\8!'") ∷
-    asks (string true) 4 "" "'''uG$\u{f4}\u{8f}\u{bf}\u{bf}\"'" "" (writes 1 "'uG$\u{f4}\u{8f}\u{bf}\u{bf}\"") ∷
-    asks (string true) 4 "\u{c3}\u{a9}" "'\\81N\u{c3}\u{9f}|o'" "\\" (writes 5 "81N\u{c3}\u{9f}|o") ∷
-    asks (string true) 4 "" "'\\\u{e0}\u{a0}\u{80}'" "" (writes 5 "\u{e0}\u{a0}\u{80}") ∷
+    asks (string false) 4 "" "'.EbÂ\u{80}î\u{80}\u{80}n'" "" (borrows 1 10 ".EbÂ\u{80}î\u{80}\u{80}n") ∷
+    asks (string true) 4 "" "'.EbÂ\u{80}î\u{80}\u{80}n'" "" (borrows 1 10 ".EbÂ\u{80}î\u{80}\u{80}n") ∷
+    asks (string false) 4 "" "'\"Z\"ß¿\\\\'" "" (borrows 1 8 "\"Z\"ß¿\\\\") ∷
+    asks (string false) 4 "ã\u{80}\u{80}" "'\\fF\"'" "ã\u{80}\u{80}" (borrows 4 8 "\\fF\"") ∷
+    asks (string true) 4 "ã\u{80}\u{80}" "'\\fF\"'" "ã\u{80}\u{80}" (writes 5 "fF\"") ∷
+    asks (string false) 4 "" "'\\ð\u{9f}\u{98}\u{80}\"Y\\8!'''" "" (writes 1 "\\ð\u{9f}\u{98}\u{80}\"Y\\8!'") ∷
+    asks (string true) 4 "" "'''uG$ô\u{8f}¿¿\"'" "" (writes 1 "'uG$ô\u{8f}¿¿\"") ∷
+    asks (string true) 4 "Ã©" "'\\81NÃ\u{9f}|o'" "\\" (writes 5 "81NÃ\u{9f}|o") ∷
+    asks (string true) 4 "" "'\\à\u{a0}\u{80}'" "" (writes 5 "à\u{a0}\u{80}") ∷
     asks (string false) 4 "" "'\"X'" "" (borrows 1 3 "\"X") ∷
     asks (string false) 4 "" "'b\\\"\\''!'" "" (writes 5 "b\\\"\\'!") ∷
     asks (string true) 4 "" "'b\\\"\\''!'" "" (refuses 6) ∷
@@ -54,11 +54,11 @@ rows =
     asks (string true) 4 "" "'\\t-0'" "" (writes 0 "\t-0") ∷
     asks (string false) 4 "" "')\\'''" "" (writes 5 ")\\'") ∷
     asks (string false) 4 "" "'''\\\\N\\N8'" "" (writes 0 "'\\\\N\\N8") ∷
-    asks (string false) 4 "" "'c\u{ef}\u{bf}\u{bf}.\\r\"'" "" (borrows 1 9 "c\u{ef}\u{bf}\u{bf}.\\r\"") ∷
+    asks (string false) 4 "" "'cï¿¿.\\r\"'" "" (borrows 1 9 "cï¿¿.\\r\"") ∷
     asks (string true) 4 "" "'\"g'" "" (borrows 1 3 "\"g") ∷
     asks (string true) 4 "" "'\\'b'\\B'" "" (refuses 6) ∷
-    asks (string false) 4 "\u{e3}\u{80}\u{80}" "'('" "\u{e3}\u{80}\u{80}" (borrows 4 5 "(") ∷
-    asks (string true) 4 "\u{e3}\u{80}\u{80}" "'('" "\u{e3}\u{80}\u{80}" (borrows 4 5 "(") ∷
+    asks (string false) 4 "ã\u{80}\u{80}" "'('" "ã\u{80}\u{80}" (borrows 4 5 "(") ∷
+    asks (string true) 4 "ã\u{80}\u{80}" "'('" "ã\u{80}\u{80}" (borrows 4 5 "(") ∷
     asks (string false) 4 "" "'\n\tK'" "" (borrows 1 4 "\n\tK") ∷
     asks (string false) 4 "" "'1\\'\\B'" "" (refuses 6) ∷
     asks (string true) 4 "" "'1\\'\\B'" "" (cramped "1'B") ∷
@@ -66,28 +66,28 @@ rows =
     asks (string true) 4 "" "'\"''\\_'" "" (writes 0 "\"'\\_") ∷
     asks (string false) 4 "" "'_#('" "" (borrows 1 4 "_#(") ∷
     asks (string true) 4 "" "'_#('" "" (borrows 1 4 "_#(") ∷
-    asks (string false) 4 "" "'\u{0}'+u'" "" (refuses 6) ∷
-    asks (string true) 4 "" "'\u{0}'+u'" "" (refuses 6) ∷
+    asks (string false) 4 "" "'\0'+u'" "" (refuses 6) ∷
+    asks (string true) 4 "" "'\0'+u'" "" (refuses 6) ∷
     asks (string true) 4 "" "'X\"'" "" (borrows 1 3 "X\"") ∷
-    asks (string false) 4 "" "'\"a|''\\\u{c3}\u{a9}'" "" (writes 1 "\"a|'\\\u{c3}\u{a9}") ∷
-    asks (string true) 4 "" "'\"a|''\\\u{c3}\u{a9}'" "" (writes 1 "\"a|'\u{c3}\u{a9}") ∷
+    asks (string false) 4 "" "'\"a|''\\Ã©'" "" (writes 1 "\"a|'\\Ã©") ∷
+    asks (string true) 4 "" "'\"a|''\\Ã©'" "" (writes 1 "\"a|'Ã©") ∷
     asks (string false) 4 "" "'X'" "" (borrows 1 2 "X") ∷
     asks (string false) 4 "" "''',\\Zn''\\''" "" (refuses 6) ∷
-    asks (string true) 4 "" "'\"e\u{c3}\u{a9}\u{0}'" "" (refuses 6) ∷
-    asks (string true) 4 "1" "'Eb\u{e2}\u{81}\u{9f}'" "x" (borrows 2 7 "Eb\u{e2}\u{81}\u{9f}") ∷
-    asks (string false) 4 "= " "'\\8\\f\\'\u{ef}\u{bf}\u{bf}'" "'" (refuses 6) ∷
-    asks (string true) 4 "= " "'\\8\\f\\'\u{ef}\u{bf}\u{bf}'" "'" (writes 1 "8f'\u{ef}\u{bf}\u{bf}") ∷
-    asks (string true) 4 "= " "'\u{f0}\u{90}\u{80}\u{80}+N'''''" "\\" (writes 1 "\u{f0}\u{90}\u{80}\u{80}+N''") ∷
+    asks (string true) 4 "" "'\"eÃ©\0'" "" (refuses 6) ∷
+    asks (string true) 4 "1" "'Ebâ\u{81}\u{9f}'" "x" (borrows 2 7 "Ebâ\u{81}\u{9f}") ∷
+    asks (string false) 4 "= " "'\\8\\f\\'ï¿¿'" "'" (refuses 6) ∷
+    asks (string true) 4 "= " "'\\8\\f\\'ï¿¿'" "'" (writes 1 "8f'ï¿¿") ∷
+    asks (string true) 4 "= " "'ð\u{90}\u{80}\u{80}+N'''''" "\\" (writes 1 "ð\u{90}\u{80}\u{80}+N''") ∷
     asks (string true) 4 "" "'''\\8'" "" (writes 0 "'8") ∷
     asks (string true) 4 "" "'''\\\\''U\\%'" "" (writes 5 "'\\'U\\%") ∷
-    asks (string true) 4 "" "'u\u{0}\\0'\\n'''" "" (refuses 6) ∷
+    asks (string true) 4 "" "'u\0\\0'\\n'''" "" (refuses 6) ∷
     asks (string false) 4 "" "'%''\\0'" "" (cramped "%'\\0") ∷
     asks (string false) 4 "" "'\\r'" "" (borrows 1 3 "\\r") ∷
     asks (string true) 4 "" "'\\r'" "" (writes 5 "\r") ∷
-    asks (string false) 4 "" "'''\u{c3}\u{a9}N'" "" (cramped "'\u{c3}\u{a9}N") ∷
+    asks (string false) 4 "" "'''Ã©N'" "" (cramped "'Ã©N") ∷
     asks (string false) 4 "" "'N8''8('" "" (writes 0 "N8'8(") ∷
     asks (string true) 4 "" "'N8''8('" "" (writes 0 "N8'8(") ∷
-    asks (string false) 4 "" "'\u{ed}\u{9f}\u{bf}g+'" "" (borrows 1 6 "\u{ed}\u{9f}\u{bf}g+") ∷
+    asks (string false) 4 "" "'í\u{9f}¿g+'" "" (borrows 1 6 "í\u{9f}¿g+") ∷
     asks (string false) 4 "" "'\u{7f}''\\BGU/'" "" (writes 0 "\u{7f}'\\BGU/") ∷
     asks (string true) 4 "" "'\u{7f}''\\BGU/'" "" (writes 5 "\u{7f}'BGU/") ∷
     asks (string false) 4 "" "'\\Z\"'" "" (borrows 1 4 "\\Z\"") ∷
@@ -97,139 +97,139 @@ rows =
     asks (string true) 4 "" "'\"\\8\"'" "" (writes 5 "\"8\"") ∷
     asks (string false) 4 "" "'u'" "" (borrows 1 2 "u") ∷
     asks (string true) 4 "" "'u'" "" (borrows 1 2 "u") ∷
-    asks (string false) 4 "\u{e3}\u{80}\u{80}" "'\u{1}\u{0}\\Zg'" "\\" (refuses 6) ∷
+    asks (string false) 4 "ã\u{80}\u{80}" "'\u{1}\0\\Zg'" "\\" (refuses 6) ∷
     asks (string false) 4 "" "'!b'" "" (borrows 1 3 "!b") ∷
     asks (string true) 4 "" "'!b'" "" (borrows 1 3 "!b") ∷
-    asks (string false) 4 "\u{0}" "'8\\f.\\T\"'" "" (borrows 2 9 "8\\f.\\T\"") ∷
-    asks (string true) 4 "\u{0}" "'8\\f.\\T\"'" "" (writes 0 "8f.T\"") ∷
-    asks (string false) 4 "\u{0}" "'%''\\\"'" "" (writes 0 "%'\\\"") ∷
-    asks (string true) 4 "\u{0}" "'%''\\\"'" "" (cramped "%'\"") ∷
-    asks (string false) 4 "" "'''\u{e2}\u{80}\u{af}\u{c2}\u{80}'''''" "" (writes 0 "'\u{e2}\u{80}\u{af}\u{c2}\u{80}''") ∷
+    asks (string false) 4 "\0" "'8\\f.\\T\"'" "" (borrows 2 9 "8\\f.\\T\"") ∷
+    asks (string true) 4 "\0" "'8\\f.\\T\"'" "" (writes 0 "8f.T\"") ∷
+    asks (string false) 4 "\0" "'%''\\\"'" "" (writes 0 "%'\\\"") ∷
+    asks (string true) 4 "\0" "'%''\\\"'" "" (cramped "%'\"") ∷
+    asks (string false) 4 "" "'''â\u{80}¯Â\u{80}'''''" "" (writes 0 "'â\u{80}¯Â\u{80}''") ∷
     asks (string false) 4 "" "'Y'''''" "" (writes 0 "Y''") ∷
     asks (string true) 4 "" "'Y'''''" "" (writes 0 "Y''") ∷
     asks (string false) 4 "" "'\t'" "" (borrows 1 2 "\t") ∷
-    asks (string true) 4 "= " "'\\\"'\\\u{c3}\u{a9}\\x\\\"\\8'" "\u{c3}\u{a9}" (refuses 6) ∷
+    asks (string true) 4 "= " "'\\\"'\\Ã©\\x\\\"\\8'" "Ã©" (refuses 6) ∷
     asks (string false) 4 "" "'''''\\R'" "" (writes 5 "''\\R") ∷
     asks (string true) 4 "" "'''''\\R'" "" (writes 5 "''R") ∷
-    asks (string false) 4 "\u{0}" "'\"\\\u{f0}\u{9f}\u{98}\u{80}\\ZU'" "$$" (borrows 2 11 "\"\\\u{f0}\u{9f}\u{98}\u{80}\\ZU") ∷
-    asks (string true) 4 "\u{0}" "'\"\\\u{f0}\u{9f}\u{98}\u{80}\\ZU'" "$$" (writes 0 "\"\u{f0}\u{9f}\u{98}\u{80}\u{1a}U") ∷
-    asks (string true) 4 "" "'e\\x\u{7f}\u{c2}\u{80}bn'" "" (cramped "ex\u{7f}\u{c2}\u{80}bn") ∷
+    asks (string false) 4 "\0" "'\"\\ð\u{9f}\u{98}\u{80}\\ZU'" "$$" (borrows 2 11 "\"\\ð\u{9f}\u{98}\u{80}\\ZU") ∷
+    asks (string true) 4 "\0" "'\"\\ð\u{9f}\u{98}\u{80}\\ZU'" "$$" (writes 0 "\"ð\u{9f}\u{98}\u{80}\u{1a}U") ∷
+    asks (string true) 4 "" "'e\\x\u{7f}Â\u{80}bn'" "" (cramped "ex\u{7f}Â\u{80}bn") ∷
     asks (string false) 4 "" "'.\\'''''\"'" "$$" (refuses 6) ∷
     asks (string true) 4 "" "'.\\'''''\"'" "$$" (writes 5 ".'''\"") ∷
-    asks (string false) 4 "" "'Ze,\u{0}\\%\t'" "" (refuses 6) ∷
-    asks (string false) 4 "\u{0}" "'F\\z''8\\8E'" "" (writes 0 "F\\z'8\\8E") ∷
-    asks (string true) 4 "\u{0}" "'F\\z''8\\8E'" "" (writes 0 "Fz'88E") ∷
+    asks (string false) 4 "" "'Ze,\0\\%\t'" "" (refuses 6) ∷
+    asks (string false) 4 "\0" "'F\\z''8\\8E'" "" (writes 0 "F\\z'8\\8E") ∷
+    asks (string true) 4 "\0" "'F\\z''8\\8E'" "" (writes 0 "Fz'88E") ∷
     asks (string true) 4 "" "'\\' \\8\t'" "" (writes 1 "' 8\t") ∷
     asks (string true) 4 "" "'\\R\\%'" "" (writes 5 "R\\%") ∷
-    asks (string true) 4 "" "'\\n\u{ed}\u{9f}\u{bf}\u{e2}\u{80}\u{a8}'.'" "" (refuses 6) ∷
+    asks (string true) 4 "" "'\\ní\u{9f}¿â\u{80}¨'.'" "" (refuses 6) ∷
     asks (string false) 4 "" "'''\\')'" "" (refuses 6) ∷
     asks (string true) 4 "" "'''\\')'" "" (writes 0 "'')") ∷
     asks (string true) 4 "" "'\"o'" "" (borrows 1 3 "\"o") ∷
     asks (string true) 4 "" "'''\\N\"!(\n'" "" (writes 1 "'N\"!(\n") ∷
-    asks (string false) 4 "" "'%''\u{e2}\u{80}\u{8a})(1'" "" (cramped "%'\u{e2}\u{80}\u{8a})(1") ∷
-    asks (string true) 4 "" "'%''\u{e2}\u{80}\u{8a})(1'" "" (writes 1 "%'\u{e2}\u{80}\u{8a})(1") ∷
-    asks (string false) 4 "" "'\u{0}\\0\u{ef}\u{bc}\u{99}\\B\u{0}F'" "" (refuses 6) ∷
+    asks (string false) 4 "" "'%''â\u{80}\u{8a})(1'" "" (cramped "%'â\u{80}\u{8a})(1") ∷
+    asks (string true) 4 "" "'%''â\u{80}\u{8a})(1'" "" (writes 1 "%'â\u{80}\u{8a})(1") ∷
+    asks (string false) 4 "" "'\0\\0ï¼\u{99}\\B\0F'" "" (refuses 6) ∷
     asks (string true) 4 "" "'''uc\\Z'" "" (cramped "'uc\u{1a}") ∷
-    asks (string true) 4 "" "'\u{e0}\u{a0}\u{80}#%'" "" (borrows 1 6 "\u{e0}\u{a0}\u{80}#%") ∷
+    asks (string true) 4 "" "'à\u{a0}\u{80}#%'" "" (borrows 1 6 "à\u{a0}\u{80}#%") ∷
     asks (string false) 4 "" "'''UY'" "" (writes 0 "'UY") ∷
-    asks (string true) 4 "1" "'U''\\_Zg'" "\u{0}" (cramped "U'\\_Zg") ∷
-    asks (string false) 4 "" "'''g\u{0}N;'" "" (refuses 6) ∷
-    asks (string true) 4 "" "'''g\u{0}N;'" "" (refuses 6) ∷
+    asks (string true) 4 "1" "'U''\\_Zg'" "\0" (cramped "U'\\_Zg") ∷
+    asks (string false) 4 "" "'''g\0N;'" "" (refuses 6) ∷
+    asks (string true) 4 "" "'''g\0N;'" "" (refuses 6) ∷
     asks (string false) 4 "" "'\\'\\n\\r''\\R\\T'" "" (refuses 6) ∷
-    asks (string false) 4 "\u{c3}\u{a9}" "'u\\R\\\u{f0}\u{9f}\u{98}\u{80}$'" "= " (borrows 3 12 "u\\R\\\u{f0}\u{9f}\u{98}\u{80}$") ∷
-    asks (string true) 4 "\u{c3}\u{a9}" "'u\\R\\\u{f0}\u{9f}\u{98}\u{80}$'" "= " (writes 5 "uR\u{f0}\u{9f}\u{98}\u{80}$") ∷
-    asks (string false) 4 "x" "'|\\Tu\"'''" "\u{e3}\u{80}\u{80}" (cramped "|\\Tu\"'") ∷
+    asks (string false) 4 "Ã©" "'u\\R\\ð\u{9f}\u{98}\u{80}$'" "= " (borrows 3 12 "u\\R\\ð\u{9f}\u{98}\u{80}$") ∷
+    asks (string true) 4 "Ã©" "'u\\R\\ð\u{9f}\u{98}\u{80}$'" "= " (writes 5 "uRð\u{9f}\u{98}\u{80}$") ∷
+    asks (string false) 4 "x" "'|\\Tu\"'''" "ã\u{80}\u{80}" (cramped "|\\Tu\"'") ∷
     asks (string false) 4 "" "'\\x'''''" "" (writes 1 "\\x''") ∷
     asks (string true) 4 "" "'\\x'''''" "" (cramped "x''") ∷
     asks (string true) 4 "" "'\\\"'''" "" (cramped "\"'") ∷
     asks (string false) 4 "" "'9\n'" "" (borrows 1 3 "9\n") ∷
     asks (string true) 4 "" "'9\n'" "" (borrows 1 3 "9\n") ∷
-    asks (string true) 4 "" "'e&+\"\u{c2}\u{80}'" "" (borrows 1 7 "e&+\"\u{c2}\u{80}") ∷
+    asks (string true) 4 "" "'e&+\"Â\u{80}'" "" (borrows 1 7 "e&+\"Â\u{80}") ∷
     asks (string false) 4 "" "'E\"\"9'" "1" (borrows 1 5 "E\"\"9") ∷
     asks (string true) 4 "" "'\n\\nN'" "x" (writes 1 "\n\nN") ∷
-    asks (string false) 4 "" "'&''\u{c5}\u{bf}\\''" "" (refuses 6) ∷
+    asks (string false) 4 "" "'&''Å¿\\''" "" (refuses 6) ∷
     asks (string false) 4 "" "\"\\\"\"-\"\"9\\\"\"\"\"" "" (refuses 6) ∷
-    asks (string false) 4 "" "\"g'+\u{f0}\u{9f}\u{98}\u{80}b\"" "" (borrows 1 9 "g'+\u{f0}\u{9f}\u{98}\u{80}b") ∷
+    asks (string false) 4 "" "\"g'+ð\u{9f}\u{98}\u{80}b\"" "" (borrows 1 9 "g'+ð\u{9f}\u{98}\u{80}b") ∷
     asks (string true) 4 "" "\"\"" "" (borrows 1 1 "") ∷
     asks (string false) 4 "" "\"0G\\B \"" "" (borrows 1 6 "0G\\B ") ∷
-    asks (string false) 4 "'" "\"(\u{0}\"\"\u{ee}\u{80}\u{80}\\z\"" "" (refuses 6) ∷
-    asks (string true) 4 "'" "\"(\u{0}\"\"\u{ee}\u{80}\u{80}\\z\"" "" (refuses 6) ∷
-    asks (string true) 4 "" "\"\\b\"\"\u{f4}\u{8f}\u{bf}\u{bf}\"" "" (writes 0 "\u{8}\"\u{f4}\u{8f}\u{bf}\u{bf}") ∷
-    asks (string false) 4 "" "\"\\_x\u{c3}\u{a9},1\\R\"" "\\" (borrows 1 10 "\\_x\u{c3}\u{a9},1\\R") ∷
+    asks (string false) 4 "'" "\"(\0\"\"î\u{80}\u{80}\\z\"" "" (refuses 6) ∷
+    asks (string true) 4 "'" "\"(\0\"\"î\u{80}\u{80}\\z\"" "" (refuses 6) ∷
+    asks (string true) 4 "" "\"\\b\"\"ô\u{8f}¿¿\"" "" (writes 0 "\u{8}\"ô\u{8f}¿¿") ∷
+    asks (string false) 4 "" "\"\\_xÃ©,1\\R\"" "\\" (borrows 1 10 "\\_xÃ©,1\\R") ∷
     asks (string true) 4 "" "\"\\r\nGb\"" "1" (cramped "\r\nGb") ∷
     asks (string true) 4 "" "\"c\"" "" (borrows 1 2 "c") ∷
     asks (string false) 4 "" "\"'ZN\"\"" "" (refuses 6) ∷
     asks (string false) 4 "" "\"0\"" "" (borrows 1 2 "0") ∷
     asks (string true) 4 "" "\"0\"" "" (borrows 1 2 "0") ∷
-    asks (string false) 4 "" "\"\u{0}\\N\"" "= " (refuses 6) ∷
+    asks (string false) 4 "" "\"\0\\N\"" "= " (refuses 6) ∷
     asks (string true) 4 "" "\"\\N\\e\"" "" (cramped "Ne") ∷
     asks (string false) 4 "" "\"\"\"oE\"\"\"" "" (writes 0 "\"oE\"") ∷
-    asks (string false) 4 "" "\"\"\"#\\bG\u{f0}\u{90}\u{80}\u{80}\"" "" (cramped "\"#\\bG\u{f0}\u{90}\u{80}\u{80}") ∷
-    asks (string true) 4 "" "\"\\\"\"\\\"Ff\u{c5}\u{bf}G\"" "" (refuses 6) ∷
+    asks (string false) 4 "" "\"\"\"#\\bGð\u{90}\u{80}\u{80}\"" "" (cramped "\"#\\bGð\u{90}\u{80}\u{80}") ∷
+    asks (string true) 4 "" "\"\\\"\"\\\"FfÅ¿G\"" "" (refuses 6) ∷
     asks (string true) 4 "" "\"\r\"\"" "" (refuses 6) ∷
     asks (string true) 4 "" "\"\"\"'Na\"" "" (writes 0 "\"'Na") ∷
-    asks (string true) 4 "\u{e3}\u{80}\u{80}" "\"\\\"U\"\"\tZ\\0\"" "'" (writes 1 "\"U\"\tZ\u{0}") ∷
-    asks (string false) 4 "" "\"\u{df}\u{bf}\\\u{f0}\u{9f}\u{98}\u{80}\"" "" (borrows 1 8 "\u{df}\u{bf}\\\u{f0}\u{9f}\u{98}\u{80}") ∷
-    asks (string true) 4 "" "\"\u{df}\u{bf}\\\u{f0}\u{9f}\u{98}\u{80}\"" "" (writes 1 "\u{df}\u{bf}\u{f0}\u{9f}\u{98}\u{80}") ∷
+    asks (string true) 4 "ã\u{80}\u{80}" "\"\\\"U\"\"\tZ\\0\"" "'" (writes 1 "\"U\"\tZ\0") ∷
+    asks (string false) 4 "" "\"ß¿\\ð\u{9f}\u{98}\u{80}\"" "" (borrows 1 8 "ß¿\\ð\u{9f}\u{98}\u{80}") ∷
+    asks (string true) 4 "" "\"ß¿\\ð\u{9f}\u{98}\u{80}\"" "" (writes 1 "ß¿ð\u{9f}\u{98}\u{80}") ∷
     asks (string false) 4 "" "\"\\x%\"" "" (borrows 1 4 "\\x%") ∷
-    asks (string false) 4 "" "\"'\"\"\u{ef}\u{bf}\u{bf}\n9\"\"\"" "" (cramped "'\"\u{ef}\u{bf}\u{bf}\n9\"") ∷
+    asks (string false) 4 "" "\"'\"\"ï¿¿\n9\"\"\"" "" (cramped "'\"ï¿¿\n9\"") ∷
     asks (string false) 4 "" "\"\\%\"\"Y\"" "" (writes 5 "\\%\"Y") ∷
     asks (string true) 4 "" "\"\\%\"\"Y\"" "" (writes 5 "\\%\"Y") ∷
-    asks (string false) 4 "" "\"e\"\"\u{f0}\u{9f}\u{98}\u{80}#-\"" "" (writes 1 "e\"\u{f0}\u{9f}\u{98}\u{80}#-") ∷
-    asks (string true) 4 "\\" "\"\"\"!\u{1}\"" "\u{0}" (writes 0 "\"!\u{1}") ∷
-    asks (string true) 4 "" "\"-Y'Z,\u{ee}\u{80}\u{80}\"" "" (borrows 1 9 "-Y'Z,\u{ee}\u{80}\u{80}") ∷
-    asks (string true) 4 "" "\"\u{0}\u{0}\"\"8\"" "" (refuses 6) ∷
-    asks (string false) 4 "" "\"'\"\"\u{0}'\"" "" (refuses 6) ∷
-    asks (string false) 4 "" "\"\\Bn9\\r\\_\u{ed}\u{9f}\u{bf}\"" "" (borrows 1 12 "\\Bn9\\r\\_\u{ed}\u{9f}\u{bf}") ∷
+    asks (string false) 4 "" "\"e\"\"ð\u{9f}\u{98}\u{80}#-\"" "" (writes 1 "e\"ð\u{9f}\u{98}\u{80}#-") ∷
+    asks (string true) 4 "\\" "\"\"\"!\u{1}\"" "\0" (writes 0 "\"!\u{1}") ∷
+    asks (string true) 4 "" "\"-Y'Z,î\u{80}\u{80}\"" "" (borrows 1 9 "-Y'Z,î\u{80}\u{80}") ∷
+    asks (string true) 4 "" "\"\0\0\"\"8\"" "" (refuses 6) ∷
+    asks (string false) 4 "" "\"'\"\"\0'\"" "" (refuses 6) ∷
+    asks (string false) 4 "" "\"\\Bn9\\r\\_í\u{9f}¿\"" "" (borrows 1 12 "\\Bn9\\r\\_í\u{9f}¿") ∷
     asks (string false) 4 "" "\"\"\"f\"" "" (writes 5 "\"f") ∷
     asks (string false) 4 "" "\"\\\\\"" "" (borrows 1 3 "\\\\") ∷
     asks (string true) 4 "" "\"\\\\\"" "" (cramped "\\") ∷
-    asks (string false) 4 "" "\"\\\\\u{f4}\u{8f}\u{bf}\u{bf}\"" "" (borrows 1 7 "\\\\\u{f4}\u{8f}\u{bf}\u{bf}") ∷
-    asks (string true) 4 "" "\"\\\\\u{f4}\u{8f}\u{bf}\u{bf}\"" "" (cramped "\\\u{f4}\u{8f}\u{bf}\u{bf}") ∷
-    asks (string false) 4 "\\" "\"fG\"\"\\0\u{0}\"" "$$" (refuses 6) ∷
-    asks (string true) 4 "" "\"\\xN\\%\"\\\u{c3}\u{a9}Y\"" "" (refuses 6) ∷
+    asks (string false) 4 "" "\"\\\\ô\u{8f}¿¿\"" "" (borrows 1 7 "\\\\ô\u{8f}¿¿") ∷
+    asks (string true) 4 "" "\"\\\\ô\u{8f}¿¿\"" "" (cramped "\\ô\u{8f}¿¿") ∷
+    asks (string false) 4 "\\" "\"fG\"\"\\0\0\"" "$$" (refuses 6) ∷
+    asks (string true) 4 "" "\"\\xN\\%\"\\Ã©Y\"" "" (refuses 6) ∷
     asks (string false) 4 "" "\"\"\"g%\n\\\\\"\"\"" "" (writes 0 "\"g%\n\\\\\"") ∷
     asks (string true) 4 "" "\"\"\"g%\n\\\\\"\"\"" "" (writes 1 "\"g%\n\\\"") ∷
-    asks (string true) 4 "\u{0}" "\"'%\"\"\u{c5}\u{bf}\\t\"" "" (cramped "'%\"\u{c5}\u{bf}\t") ∷
+    asks (string true) 4 "\0" "\"'%\"\"Å¿\\t\"" "" (cramped "'%\"Å¿\t") ∷
     asks (string true) 4 "" "\"\"\"\"\"\"" "" (writes 5 "\"\"") ∷
     asks (string true) 4 "" "\"'\"" "" (borrows 1 2 "'") ∷
     asks (string false) 4 "" "\"'\\zG\"" "" (borrows 1 5 "'\\zG") ∷
     asks (string true) 4 "" "\"'\\zG\"" "" (writes 1 "'zG") ∷
-    asks (string true) 4 "" "\"\"\"" "\u{e3}\u{80}\u{80}" (refuses 6) ∷
+    asks (string true) 4 "" "\"\"\"" "ã\u{80}\u{80}" (refuses 6) ∷
     asks (string true) 4 "" "\"\\t\u{1}\u{1}0N\\Z\"" "" (writes 5 "\t\u{1}\u{1}0N\u{1a}") ∷
-    asks (string true) 4 "" "\"\u{e0}\u{a0}\u{80}\"" "" (borrows 1 4 "\u{e0}\u{a0}\u{80}") ∷
+    asks (string true) 4 "" "\"à\u{a0}\u{80}\"" "" (borrows 1 4 "à\u{a0}\u{80}") ∷
     asks (string false) 4 "" "\"%%u\"" "" (borrows 1 4 "%%u") ∷
-    asks (string false) 4 "" "\"$|\\\u{c3}\u{a9}\\T&\\z\"" "" (borrows 1 11 "$|\\\u{c3}\u{a9}\\T&\\z") ∷
-    asks (string true) 4 "" "\"$|\\\u{c3}\u{a9}\\T&\\z\"" "" (writes 5 "$|\u{c3}\u{a9}T&z") ∷
+    asks (string false) 4 "" "\"$|\\Ã©\\T&\\z\"" "" (borrows 1 11 "$|\\Ã©\\T&\\z") ∷
+    asks (string true) 4 "" "\"$|\\Ã©\\T&\\z\"" "" (writes 5 "$|Ã©T&z") ∷
     asks (string false) 4 "" "\"_N\"" "" (borrows 1 3 "_N") ∷
     asks (string true) 4 "" "\"_N\"" "" (borrows 1 3 "_N") ∷
-    asks (string false) 4 "$$" "\"'\\+\"" "\u{e3}\u{80}\u{80}" (borrows 3 6 "'\\+") ∷
-    asks (string true) 4 "" "\"g\\\u{f0}\u{9f}\u{98}\u{80}\u{0}xG\"" "\u{e3}\u{80}\u{80}" (refuses 6) ∷
+    asks (string false) 4 "$$" "\"'\\+\"" "ã\u{80}\u{80}" (borrows 3 6 "'\\+") ∷
+    asks (string true) 4 "" "\"g\\ð\u{9f}\u{98}\u{80}\0xG\"" "ã\u{80}\u{80}" (refuses 6) ∷
     asks (string true) 4 "" "\"#\"\"\"" "" (cramped "#\"") ∷
     asks (string true) 4 "" "\"\n\"\"e\\\"\"(9\"" "" (refuses 6) ∷
     asks (string true) 4 "'" "\"\\z\"" "$$" (writes 5 "z") ∷
     asks (string false) 4 "x" "\"\"\"\\n\\'\\f\"\"\"\"\"" "x" (writes 0 "\"\\n\\'\\f\"\"") ∷
     asks (string true) 4 "" "\"Z/G\"" "" (borrows 1 4 "Z/G") ∷
     asks (string false) 4 "" "\"#+\u{7f}b\"" "" (borrows 1 5 "#+\u{7f}b") ∷
-    asks (string false) 4 "" "\"\u{ed}\u{9f}\u{bf}'\\\u{c3}\u{a9}\\xo\"" "" (borrows 1 11 "\u{ed}\u{9f}\u{bf}'\\\u{c3}\u{a9}\\xo") ∷
-    asks (string false) 4 "1" "\"\\0\u{e0}\u{a0}\u{80}|-\"" "" (borrows 2 9 "\\0\u{e0}\u{a0}\u{80}|-") ∷
-    asks (string true) 4 "$$" "\"\\R%\"" "\u{0}" (writes 5 "R%") ∷
-    asks (string false) 4 "" "\"\u{0}#\"\"'.\"" "" (refuses 6) ∷
+    asks (string false) 4 "" "\"í\u{9f}¿'\\Ã©\\xo\"" "" (borrows 1 11 "í\u{9f}¿'\\Ã©\\xo") ∷
+    asks (string false) 4 "1" "\"\\0à\u{a0}\u{80}|-\"" "" (borrows 2 9 "\\0à\u{a0}\u{80}|-") ∷
+    asks (string true) 4 "$$" "\"\\R%\"" "\0" (writes 5 "R%") ∷
+    asks (string false) 4 "" "\"\0#\"\"'.\"" "" (refuses 6) ∷
     asks (string false) 4 "1" "\",\"\"+\\t;'\"" "" (writes 1 ",\"+\\t;'") ∷
     asks (string true) 4 "1" "\",\"\"+\\t;'\"" "" (writes 5 ",\"+\t;'") ∷
-    asks (string true) 4 "" "\"\u{c2}\u{85}\"\"\\Z_\"" "" (writes 5 "\u{c2}\u{85}\"\u{1a}_") ∷
+    asks (string true) 4 "" "\"Â\u{85}\"\"\\Z_\"" "" (writes 5 "Â\u{85}\"\u{1a}_") ∷
     asks (string false) 4 "" "\"g\"\"f\\T\"" "" (cramped "g\"f\\T") ∷
     asks (string true) 4 "" "\"g\"\"f\\T\"" "" (cramped "g\"fT") ∷
-    asks (string false) 4 "" "\"\u{1}\u{0}X\u{0}\"\"\"" "" (refuses 6) ∷
-    asks (string true) 4 "" "\"\u{1}\u{0}X\u{0}\"\"\"" "" (refuses 6) ∷
+    asks (string false) 4 "" "\"\u{1}\0X\0\"\"\"" "" (refuses 6) ∷
+    asks (string true) 4 "" "\"\u{1}\0X\0\"\"\"" "" (refuses 6) ∷
     asks (string true) 4 "1" "\"&a\"\"\"" "1" (writes 0 "&a\"") ∷
     asks (string true) 4 "" "\"\t'\"" "1" (borrows 1 3 "\t'") ∷
-    asks (string false) 4 "\u{0}" "\"\\\\'\"" "" (borrows 2 5 "\\\\'") ∷
+    asks (string false) 4 "\0" "\"\\\\'\"" "" (borrows 2 5 "\\\\'") ∷
     asks (string false) 4 "" "\"1F\\N/\\_\"" "" (borrows 1 8 "1F\\N/\\_") ∷
     asks (string true) 4 "" "\"1F\\N/\\_\"" "" (cramped "1FN/\\_") ∷
     asks (string true) 4 "" "\"\\_\"" "" (writes 1 "\\_") ∷
-    asks (string false) 4 "" "\"\\\u{c3}\u{a9}\\x\"\"n\"\"\"" "" (cramped "\\\u{c3}\u{a9}\\x\"n\"") ∷
-    asks (string true) 4 "" "\"\\\u{c3}\u{a9}\\x\"\"n\"\"\"" "" (writes 1 "\u{c3}\u{a9}x\"n\"") ∷
+    asks (string false) 4 "" "\"\\Ã©\\x\"\"n\"\"\"" "" (cramped "\\Ã©\\x\"n\"") ∷
+    asks (string true) 4 "" "\"\\Ã©\\x\"\"n\"\"\"" "" (writes 1 "Ã©x\"n\"") ∷
     asks (string true) 4 "" "\"X\\z$\"" "" (writes 0 "Xz$") ∷
     asks (string true) 4 "" "\"\"\"(\"" "" (writes 5 "\"(") ∷
     asks (string false) 4 "" "\"\\r\\x\"" "" (borrows 1 5 "\\r\\x") ∷
@@ -244,55 +244,55 @@ rows =
     asks (string false) 4 "" "\"'\"\"\"\"\"\"" "" (refuses 6) ∷
     asks (string true) 4 "" "\"\"\"'\"" "" (writes 0 "\"'") ∷
     asks (string true) 4 "" "\"''\"" "" (borrows 1 3 "''") ∷
-    asks (string false) 4 "" "\"\"\"\\Z\u{c3}\u{9f},\"" "" (writes 0 "\"\\Z\u{c3}\u{9f},") ∷
+    asks (string false) 4 "" "\"\"\"\\ZÃ\u{9f},\"" "" (writes 0 "\"\\ZÃ\u{9f},") ∷
     asks (string false) 4 "" "\"'\\r\"" "" (borrows 1 4 "'\\r") ∷
-    asks (string true) 4 "" "\"\\Z\\0&\"" "" (writes 1 "\u{1a}\u{0}&") ∷
+    asks (string true) 4 "" "\"\\Z\\0&\"" "" (writes 1 "\u{1a}\0&") ∷
     asks (string true) 4 "" "\"\\\\U\"" "" (writes 0 "\\U") ∷
-    asks (string false) 4 "" "\")\\\u{f0}\u{9f}\u{98}\u{80}\"" "" (borrows 1 7 ")\\\u{f0}\u{9f}\u{98}\u{80}") ∷
+    asks (string false) 4 "" "\")\\ð\u{9f}\u{98}\u{80}\"" "" (borrows 1 7 ")\\ð\u{9f}\u{98}\u{80}") ∷
     asks (string false) 4 "" "\"8!\"" "" (borrows 1 3 "8!") ∷
-    asks (string false) 4 "" "\"\"\"\\B\u{e2}\u{80}\u{80}E\\\"%\"" "" (refuses 6) ∷
-    asks (string true) 4 "" "\"\"\"\\B\u{e2}\u{80}\u{80}E\\\"%\"" "" (cramped "\"B\u{e2}\u{80}\u{80}E\"%") ∷
-    asks (string false) 4 "" "\"\\\"\\\u{c3}\u{a9}\\z\"" "" (refuses 6) ∷
-    asks (string true) 4 "" "\"\\\"\\\u{c3}\u{a9}\\z\"" "" (writes 1 "\"\u{c3}\u{a9}z") ∷
+    asks (string false) 4 "" "\"\"\"\\Bâ\u{80}\u{80}E\\\"%\"" "" (refuses 6) ∷
+    asks (string true) 4 "" "\"\"\"\\Bâ\u{80}\u{80}E\\\"%\"" "" (cramped "\"Bâ\u{80}\u{80}E\"%") ∷
+    asks (string false) 4 "" "\"\\\"\\Ã©\\z\"" "" (refuses 6) ∷
+    asks (string true) 4 "" "\"\\\"\\Ã©\\z\"" "" (writes 1 "\"Ã©z") ∷
     asks (string true) 4 "" "\"\\ru\\\"\"" "" (writes 1 "\ru\"") ∷
     asks (string false) 4 "$$" "\"\"u\"" "1" (refuses 6) ∷
     asks (string true) 4 "$$" "\"\"u\"" "1" (refuses 6) ∷
-    asks (string false) 4 "" "\"\u{e0}\u{a0}\u{80}\"n1\\\\\\0\"" "" (refuses 6) ∷
+    asks (string false) 4 "" "\"à\u{a0}\u{80}\"n1\\\\\\0\"" "" (refuses 6) ∷
     asks (string false) 4 "\\" "e'\"''\\U00000041'" "1" (writes 0 "\"'A") ∷
     asks (string true) 4 "\\" "e'\"''\\U00000041'" "1" (writes 0 "\"'A") ∷
-    asks (string false) 4 "" "e'\\x01f\u{0}'" "\u{e3}\u{80}\u{80}" (refuses 6) ∷
+    asks (string false) 4 "" "e'\\x01f\0'" "ã\u{80}\u{80}" (refuses 6) ∷
     asks (string false) 4 "" "E''" "" (borrows 2 2 "") ∷
-    asks (string false) 4 "" "e'\\4770\\1778'" "\u{e3}\u{80}\u{80}" (writes 5 "?0\u{7f}8") ∷
+    asks (string false) 4 "" "e'\\4770\\1778'" "ã\u{80}\u{80}" (writes 5 "?0\u{7f}8") ∷
     asks (string false) 4 "" "E'\\101g\\x00g\\u0000'" "" (refuses 6) ∷
-    asks (string false) 4 "" "e'\\u07FFX\\%'''" "" (cramped "\u{df}\u{bf}X%'") ∷
-    asks (string true) 4 "" "e'\\u07FFX\\%'''" "" (writes 0 "\u{df}\u{bf}X%'") ∷
+    asks (string false) 4 "" "e'\\u07FFX\\%'''" "" (cramped "ß¿X%'") ∷
+    asks (string true) 4 "" "e'\\u07FFX\\%'''" "" (writes 0 "ß¿X%'") ∷
     asks (string false) 4 "x" "E'\\U00000000'" "1" (refuses 6) ∷
     asks (string true) 4 "x" "E'\\U00000000'" "1" (refuses 6) ∷
     asks (string false) 4 "" "E'''_\\x4g\"'" "" (writes 1 "'_\u{4}g\"") ∷
     asks (string true) 4 "" "E'''_\\x4g\"'" "" (writes 0 "'_\u{4}g\"") ∷
     asks (string true) 4 "" "e''" "" (borrows 2 2 "") ∷
-    asks (string true) 4 "" "E'\\\u{0}\\101'" "" (refuses 6) ∷
+    asks (string true) 4 "" "E'\\\0\\101'" "" (refuses 6) ∷
     asks (string false) 4 "" "E'ZZ\\x1'" "" (writes 0 "ZZ\u{1}") ∷
-    asks (string false) 4 "\u{0}" "e'\\364\\x90\\x80\\x80'" "1" (refuses 6) ∷
+    asks (string false) 4 "\0" "e'\\364\\x90\\x80\\x80'" "1" (refuses 6) ∷
     asks (string false) 4 "" "E'\u{7f}'" "" (borrows 2 3 "\u{7f}") ∷
     asks (string true) 4 "" "E'\u{7f}'" "" (borrows 2 3 "\u{7f}") ∷
     asks (string false) 4 "1" "e'\\x414'" "" (writes 0 "A4") ∷
-    asks (string true) 4 "'" "E'\\x01'" "\u{e3}\u{80}\u{80}" (writes 0 "\u{1}") ∷
-    asks (string false) 4 "\u{0}" "E'\\4018\\4018'" "\\" (cramped "\u{1}8\u{1}8") ∷
-    asks (string true) 4 "\u{0}" "E'\\4018\\4018'" "\\" (writes 0 "\u{1}8\u{1}8") ∷
-    asks (string false) 4 "\u{0}" "E'\t'" "= " (borrows 3 4 "\t") ∷
+    asks (string true) 4 "'" "E'\\x01'" "ã\u{80}\u{80}" (writes 0 "\u{1}") ∷
+    asks (string false) 4 "\0" "E'\\4018\\4018'" "\\" (cramped "\u{1}8\u{1}8") ∷
+    asks (string true) 4 "\0" "E'\\4018\\4018'" "\\" (writes 0 "\u{1}8\u{1}8") ∷
+    asks (string false) 4 "\0" "E'\t'" "= " (borrows 3 4 "\t") ∷
     asks (string true) 4 "" "E'\\x04g\"'" "" (writes 0 "\u{4}g\"") ∷
-    asks (string false) 4 "\u{e3}\u{80}\u{80}" "E'\\n\\1778'''" "" (writes 5 "\n\u{7f}8'") ∷
-    asks (string true) 4 "\u{e3}\u{80}\u{80}" "E'\\n\\1778'''" "" (writes 0 "\n\u{7f}8'") ∷
+    asks (string false) 4 "ã\u{80}\u{80}" "E'\\n\\1778'''" "" (writes 5 "\n\u{7f}8'") ∷
+    asks (string true) 4 "ã\u{80}\u{80}" "E'\\n\\1778'''" "" (writes 0 "\n\u{7f}8'") ∷
     asks (string false) 4 "" "E'\\xc3\\xC3\\xA9\\xfF4'" "" (refuses 6) ∷
     asks (string true) 4 "" "E'\\xc3\\xC3\\xA9\\xfF4'" "" (refuses 6) ∷
     asks (string false) 4 "" "e'\\xE0\\x9f\\277\\u1'" "" (refuses 6) ∷
     asks (string false) 4 "" "e'\\xFF\\xA9\\777'" "" (refuses 6) ∷
     asks (string true) 4 "" "E'\\xE0\\x9F\\xBF\\uF600'" "" (refuses 6) ∷
-    asks (string false) 4 "\u{c3}\u{a9}" "e'\\uf600\\U0000DffF'\\f'" "" (refuses 6) ∷
-    asks (string true) 4 "\u{c3}\u{a9}" "e'\\uf600\\U0000DffF'\\f'" "" (refuses 6) ∷
+    asks (string false) 4 "Ã©" "e'\\uf600\\U0000DffF'\\f'" "" (refuses 6) ∷
+    asks (string true) 4 "Ã©" "e'\\uf600\\U0000DffF'\\f'" "" (refuses 6) ∷
     asks (string true) 4 "" "E'''\"'" "'" (writes 5 "'\"") ∷
-    asks (string true) 4 "" "E'\\\u{c3}\u{a9}'" "" (cramped "\u{c3}\u{a9}") ∷
+    asks (string true) 4 "" "E'\\Ã©'" "" (cramped "Ã©") ∷
     asks (string false) 4 "" "E'\\360\\237\\x98'" "" (refuses 6) ∷
     asks (string false) 4 "" "e'''\\37709\\uFFfg'" "" (refuses 6) ∷
     asks (string true) 4 "" "e'''\\37709\\uFFfg'" "" (refuses 6) ∷
@@ -306,63 +306,63 @@ rows =
     asks (string true) 4 "" "e'e\\08F\"'" "" (refuses 6) ∷
     asks (string false) 4 "" "E'\\U00000027'" "" (writes 0 "'") ∷
     asks (string false) 4 "" "E'0\\x414\\r\"'" "" (cramped "0A4\r\"") ∷
-    asks (string false) 4 "'" "E'\\u0000'" "\u{c3}\u{a9}" (refuses 6) ∷
-    asks (string true) 4 "'" "E'\\u0000'" "\u{c3}\u{a9}" (refuses 6) ∷
+    asks (string false) 4 "'" "E'\\u0000'" "Ã©" (refuses 6) ∷
+    asks (string true) 4 "'" "E'\\u0000'" "Ã©" (refuses 6) ∷
     asks (string false) 4 "" "e'\\251g\\uDfff'" "" (refuses 6) ∷
     asks (string true) 4 "" "e'\\251g\\uDfff'" "" (refuses 6) ∷
     asks (string true) 4 "" "E'\\x4g''\\x41f\\u'" "" (refuses 6) ∷
-    asks (string true) 4 "\\" "e'\\401g'" "\u{0}" (cramped "\u{1}g") ∷
+    asks (string true) 4 "\\" "e'\\401g'" "\0" (cramped "\u{1}g") ∷
     asks (string true) 4 "" "e'\\x00g\\xc3\\U00000027'" "" (refuses 6) ∷
     asks (string true) 4 "" "E'\\xC1\\277\\x7f'" "" (refuses 6) ∷
     asks (string false) 4 "" "e'\\xA9\\x80'''" "" (refuses 6) ∷
-    asks (string true) 4 "" "e'\\xC3\\xe0\\237\\277'" "\u{0}" (refuses 6) ∷
-    asks (string true) 4 "" "e'\\\u{0}'" "" (refuses 6) ∷
+    asks (string true) 4 "" "e'\\xC3\\xe0\\237\\277'" "\0" (refuses 6) ∷
+    asks (string true) 4 "" "e'\\\0'" "" (refuses 6) ∷
     asks (string true) 4 "" "e'\\200\\xf5\\x80\\x80\\200'" "" (refuses 6) ∷
     asks (string false) 4 "" "E'\\x0g\\477'" "" (refuses 6) ∷
-    asks (string true) 4 "$$" "E'''\\303\\x41\\4018'" "\u{c3}\u{a9}" (refuses 6) ∷
+    asks (string true) 4 "$$" "E'''\\303\\x41\\4018'" "Ã©" (refuses 6) ∷
     asks (string false) 4 "'" "E'\\v'" "$$" (writes 0 "v") ∷
-    asks (string false) 4 "'" "e'\\377'" "\u{0}" (refuses 6) ∷
+    asks (string false) 4 "'" "e'\\377'" "\0" (refuses 6) ∷
     asks (string false) 4 "" "e'''\\401\\X\u{7f}'" "" (writes 1 "'\u{1}X\u{7f}") ∷
-    asks (string false) 4 "" "e'\\342\\x82\\254\\t'" "1" (writes 0 "\u{e2}\u{82}\u{ac}\t") ∷
-    asks (string true) 4 "" "e'\\342\\x82\\254\\t'" "1" (writes 0 "\u{e2}\u{82}\u{ac}\t") ∷
-    asks (string false) 4 "x" "e'\\3030'" "\u{0}" (refuses 6) ∷
-    asks (string false) 4 "" "E'\\N\\355\\x9F\\xbF''0'" "" (writes 0 "N\u{ed}\u{9f}\u{bf}'0") ∷
-    asks (string true) 4 "" "E'\\N\\355\\x9F\\xbF''0'" "" (writes 1 "N\u{ed}\u{9f}\u{bf}'0") ∷
+    asks (string false) 4 "" "e'\\342\\x82\\254\\t'" "1" (writes 0 "â\u{82}¬\t") ∷
+    asks (string true) 4 "" "e'\\342\\x82\\254\\t'" "1" (writes 0 "â\u{82}¬\t") ∷
+    asks (string false) 4 "x" "e'\\3030'" "\0" (refuses 6) ∷
+    asks (string false) 4 "" "E'\\N\\355\\x9F\\xbF''0'" "" (writes 0 "Ní\u{9f}¿'0") ∷
+    asks (string true) 4 "" "E'\\N\\355\\x9F\\xbF''0'" "" (writes 1 "Ní\u{9f}¿'0") ∷
     asks (string true) 4 "" "E'\\_\\303\\U00010000'" "" (refuses 6) ∷
     asks (string false) 4 "" "E'N\\U00000027\\udC00'" "" (refuses 6) ∷
     asks (string true) 4 "" "E'N\\U00000027\\udC00'" "" (refuses 6) ∷
     asks (string false) 4 "" "e'\\xc1\\277)\\N'" "" (refuses 6) ∷
     asks (string true) 4 "" "e'\\xc1\\277)\\N'" "" (refuses 6) ∷
-    asks (string true) 4 "" "e'\\uFffF\\\u{c3}\u{a9}\\uDFff\\\"'" "" (refuses 6) ∷
+    asks (string true) 4 "" "e'\\uFffF\\Ã©\\uDFff\\\"'" "" (refuses 6) ∷
     asks (string false) 4 "" "e'-\\x41fF'''" "" (writes 0 "-AfF'") ∷
     asks (string true) 4 "" "e'-\\x41fF'''" "" (writes 1 "-AfF'") ∷
     asks (string true) 4 "" "e'b\\x01\\u0001'" "" (writes 0 "b\u{1}\u{1}") ∷
     asks (string false) 4 "" "e'\\x1g\\xed\\240\\x80'" "" (refuses 6) ∷
     asks (string true) 4 "" "e'\\x1g\\xed\\240\\x80'" "" (refuses 6) ∷
-    asks (string false) 4 "\u{e3}\u{80}\u{80}" "E'\\401g'''" "$$" (writes 0 "\u{1}g'") ∷
+    asks (string false) 4 "ã\u{80}\u{80}" "E'\\401g'''" "$$" (writes 0 "\u{1}g'") ∷
     asks (string false) 4 "" "E'X'" "" (borrows 2 3 "X") ∷
-    asks (string true) 4 "" "E'\\101\\\\\u{e1}\u{9a}\u{80}'" "" (writes 1 "A\\\u{e1}\u{9a}\u{80}") ∷
-    asks (string false) 4 "" "E'\\\u{0}('''" "" (refuses 6) ∷
+    asks (string true) 4 "" "E'\\101\\\\á\u{9a}\u{80}'" "" (writes 1 "A\\á\u{9a}\u{80}") ∷
+    asks (string false) 4 "" "E'\\\0('''" "" (refuses 6) ∷
     asks (string false) 4 "" "e'\\x41f\\u0000\\12\\401'" "" (refuses 6) ∷
-    asks (string false) 4 "" "e'$X9\\u0800'" "" (writes 0 "$X9\u{e0}\u{a0}\u{80}") ∷
-    asks (string true) 4 "" "e'$X9\\u0800'" "" (cramped "$X9\u{e0}\u{a0}\u{80}") ∷
+    asks (string false) 4 "" "e'$X9\\u0800'" "" (writes 0 "$X9à\u{a0}\u{80}") ∷
+    asks (string true) 4 "" "e'$X9\\u0800'" "" (cramped "$X9à\u{a0}\u{80}") ∷
     asks (string false) 4 "" "E'\\xf0\\237\\x98'" "" (refuses 6) ∷
-    asks (string true) 4 "\u{e3}\u{80}\u{80}" "e'\\X\\X\\x80\\xC3'" "1" (refuses 6) ∷
-    asks (string false) 4 "= " "e'\\360\\x9F\\x98\\x80'" "\u{c3}\u{a9}" (writes 5 "\u{f0}\u{9f}\u{98}\u{80}") ∷
-    asks (string true) 4 "= " "e'\\360\\x9F\\x98\\x80'" "\u{c3}\u{a9}" (writes 5 "\u{f0}\u{9f}\u{98}\u{80}") ∷
+    asks (string true) 4 "ã\u{80}\u{80}" "e'\\X\\X\\x80\\xC3'" "1" (refuses 6) ∷
+    asks (string false) 4 "= " "e'\\360\\x9F\\x98\\x80'" "Ã©" (writes 5 "ð\u{9f}\u{98}\u{80}") ∷
+    asks (string true) 4 "= " "e'\\360\\x9F\\x98\\x80'" "Ã©" (writes 5 "ð\u{9f}\u{98}\u{80}") ∷
     asks (string false) 4 "" "e'\\3778'" "" (refuses 6) ∷
-    asks (string false) 4 "1" "E'\\1018\\303\\x41\\v\\U'" "\u{0}" (refuses 6) ∷
+    asks (string false) 4 "1" "E'\\1018\\303\\x41\\v\\U'" "\0" (refuses 6) ∷
     asks (string true) 4 "" "E'\\400g\\U0000E000'" "" (refuses 6) ∷
-    asks (string false) 4 "\u{e3}\u{80}\u{80}" "e'g'" "1" (borrows 5 6 "g") ∷
-    asks (string true) 4 "\u{e3}\u{80}\u{80}" "e'g'" "1" (borrows 5 6 "g") ∷
+    asks (string false) 4 "ã\u{80}\u{80}" "e'g'" "1" (borrows 5 6 "g") ∷
+    asks (string true) 4 "ã\u{80}\u{80}" "e'g'" "1" (borrows 5 6 "g") ∷
     asks (string false) 4 "= " "E'8\\12g'" "1" (writes 5 "8\ng") ∷
     asks (string true) 4 "= " "E'8\\12g'" "1" (cramped "8\ng") ∷
     asks (string false) 4 "" "E'\\Z\\0008'" "" (refuses 6) ∷
     asks (string true) 4 "" "E'\\Z\\0008'" "" (refuses 6) ∷
-    asks (string true) 4 "'" "E'$\\\\'" "\u{0}" (cramped "$\\") ∷
+    asks (string true) 4 "'" "E'$\\\\'" "\0" (cramped "$\\") ∷
     asks (string false) 4 "" "E'\\U\\401'" "" (refuses 6) ∷
     asks (string true) 4 "" "E'\\U\\401'" "" (refuses 6) ∷
-    asks (string true) 4 "" "E'\\xE2\\x82\\xacY\\x7f'" "" (writes 5 "\u{e2}\u{82}\u{ac}Y\u{7f}") ∷
+    asks (string true) 4 "" "E'\\xE2\\x82\\xacY\\x7f'" "" (writes 5 "â\u{82}¬Y\u{7f}") ∷
     asks (string true) 4 "" "e'\\U0000007F'" "x" (writes 1 "\u{7f}") ∷
     asks (string false) 4 "" "e'''\\012''" "" (refuses 6) ∷
     asks (string false) 4 "" "e''''" "" (cramped "'") ∷
@@ -371,28 +371,28 @@ rows =
     asks (string false) 4 "" "e'\\3770\\U00000000'" "" (refuses 6) ∷
     asks (string false) 4 "" "E'\\udbfF\\x80E\\u'" "" (refuses 6) ∷
     asks (string false) 4 "" "e''-\\10'" "" (refuses 6) ∷
-    asks (string false) 4 "" "e'\\u0800\"'" "" (writes 0 "\u{e0}\u{a0}\u{80}\"") ∷
-    asks (string true) 4 "" "e'\\u0800\"'" "" (writes 5 "\u{e0}\u{a0}\u{80}\"") ∷
+    asks (string false) 4 "" "e'\\u0800\"'" "" (writes 0 "à\u{a0}\u{80}\"") ∷
+    asks (string true) 4 "" "e'\\u0800\"'" "" (writes 5 "à\u{a0}\u{80}\"") ∷
     asks (string false) 4 "" "E'\\00\\ud7FF\\xfF'" "" (refuses 6) ∷
-    asks (string true) 4 "" "e'\\u0800\\U0001F600'" "" (writes 5 "\u{e0}\u{a0}\u{80}\u{f0}\u{9f}\u{98}\u{80}") ∷
+    asks (string true) 4 "" "e'\\u0800\\U0001F600'" "" (writes 5 "à\u{a0}\u{80}ð\u{9f}\u{98}\u{80}") ∷
     asks (string false) 4 "" "e'\\v'" "" (writes 1 "v") ∷
-    asks (string false) 4 "" "E'\\xEd\\x9f\\xBf\\007%'''" "" (writes 5 "\u{ed}\u{9f}\u{bf}\u{7}%'") ∷
+    asks (string false) 4 "" "E'\\xEd\\x9f\\xBf\\007%'''" "" (writes 5 "í\u{9f}¿\u{7}%'") ∷
     asks (string false) 4 "" "e'\\X'" "" (writes 5 "X") ∷
-    asks (string false) 4 "" "e'\\ufFFF8\\_'" "" (cramped "\u{ef}\u{bf}\u{bf}8_") ∷
+    asks (string false) 4 "" "e'\\ufFFF8\\_'" "" (cramped "ï¿¿8_") ∷
     asks (string true) 4 "" "E'\\xFF4\\x4'" "" (refuses 6) ∷
     asks (string true) 4 "" "E'a'" "" (borrows 2 3 "a") ∷
     asks (string false) 4 "" "e'\\303e\\'" "" (refuses 6) ∷
-    asks (string false) 4 "\u{e3}\u{80}\u{80}" "E'\"\u{1}'" "= " (borrows 5 7 "\"\u{1}") ∷
-    asks (string true) 4 "" "E',\\303\\xA9\\u0001'" "" (writes 0 ",\u{c3}\u{a9}\u{1}") ∷
-    asks (string false) 4 "\u{0}" "E'(\\xA9'" "\u{e3}\u{80}\u{80}" (refuses 6) ∷
-    asks (string true) 4 "\u{0}" "E'(\\xA9'" "\u{e3}\u{80}\u{80}" (refuses 6) ∷
+    asks (string false) 4 "ã\u{80}\u{80}" "E'\"\u{1}'" "= " (borrows 5 7 "\"\u{1}") ∷
+    asks (string true) 4 "" "E',\\303\\xA9\\u0001'" "" (writes 0 ",Ã©\u{1}") ∷
+    asks (string false) 4 "\0" "E'(\\xA9'" "ã\u{80}\u{80}" (refuses 6) ∷
+    asks (string true) 4 "\0" "E'(\\xA9'" "ã\u{80}\u{80}" (refuses 6) ∷
     asks (string false) 4 "" "E'%b\\U0010FFF\\4008'" "" (refuses 6) ∷
     asks (string true) 4 "" "E'%b\\U0010FFF\\4008'" "" (refuses 6) ∷
-    asks (string false) 4 "\\" "E'\\xff\\xc3\\251\\_'" "\u{c3}\u{a9}" (refuses 6) ∷
-    asks (string false) 4 "\u{e3}\u{80}\u{80}" "e'\\U0000E000'" "1" (writes 0 "\u{ee}\u{80}\u{80}") ∷
+    asks (string false) 4 "\\" "E'\\xff\\xc3\\251\\_'" "Ã©" (refuses 6) ∷
+    asks (string false) 4 "ã\u{80}\u{80}" "e'\\U0000E000'" "1" (writes 0 "î\u{80}\u{80}") ∷
     asks (string true) 4 "" "E'\\x044'" "" (writes 0 "\u{4}4") ∷
-    asks (string true) 4 "" "e'\\360\\x9f\\x98\\x80EE'" "" (writes 5 "\u{f0}\u{9f}\u{98}\u{80}EE") ∷
-    asks (string false) 4 "" "E'\\xA9f''\\v\\\u{c3}\u{a9}'" "" (refuses 6) ∷
+    asks (string true) 4 "" "e'\\360\\x9f\\x98\\x80EE'" "" (writes 5 "ð\u{9f}\u{98}\u{80}EE") ∷
+    asks (string false) 4 "" "E'\\xA9f''\\v\\Ã©'" "" (refuses 6) ∷
     asks (string true) 4 "" "E'\"$'" "'" (borrows 2 4 "\"$") ∷
     asks (string false) 4 "" "E'\\x0U'" "" (refuses 6) ∷
     asks (string false) 4 "" "e'\"c'" "" (borrows 2 4 "\"c") ∷
@@ -400,8 +400,8 @@ rows =
     asks (string false) 4 "" "e'\\0120'" "" (cramped "\n0") ∷
     asks (string true) 4 "" "e'\\0120'" "" (writes 0 "\n0") ∷
     asks (string true) 4 "" "E'\\ue00g\"''\\303'" "" (refuses 6) ∷
-    asks (string false) 4 "\u{0}" "E'\"\r'" "1" (borrows 3 5 "\"\r") ∷
-    asks (string true) 4 "\u{0}" "E'\"\r'" "1" (borrows 3 5 "\"\r") ∷
+    asks (string false) 4 "\0" "E'\"\r'" "1" (borrows 3 5 "\"\r") ∷
+    asks (string true) 4 "\0" "E'\"\r'" "1" (borrows 3 5 "\"\r") ∷
     asks (string true) 4 "= " "e'\\x44\\251'" "'" (refuses 6) ∷
     asks (string false) 4 "" "E'\\101\\4010''" "" (refuses 6) ∷
     asks (string true) 4 "" "E'\\101\\4010''" "" (refuses 6) ∷
@@ -412,15 +412,15 @@ rows =
     asks (string true) 4 "" "e'\\U0000007f'" "" (cramped "\u{7f}") ∷
     asks (string true) 4 "" "E'''\\x41g\\x0'" "" (refuses 6) ∷
     asks (string false) 4 "$$" "e'\\x41'" "1" (writes 0 "A") ∷
-    asks (string false) 4 "" "E'\\U000007fF'''" "" (writes 0 "\u{df}\u{bf}'") ∷
+    asks (string false) 4 "" "E'\\U000007fF'''" "" (writes 0 "ß¿'") ∷
     asks (string false) 4 "" "e'\\a\\2518'" "" (refuses 6) ∷
-    asks (string false) 4 "" "E'\\x7F''\\177\\xE0\\240\\x80'" "\u{0}" (writes 0 "\u{7f}'\u{7f}\u{e0}\u{a0}\u{80}") ∷
-    asks (string false) 4 "" "E'\u{0}\\U00000001''c'" "" (refuses 6) ∷
-    asks (string true) 4 "" "E'\u{0}\\U00000001''c'" "" (refuses 6) ∷
-    asks (string true) 4 "\u{0}" "e'''\\012g'" "" (cramped "'\ng") ∷
+    asks (string false) 4 "" "E'\\x7F''\\177\\xE0\\240\\x80'" "\0" (writes 0 "\u{7f}'\u{7f}à\u{a0}\u{80}") ∷
+    asks (string false) 4 "" "E'\0\\U00000001''c'" "" (refuses 6) ∷
+    asks (string true) 4 "" "E'\0\\U00000001''c'" "" (refuses 6) ∷
+    asks (string true) 4 "\0" "e'''\\012g'" "" (cramped "'\ng") ∷
     asks (string true) 4 "" "E'%''\\xFF4'" "" (refuses 6) ∷
-    asks (string false) 4 "\u{e3}\u{80}\u{80}" "E'\\x0\\70X'" "" (refuses 6) ∷
-    asks (string true) 4 "\u{e3}\u{80}\u{80}" "E'\\x0\\70X'" "" (refuses 6) ∷
+    asks (string false) 4 "ã\u{80}\u{80}" "E'\\x0\\70X'" "" (refuses 6) ∷
+    asks (string true) 4 "ã\u{80}\u{80}" "E'\\x0\\70X'" "" (refuses 6) ∷
     asks (string false) 4 "" "E'#\\u0001'" "" (writes 0 "#\u{1}") ∷
     asks (string true) 4 "$$" "e'\\u0000\\xeD\\240\\x80'" "x" (refuses 6) ∷
     asks (string false) 4 "" "e'\\uDfFf\"\\U00000027u'" "" (refuses 6) ∷
@@ -429,9 +429,9 @@ rows =
     asks (string true) 4 "" "e'\\u0000\\X\\u000g'" "" (refuses 6) ∷
     asks (string false) 4 "" "E'f'" "" (borrows 2 3 "f") ∷
     asks (string false) 4 "" "e'a\\xc34f'" "" (refuses 6) ∷
-    asks (string false) 4 "" "e'\\303\\251'" "" (writes 0 "\u{c3}\u{a9}") ∷
+    asks (string false) 4 "" "e'\\303\\251'" "" (writes 0 "Ã©") ∷
     asks (string false) 4 "" "e'\\u0000'" "" (refuses 6) ∷
-    asks (string true) 4 "" "e'\\3770\u{0}'" "" (refuses 6) ∷
+    asks (string true) 4 "" "e'\\3770\0'" "" (refuses 6) ∷
     asks (string true) 4 "" "e'\\'\u{1}'" "" (cramped "'\u{1}") ∷
     asks (string false) 4 "" "E'\\x80\\xC3g\\1011'" "" (refuses 6) ∷
     asks (string true) 4 "" "E'\\x80\\xC3g\\1011'" "" (refuses 6) ∷
@@ -439,101 +439,101 @@ rows =
     asks (string false) 4 "" "E'\\001''\\377g'" "" (refuses 6) ∷
     asks (string true) 4 "" "e'\\xff'" "" (refuses 6) ∷
     asks (string false) 4 "" "E'\\N\\128'" "" (cramped "N\n8") ∷
-    asks (string false) 4 "" "e'\\u0080\\f'" "" (writes 0 "\u{c2}\u{80}\u{c}") ∷
-    asks (string true) 4 "" "E'\u{f0}\u{90}\u{80}\u{80}'''" "" (cramped "\u{f0}\u{90}\u{80}\u{80}'") ∷
-    asks (string false) 4 "\u{e3}\u{80}\u{80}" "E'\\120\\4008'" "\u{c3}\u{a9}" (refuses 6) ∷
+    asks (string false) 4 "" "e'\\u0080\\f'" "" (writes 0 "Â\u{80}\u{c}") ∷
+    asks (string true) 4 "" "E'ð\u{90}\u{80}\u{80}'''" "" (cramped "ð\u{90}\u{80}\u{80}'") ∷
+    asks (string false) 4 "ã\u{80}\u{80}" "E'\\120\\4008'" "Ã©" (refuses 6) ∷
     asks (string true) 4 "" "E'\\ufFFF\\uD7\\x0'" "" (refuses 6) ∷
-    asks (string false) 4 "" "E'\\\u{c3}\u{a9}\\\\;\\xc3\\xA9'" "" (cramped "\u{c3}\u{a9}\\;\u{c3}\u{a9}") ∷
-    asks (string false) 4 "" "E'''8\u{c2}\u{80}'" "" (writes 1 "'8\u{c2}\u{80}") ∷
-    asks (string false) 4 "" "e'\\x014%\u{c3}\u{9f}'" "" (cramped "\u{1}4%\u{c3}\u{9f}") ∷
+    asks (string false) 4 "" "E'\\Ã©\\\\;\\xc3\\xA9'" "" (cramped "Ã©\\;Ã©") ∷
+    asks (string false) 4 "" "E'''8Â\u{80}'" "" (writes 1 "'8Â\u{80}") ∷
+    asks (string false) 4 "" "e'\\x014%Ã\u{9f}'" "" (cramped "\u{1}4%Ã\u{9f}") ∷
     asks (string true) 4 "" "E'\\0010'" "" (writes 0 "\u{1}0") ∷
     asks (string true) 4 "'" "E'\\777'''" "'" (refuses 6) ∷
-    asks (string false) 4 "" "n''" "\u{e3}\u{80}\u{80}" (borrows 2 2 "") ∷
-    asks (string true) 4 "\u{c3}\u{a9}" "N'\"9\\\u{c3}\u{a9}'" "" (writes 1 "\"9\u{c3}\u{a9}") ∷
+    asks (string false) 4 "" "n''" "ã\u{80}\u{80}" (borrows 2 2 "") ∷
+    asks (string true) 4 "Ã©" "N'\"9\\Ã©'" "" (writes 1 "\"9Ã©") ∷
     asks (string false) 4 "" "N''" "" (borrows 2 2 "") ∷
-    asks (string false) 4 "" "n'9'" "\u{c3}\u{a9}" (borrows 2 3 "9") ∷
-    asks (string true) 4 "" "n'9'" "\u{c3}\u{a9}" (borrows 2 3 "9") ∷
-    asks (string true) 4 "" "n'\u{0}\\x;'" "" (refuses 6) ∷
+    asks (string false) 4 "" "n'9'" "Ã©" (borrows 2 3 "9") ∷
+    asks (string true) 4 "" "n'9'" "Ã©" (borrows 2 3 "9") ∷
+    asks (string true) 4 "" "n'\0\\x;'" "" (refuses 6) ∷
     asks (string false) 4 "\\" "N'\\'\\''''" "" (refuses 6) ∷
     asks (string true) 4 "\\" "N'\\'\\''''" "" (writes 0 "'''") ∷
-    asks (string true) 4 "= " "n'\\%\\b\\z\\\u{c3}\u{a9}o'" "\u{e3}\u{80}\u{80}" (writes 5 "\\%\u{8}z\u{c3}\u{a9}o") ∷
+    asks (string true) 4 "= " "n'\\%\\b\\z\\Ã©o'" "ã\u{80}\u{80}" (writes 5 "\\%\u{8}zÃ©o") ∷
     asks (string false) 4 "" "n'uo''''" "" (refuses 6) ∷
     asks (string true) 4 "" "n'uo''''" "" (refuses 6) ∷
     asks (string false) 4 "" "n''''" "" (writes 1 "'") ∷
     asks (string false) 4 "" "N'\".\\Z\\'''" "" (writes 0 "\".\\Z\\'") ∷
     asks (string true) 4 "" "N'\\\"''N'" "" (writes 5 "\"'N") ∷
     asks (string true) 4 "" "N'\"'' \\t '" "" (writes 0 "\"' \t ") ∷
-    asks (string false) 4 "= " "n'\\N\\\u{f0}\u{9f}\u{98}\u{80}%''E'" "$$" (writes 1 "\\N\\\u{f0}\u{9f}\u{98}\u{80}%'E") ∷
-    asks (string true) 4 "= " "n'\\N\\\u{f0}\u{9f}\u{98}\u{80}%''E'" "$$" (writes 5 "N\u{f0}\u{9f}\u{98}\u{80}%'E") ∷
+    asks (string false) 4 "= " "n'\\N\\ð\u{9f}\u{98}\u{80}%''E'" "$$" (writes 1 "\\N\\ð\u{9f}\u{98}\u{80}%'E") ∷
+    asks (string true) 4 "= " "n'\\N\\ð\u{9f}\u{98}\u{80}%''E'" "$$" (writes 5 "Nð\u{9f}\u{98}\u{80}%'E") ∷
     asks (string false) 4 "" "n'&''x'" "" (writes 5 "&'x") ∷
     asks (string true) 4 "" "N'\\\"c\\'''" "" (refuses 6) ∷
-    asks (string false) 4 "" "N'\\x\u{0}8e'" "" (refuses 6) ∷
-    asks (string true) 4 "" "N'\\x\u{0}8e'" "" (refuses 6) ∷
+    asks (string false) 4 "" "N'\\x\08e'" "" (refuses 6) ∷
+    asks (string true) 4 "" "N'\\x\08e'" "" (refuses 6) ∷
     asks (string true) 4 "" "N'\\''" "" (writes 0 "'") ∷
-    asks (string false) 4 "" "N'\"g''''\u{ef}\u{bc}\u{99}'" "" (cramped "\"g''\u{ef}\u{bc}\u{99}") ∷
-    asks (string false) 4 "" "N'\\'''\u{e0}\u{a0}\u{80} \"'" "" (refuses 6) ∷
-    asks (string true) 4 "" "N'\\'''\u{e0}\u{a0}\u{80} \"'" "" (writes 1 "''\u{e0}\u{a0}\u{80} \"") ∷
+    asks (string false) 4 "" "N'\"g''''ï¼\u{99}'" "" (cramped "\"g''ï¼\u{99}") ∷
+    asks (string false) 4 "" "N'\\'''à\u{a0}\u{80} \"'" "" (refuses 6) ∷
+    asks (string true) 4 "" "N'\\'''à\u{a0}\u{80} \"'" "" (writes 1 "''à\u{a0}\u{80} \"") ∷
     asks (string false) 4 "" "N'''-'' \u{7f}'" "" (writes 1 "'-' \u{7f}") ∷
     asks (string true) 4 "" "N'''-'' \u{7f}'" "" (writes 0 "'-' \u{7f}") ∷
     asks (string false) 4 "" "n'\\r-0'" "" (borrows 2 6 "\\r-0") ∷
     asks (string true) 4 "" "n'\\r-0'" "" (cramped "\r-0") ∷
     asks (string false) 4 "" "n''\\t\\%'" "" (refuses 6) ∷
     asks (string true) 4 "" "n''\\t\\%'" "" (refuses 6) ∷
-    asks (string false) 4 "'" "n'\\'1\\'\u{7f}\u{0}'" "= " (refuses 6) ∷
+    asks (string false) 4 "'" "n'\\'1\\'\u{7f}\0'" "= " (refuses 6) ∷
     asks (string true) 4 "" "n',''\\'b'" "" (writes 0 ",''b") ∷
     asks (string false) 4 "" "n'\"\u{7f}g'" "" (borrows 2 5 "\"\u{7f}g") ∷
     asks (string true) 4 "" "n'\"\u{7f}g'" "" (borrows 2 5 "\"\u{7f}g") ∷
     asks (string false) 4 "$$" "n'''%\\x'''" "1" (writes 1 "'%\\x'") ∷
     asks (string true) 4 "$$" "n'''%\\x'''" "1" (writes 1 "'%x'") ∷
     asks (string true) 4 "" "N'a\\f'" "" (writes 1 "af") ∷
-    asks (string false) 4 "'" "n'\\B\u{c3}\u{9f}\"\u{7f}'" "= " (borrows 3 9 "\\B\u{c3}\u{9f}\"\u{7f}") ∷
-    asks (string false) 4 "" "N'\u{ed}\u{9f}\u{bf}\\8'" "" (borrows 2 7 "\u{ed}\u{9f}\u{bf}\\8") ∷
-    asks (string true) 4 "" "N'\u{ed}\u{9f}\u{bf}\\8'" "" (cramped "\u{ed}\u{9f}\u{bf}8") ∷
+    asks (string false) 4 "'" "n'\\BÃ\u{9f}\"\u{7f}'" "= " (borrows 3 9 "\\BÃ\u{9f}\"\u{7f}") ∷
+    asks (string false) 4 "" "N'í\u{9f}¿\\8'" "" (borrows 2 7 "í\u{9f}¿\\8") ∷
+    asks (string true) 4 "" "N'í\u{9f}¿\\8'" "" (cramped "í\u{9f}¿8") ∷
     asks (string false) 4 "" "N'9\\\"'' '" "" (writes 0 "9\\\"' ") ∷
     asks (string true) 4 "" "N'9\\\"'' '" "" (writes 5 "9\"' ") ∷
     asks (string false) 4 "\\" "n'e''''" "1" (refuses 6) ∷
     asks (string true) 4 "\\" "n'e''''" "1" (refuses 6) ∷
-    asks (string true) 4 "" "N'\u{e2}\u{80}\u{80}g\\n'''" "" (writes 1 "\u{e2}\u{80}\u{80}g\n'") ∷
-    asks (string false) 4 "" "n'''\u{c3}\u{9f}\\R'" "" (writes 0 "'\u{c3}\u{9f}\\R") ∷
-    asks (string true) 4 "" "n'''\u{c3}\u{9f}\\R'" "" (writes 0 "'\u{c3}\u{9f}R") ∷
+    asks (string true) 4 "" "N'â\u{80}\u{80}g\\n'''" "" (writes 1 "â\u{80}\u{80}g\n'") ∷
+    asks (string false) 4 "" "n'''Ã\u{9f}\\R'" "" (writes 0 "'Ã\u{9f}\\R") ∷
+    asks (string true) 4 "" "n'''Ã\u{9f}\\R'" "" (writes 0 "'Ã\u{9f}R") ∷
     asks (string false) 4 "" "N'\\0\\_'" "" (borrows 2 6 "\\0\\_") ∷
     asks (string false) 4 "" "n'&|ZU'" "" (borrows 2 6 "&|ZU") ∷
     asks (string false) 4 "" "N'u\u{7f}\"'''''" "" (writes 0 "u\u{7f}\"''") ∷
     asks (string false) 4 "" "n'.Z'" "" (borrows 2 4 ".Z") ∷
     asks (string true) 4 "" "n'\\'''#'" "1" (writes 1 "''#") ∷
-    asks (string false) 4 "" "n'\u{f0}\u{9f}\u{98}\u{80}\t\\z'" "" (borrows 2 9 "\u{f0}\u{9f}\u{98}\u{80}\t\\z") ∷
+    asks (string false) 4 "" "n'ð\u{9f}\u{98}\u{80}\t\\z'" "" (borrows 2 9 "ð\u{9f}\u{98}\u{80}\t\\z") ∷
     asks (string false) 4 "1" "N''''" "$$" (cramped "'") ∷
-    asks (string true) 4 "" "n'''\\\u{c3}\u{a9}'' \\'" "" (writes 5 "'\u{c3}\u{a9}' \\") ∷
+    asks (string true) 4 "" "n'''\\Ã©'' \\'" "" (writes 5 "'Ã©' \\") ∷
     asks (string true) 4 "" "n'\\0\\f\\''\"'" "" (refuses 6) ∷
     asks (string false) 4 "" "n',1Z\\R'" "" (borrows 2 7 ",1Z\\R") ∷
     asks (string true) 4 "" "n',1Z\\R'" "" (writes 0 ",1ZR") ∷
     asks (string false) 4 "" "n'\\T '" "" (borrows 2 5 "\\T ") ∷
-    asks (string true) 4 "" "N'+\u{ef}\u{bf}\u{bf}'" "" (borrows 2 6 "+\u{ef}\u{bf}\u{bf}") ∷
+    asks (string true) 4 "" "N'+ï¿¿'" "" (borrows 2 6 "+ï¿¿") ∷
     asks (string false) 4 "1" "n'\\\n\\f'" "\\" (borrows 3 7 "\\\n\\f") ∷
     asks (string true) 4 "" "n'(1'" "" (borrows 2 4 "(1") ∷
     asks (string true) 4 "" "n'''./'" "" (writes 1 "'./") ∷
     asks (string false) 4 "" "n'/x'" "" (borrows 2 4 "/x") ∷
     asks (string true) 4 "" "n'E'" "" (borrows 2 3 "E") ∷
     asks (string true) 4 "" "N'\\Z\"'" "" (cramped "\u{1a}\"") ∷
-    asks (string false) 4 "'" "n'\u{f4}\u{8f}\u{bf}\u{bf}\\'" "\u{0}" (borrows 3 8 "\u{f4}\u{8f}\u{bf}\u{bf}\\") ∷
-    asks (string true) 4 "'" "n'\u{f4}\u{8f}\u{bf}\u{bf}\\'" "\u{0}" (writes 1 "\u{f4}\u{8f}\u{bf}\u{bf}\\") ∷
+    asks (string false) 4 "'" "n'ô\u{8f}¿¿\\'" "\0" (borrows 3 8 "ô\u{8f}¿¿\\") ∷
+    asks (string true) 4 "'" "n'ô\u{8f}¿¿\\'" "\0" (writes 1 "ô\u{8f}¿¿\\") ∷
     asks (string false) 4 "" "n'x'" "" (borrows 2 3 "x") ∷
     asks (string false) 4 "" "_z9'\"'" "" (borrows 4 5 "\"") ∷
     asks (string false) 4 "" "_a-b\"\"\"\"" "" (refuses 6) ∷
     asks (string true) 4 "" "_a-b\"\"\"\"" "" (refuses 6) ∷
     asks (string true) 4 "" "_Z'\"\\'''" "" (refuses 6) ∷
-    asks (string false) 4 "" "_\u{ef}\u{bd}\u{81}'\\B\u{1}&N\\t'" "" (refuses 6) ∷
-    asks (string false) 4 "" "__\"#\u{e2}\u{80}\u{8a}\u{0}\\\u{f0}\u{9f}\u{98}\u{80}\"" "" (refuses 6) ∷
-    asks (string false) 4 "'" "_Utf8\"\\B1u'\"" "\u{0}" (borrows 7 12 "\\B1u'") ∷
+    asks (string false) 4 "" "_ï½\u{81}'\\B\u{1}&N\\t'" "" (refuses 6) ∷
+    asks (string false) 4 "" "__\"#â\u{80}\u{8a}\0\\ð\u{9f}\u{98}\u{80}\"" "" (refuses 6) ∷
+    asks (string false) 4 "'" "_Utf8\"\\B1u'\"" "\0" (borrows 7 12 "\\B1u'") ∷
     asks (string false) 4 "" "_a\"\\%\\8\"" "" (borrows 3 7 "\\%\\8") ∷
     asks (string true) 4 "" "_a\"\\%\\8\"" "" (writes 1 "\\%8") ∷
     asks (string false) 4 "" "_B_2\"\"\"\"fg;\"" "" (refuses 6) ∷
     asks (string true) 4 "" "_a'X'" "" (borrows 3 4 "X") ∷
-    asks (string true) 4 "\u{0}" "_0''" "" (borrows 4 4 "") ∷
+    asks (string true) 4 "\0" "_0''" "" (borrows 4 4 "") ∷
     asks (string false) 4 "" "_z9'N\\''" "" (refuses 6) ∷
     asks (string true) 4 "" "_binary\"11\\f\\8\"" "'" (cramped "11f8") ∷
     asks (string false) 4 "x" "_B_2'\u{7f}9'" "" (borrows 6 8 "\u{7f}9") ∷
-    asks (string false) 4 "" "_Z'\u{e0}\u{a0}\u{80}\\f\\\u{e2}\u{80}\u{8a}'" "" (borrows 3 12 "\u{e0}\u{a0}\u{80}\\f\\\u{e2}\u{80}\u{8a}") ∷
+    asks (string false) 4 "" "_Z'à\u{a0}\u{80}\\f\\â\u{80}\u{8a}'" "" (borrows 3 12 "à\u{a0}\u{80}\\f\\â\u{80}\u{8a}") ∷
     asks (string false) 4 "" "_z9'!\\('" "" (borrows 4 7 "!\\(") ∷
     asks (string true) 4 "" "_B_2'\\'.''\\f'" "" (writes 5 "'.'f") ∷
     asks (string true) 4 "" "_binary'\\b'" "" (writes 0 "\u{8}") ∷
@@ -544,16 +544,16 @@ rows =
     asks (string false) 4 "" "_\"'\"\"\"" "" (refuses 6) ∷
     asks (string true) 4 "" "_Utf8'e'" "" (borrows 6 7 "e") ∷
     asks (string false) 4 "" "_latin1\"\"" "" (borrows 8 8 "") ∷
-    asks (string false) 4 "" "_B_2'\u{e0}\u{a0}\u{80}\"F'" "" (borrows 5 10 "\u{e0}\u{a0}\u{80}\"F") ∷
+    asks (string false) 4 "" "_B_2'à\u{a0}\u{80}\"F'" "" (borrows 5 10 "à\u{a0}\u{80}\"F") ∷
     asks (string true) 4 "" "_z9\"\"\"\"" "" (cramped "\"") ∷
-    asks (string false) 4 "\u{0}" "_utf8mb4\"\\x\"\"\\N\"\"|\"" "" (writes 0 "\\x\"\\N\"|") ∷
-    asks (string true) 4 "\u{0}" "_utf8mb4\"\\x\"\"\\N\"\"|\"" "" (writes 0 "x\"N\"|") ∷
+    asks (string false) 4 "\0" "_utf8mb4\"\\x\"\"\\N\"\"|\"" "" (writes 0 "\\x\"\\N\"|") ∷
+    asks (string true) 4 "\0" "_utf8mb4\"\\x\"\"\\N\"\"|\"" "" (writes 0 "x\"N\"|") ∷
     asks (string true) 4 "" "_latin1'\\b'" "" (writes 0 "\u{8}") ∷
     asks (string false) 4 "" "_z9''''" "" (writes 0 "'") ∷
     asks (string true) 4 "" "_binary\"U\\B\\8\"" "" (writes 0 "UB8") ∷
     asks (string true) 4 "" "_Z''" "" (borrows 3 3 "") ∷
     asks (string true) 4 "" "_latin1'\n'% #'" "" (refuses 6) ∷
-    asks (string false) 4 "\u{c3}\u{a9}" "_z9'\"_'" "$$" (borrows 6 8 "\"_") ∷
+    asks (string false) 4 "Ã©" "_z9'\"_'" "$$" (borrows 6 8 "\"_") ∷
     asks (string true) 4 "" "__'x\\n'" "" (writes 5 "x\n") ∷
     asks (string true) 4 "" "_a\"\"\"\"" "" (cramped "\"") ∷ []
 

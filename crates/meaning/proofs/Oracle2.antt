@@ -27,20 +27,20 @@ rows =
     asks (string false) 4 "" "_\"Z\\\"\"\"" "" (refuses 6) ∷
     asks (string true) 4 "" "_\"Z\\\"\"\"" "" (refuses 6) ∷
     asks (string false) 4 "" "_a-b'\\f\"'''" "" (refuses 6) ∷
-    asks (string false) 4 "" "_z9'/\u{ef}\u{bc}\u{99}xZ\\8'" "" (borrows 4 12 "/\u{ef}\u{bc}\u{99}xZ\\8") ∷
-    asks (string true) 4 "" "_z9'/\u{ef}\u{bc}\u{99}xZ\\8'" "" (writes 0 "/\u{ef}\u{bc}\u{99}xZ8") ∷
+    asks (string false) 4 "" "_z9'/ï¼\u{99}xZ\\8'" "" (borrows 4 12 "/ï¼\u{99}xZ\\8") ∷
+    asks (string true) 4 "" "_z9'/ï¼\u{99}xZ\\8'" "" (writes 0 "/ï¼\u{99}xZ8") ∷
     asks (string true) 4 "" "_z9'/\\n'" "" (writes 1 "/\n") ∷
     asks (string true) 4 "" "_Utf8''''" "" (writes 5 "'") ∷
-    asks (string false) 4 "" "_0'K\u{ef}\u{bf}\u{bf}_''''" "" (refuses 6) ∷
+    asks (string false) 4 "" "_0'Kï¿¿_''''" "" (refuses 6) ∷
     asks (string true) 4 "" "_z9'\\%'" "" (writes 5 "\\%") ∷
     asks (string false) 4 "" "_latin1'''\"Fa'" "\\" (writes 1 "'\"Fa") ∷
     asks (string false) 4 "" "_\";\\N\"\\_\\z\"" "" (refuses 6) ∷
     asks (string false) 4 "" "_a-b'\u{7f}('" "" (refuses 6) ∷
     asks (string true) 4 "" "_a-b'\u{7f}('" "" (refuses 6) ∷
-    asks (string false) 4 "" "_B_2'\u{f0}\u{90}\u{80}\u{80}''Z''|'" "" (cramped "\u{f0}\u{90}\u{80}\u{80}'Z'|") ∷
-    asks (string true) 4 "" "_B_2'\u{f0}\u{90}\u{80}\u{80}''Z''|'" "" (writes 5 "\u{f0}\u{90}\u{80}\u{80}'Z'|") ∷
-    asks (string false) 4 "" "_z9'\\%\\\u{f0}\u{9f}\u{98}\u{80}u'" "" (borrows 4 12 "\\%\\\u{f0}\u{9f}\u{98}\u{80}u") ∷
-    asks (string false) 4 "" "_\u{ef}\u{bd}\u{81}'\\t\\0 \u{0}" "" (refuses 6) ∷
+    asks (string false) 4 "" "_B_2'ð\u{90}\u{80}\u{80}''Z''|'" "" (cramped "ð\u{90}\u{80}\u{80}'Z'|") ∷
+    asks (string true) 4 "" "_B_2'ð\u{90}\u{80}\u{80}''Z''|'" "" (writes 5 "ð\u{90}\u{80}\u{80}'Z'|") ∷
+    asks (string false) 4 "" "_z9'\\%\\ð\u{9f}\u{98}\u{80}u'" "" (borrows 4 12 "\\%\\ð\u{9f}\u{98}\u{80}u") ∷
+    asks (string false) 4 "" "_ï½\u{81}'\\t\\0 \0" "" (refuses 6) ∷
     asks (string false) 4 "x" "_A\"f'\"\"\"" "1" (writes 5 "f'\"") ∷
     asks (string true) 4 "x" "_A\"f'\"\"\"" "1" (writes 1 "f'\"") ∷
     asks (string true) 4 "" "_0'''\n\"\\8'" "" (cramped "'\n\"8") ∷
@@ -53,9 +53,9 @@ rows =
     asks (string true) 4 "" "_Utf8\"u\"\"\"" "" (writes 0 "u\"") ∷
     asks (string false) 4 "" "_A\"\"\"\"" "" (writes 0 "\"") ∷
     asks (string false) 4 "" "_A'+''" "" (refuses 6) ∷
-    asks (string true) 4 "" "_\u{ef}\u{bd}\u{81}'\\NK''\\zx'" "" (refuses 6) ∷
-    asks (string true) 4 "\\" "_\u{ef}\u{bd}\u{81}'\\\u{f0}\u{9f}\u{98}\u{80}\u{c3}\u{a9}\\\"\u{0}'" "x" (refuses 6) ∷
-    asks (string false) 4 "" "_a '\\\u{c3}\u{a9}g\u{f0}\u{90}\u{80}\u{80}\\\"'" "" (refuses 6) ∷
+    asks (string true) 4 "" "_ï½\u{81}'\\NK''\\zx'" "" (refuses 6) ∷
+    asks (string true) 4 "\\" "_ï½\u{81}'\\ð\u{9f}\u{98}\u{80}Ã©\\\"\0'" "x" (refuses 6) ∷
+    asks (string false) 4 "" "_a '\\Ã©gð\u{90}\u{80}\u{80}\\\"'" "" (refuses 6) ∷
     asks (string false) 4 "" "_a-b\"&(\\_g\"" "" (refuses 6) ∷
     asks (string false) 4 "" "_binary'''_''\"b'" "" (writes 5 "'_'\"b") ∷
     asks (string true) 4 "" "_Utf8''" "" (borrows 6 6 "") ∷
@@ -66,19 +66,19 @@ rows =
     asks (string true) 4 "" "_Z\"\"" "\\" (borrows 3 3 "") ∷
     asks (string true) 4 "" "_0\"\"\"" "" (refuses 6) ∷
     asks (string true) 4 "" "_\"\\Ec\"" "" (refuses 6) ∷
-    asks (string true) 4 "'" "_a'\rf'" "\u{c3}\u{a9}" (borrows 4 6 "\rf") ∷
+    asks (string true) 4 "'" "_a'\rf'" "Ã©" (borrows 4 6 "\rf") ∷
     asks (string false) 4 "" "_a$'F\\\"u'" "" (refuses 6) ∷
     asks (string true) 4 "x" "_binary'\u{b}\"\\fF\\''" "" (writes 0 "\u{b}\"fF'") ∷
-    asks (string true) 4 "" "_utf8mb4'\\0\\bG'" "" (writes 0 "\u{0}\u{8}G") ∷
+    asks (string true) 4 "" "_utf8mb4'\\0\\bG'" "" (writes 0 "\0\u{8}G") ∷
     asks (string true) 4 "" "U&'\\\\\\004g\\FFFf'" "" (refuses 6) ∷
     asks (string false) 4 "" "u&''" "" (borrows 3 3 "") ∷
     asks (string false) 4 "" "u&'\u{7f}'" "" (borrows 3 4 "\u{7f}") ∷
     asks (string true) 4 "" "u&'\u{7f}'" "" (borrows 3 4 "\u{7f}") ∷
-    asks (string true) 4 "\u{e3}\u{80}\u{80}" "u&'\\D800'" "'" (refuses 6) ∷
-    asks (string true) 4 "" "u&'Y\\\\\\007f'\u{e2}\u{80}\u{8a}" "" (cramped "Y\\\u{7f}") ∷
+    asks (string true) 4 "ã\u{80}\u{80}" "u&'\\D800'" "'" (refuses 6) ∷
+    asks (string true) 4 "" "u&'Y\\\\\\007f'â\u{80}\u{8a}" "" (cramped "Y\\\u{7f}") ∷
     asks (string true) 4 "" "u&'\"\\DbfF \\E000'" "" (refuses 6) ∷
-    asks (string false) 4 "= " "U&''" "\u{e3}\u{80}\u{80}" (borrows 5 5 "") ∷
-    asks (string true) 4 "= " "U&''" "\u{e3}\u{80}\u{80}" (borrows 5 5 "") ∷
+    asks (string false) 4 "= " "U&''" "ã\u{80}\u{80}" (borrows 5 5 "") ∷
+    asks (string true) 4 "= " "U&''" "ã\u{80}\u{80}" (borrows 5 5 "") ∷
     asks (string true) 4 "" "U&'\\dBff\\E000E'" "" (refuses 6) ∷
     asks (string false) 4 "" "U&'\\d83D\\+00DFff\\'" "" (refuses 6) ∷
     asks (string true) 4 "" "U&'\\d83D\\+00DFff\\'" "" (refuses 6) ∷
@@ -90,9 +90,9 @@ rows =
     asks (string true) 4 "" "u&'\\\\u'" "" (writes 0 "\\u") ∷
     asks (string true) 4 "" "U&'a'" "" (borrows 3 4 "a") ∷
     asks (string true) 4 "" "u&'\\+000041g&''" "" (refuses 6) ∷
-    asks (string true) 4 "\u{0}" "U&'\\d83D\\E000'" "\u{c3}\u{a9}" (refuses 6) ∷
-    asks (string false) 4 "= " "u&'\\dBfF\\e000'" "\u{c3}\u{a9}" (refuses 6) ∷
-    asks (string true) 4 "= " "u&'\\dBfF\\e000'" "\u{c3}\u{a9}" (refuses 6) ∷
+    asks (string true) 4 "\0" "U&'\\d83D\\E000'" "Ã©" (refuses 6) ∷
+    asks (string false) 4 "= " "u&'\\dBfF\\e000'" "Ã©" (refuses 6) ∷
+    asks (string true) 4 "= " "u&'\\dBfF\\e000'" "Ã©" (refuses 6) ∷
     asks (string false) 4 "" "u&'\\+\\\\X\\+00D7Ff'" "" (refuses 6) ∷
     asks (string true) 4 "'" "U&'\\\\'" "= " (cramped "\\") ∷
     asks (string false) 4 "" "U&'Y\\+00005cg'" "1" (writes 0 "Y\\g") ∷
@@ -102,24 +102,24 @@ rows =
     asks (string true) 4 "" "U&'\\DBFf1\\E000g'  " "" (refuses 6) ∷
     asks (string false) 4 "" "U&'\\0001\"'" "" (writes 1 "\u{1}\"") ∷
     asks (string false) 4 "" "U&'\\d83D\\+00Dc00\\DbFF\\\\00411'" "" (refuses 6) ∷
-    asks (string false) 4 "\u{0}" "U&'\u{ed}\u{9f}\u{bf}'" "\u{c3}\u{a9}" (borrows 4 7 "\u{ed}\u{9f}\u{bf}") ∷
-    asks (string true) 4 "\u{0}" "U&'\u{ed}\u{9f}\u{bf}'" "\u{c3}\u{a9}" (borrows 4 7 "\u{ed}\u{9f}\u{bf}") ∷
-    asks (string true) 4 "" "U&'\\DbfF\\D800'" "\u{c3}\u{a9}" (refuses 6) ∷
+    asks (string false) 4 "\0" "U&'í\u{9f}¿'" "Ã©" (borrows 4 7 "í\u{9f}¿") ∷
+    asks (string true) 4 "\0" "U&'í\u{9f}¿'" "Ã©" (borrows 4 7 "í\u{9f}¿") ∷
+    asks (string true) 4 "" "U&'\\DbfF\\D800'" "Ã©" (refuses 6) ∷
     asks (string true) 4 "" "U&'' " "" (borrows 3 3 "") ∷
     asks (string false) 4 "" "U&'\"\\D800g\\0080'" "" (refuses 6) ∷
-    asks (string false) 4 "\u{c3}\u{a9}" "u&'b''g'" "\u{0}" (cramped "b'g") ∷
-    asks (string true) 4 "\u{c3}\u{a9}" "u&'b''g'" "\u{0}" (writes 5 "b'g") ∷
-    asks (string false) 4 "\u{c3}\u{a9}" "u&'\\\\\\x\u{1}\u{e2}\u{80}\u{8a}'  " "x" (refuses 6) ∷
-    asks (string true) 4 "\u{c3}\u{a9}" "u&'\\\\\\x\u{1}\u{e2}\u{80}\u{8a}'  " "x" (refuses 6) ∷
+    asks (string false) 4 "Ã©" "u&'b''g'" "\0" (cramped "b'g") ∷
+    asks (string true) 4 "Ã©" "u&'b''g'" "\0" (writes 5 "b'g") ∷
+    asks (string false) 4 "Ã©" "u&'\\\\\\x\u{1}â\u{80}\u{8a}'  " "x" (refuses 6) ∷
+    asks (string true) 4 "Ã©" "u&'\\\\\\x\u{1}â\u{80}\u{8a}'  " "x" (refuses 6) ∷
     asks (string true) 4 "'" "u&'1\\+00dfFf'" "" (refuses 6) ∷
     asks (string false) 4 "" "U&'8'" "" (borrows 3 4 "8") ∷
     asks (string true) 4 "" "U&'8'" "" (borrows 3 4 "8") ∷
     asks (string false) 4 "" "u&'U\\DbFf\\\\dFffY'" "" (refuses 6) ∷
-    asks (string false) 4 "" "u&'\u{0}\\D83D\\e000x'\u{c2}\u{a0}\n" "" (refuses 6) ∷
-    asks (string false) 4 "= " "U&'\"'" "\u{c3}\u{a9}" (borrows 5 6 "\"") ∷
+    asks (string false) 4 "" "u&'\0\\D83D\\e000x'Â\u{a0}\n" "" (refuses 6) ∷
+    asks (string false) 4 "= " "U&'\"'" "Ã©" (borrows 5 6 "\"") ∷
     asks (string false) 4 "" "U&'\"\\DbFf\\E000'" "" (refuses 6) ∷
     asks (string true) 4 "" "U&'\"\\DbFf\\E000'" "" (refuses 6) ∷
-    asks (string false) 4 "" "u&'\\+10Ffff1'" "" (writes 0 "\u{f4}\u{8f}\u{bf}\u{bf}1") ∷
+    asks (string false) 4 "" "u&'\\+10Ffff1'" "" (writes 0 "ô\u{8f}¿¿1") ∷
     asks (string false) 4 "" "U&''\\00001\\\\'" "" (refuses 6) ∷
     asks (string false) 4 "" "u&'\\+000001\\\\''''" "" (refuses 6) ∷
     asks (string true) 4 "" "u&'\\+000001\\\\''''" "" (refuses 6) ∷
@@ -127,28 +127,28 @@ rows =
     asks (string false) 4 "" "U&';''|'" "'" (writes 1 ";'|") ∷
     asks (string true) 4 "" "U&';''|'" "'" (writes 0 ";'|") ∷
     asks (string true) 4 "" "U&'\"\\\\\\07fF\\+000000'" "" (refuses 6) ∷
-    asks (string true) 4 "" "U&'\\d7ff\\fFfF1'" "" (writes 1 "\u{ed}\u{9f}\u{bf}\u{ef}\u{bf}\u{bf}1") ∷
+    asks (string true) 4 "" "U&'\\d7ff\\fFfF1'" "" (writes 1 "í\u{9f}¿ï¿¿1") ∷
     asks (string true) 4 "" "U&'\\+00dBFF1'" "" (refuses 6) ∷
     asks (string true) 4 "" "U&'\u{7f}''\\\\'" "" (writes 0 "\u{7f}'\\") ∷
     asks (string false) 4 "" "u&'\\\\'" "" (writes 0 "\\") ∷
     asks (string true) 4 "" "u&'\\\\'" "" (writes 0 "\\") ∷
-    asks (string true) 4 "" "U&'\\+0007fF\\DbFf\\dE00'" "" (cramped "\u{df}\u{bf}\u{f4}\u{8f}\u{b8}\u{80}") ∷
-    asks (string true) 4 "" "U&'\\+000080'" "" (writes 0 "\u{c2}\u{80}") ∷
-    asks (string true) 4 "\\" "U&'\\DFFfg'" "\u{c3}\u{a9}" (refuses 6) ∷
+    asks (string true) 4 "" "U&'\\+0007fF\\DbFf\\dE00'" "" (cramped "ß¿ô\u{8f}¸\u{80}") ∷
+    asks (string true) 4 "" "U&'\\+000080'" "" (writes 0 "Â\u{80}") ∷
+    asks (string true) 4 "\\" "U&'\\DFFfg'" "Ã©" (refuses 6) ∷
     asks (string true) 4 "" "u&'\\DfFFg\u{1}'" "" (refuses 6) ∷
     asks (string true) 4 "" "U&'''\"\\\\ '" "" (writes 0 "'\"\\ ") ∷
-    asks (string true) 4 "" "U&'''/''\\\\'\u{e1}\u{9a}\u{80}" "" (cramped "'/'\\") ∷
+    asks (string true) 4 "" "U&'''/''\\\\'á\u{9a}\u{80}" "" (cramped "'/'\\") ∷
     asks (string false) 4 "" "u&'\\\\\\d800\\D800'''" "" (refuses 6) ∷
     asks (string true) 4 "" "u&'\\\\\\d800\\D800'''" "" (refuses 6) ∷
-    asks (string true) 4 "" "U&'\\\\/\\0041\\D7fFg'" "" (writes 1 "\\/A\u{ed}\u{9f}\u{bf}g") ∷
+    asks (string true) 4 "" "U&'\\\\/\\0041\\D7fFg'" "" (writes 1 "\\/Aí\u{9f}¿g") ∷
     asks (string false) 4 "" "u&'''\u{7f}'" "" (cramped "'\u{7f}") ∷
     asks (string false) 4 "" "u&'\\+0041'" "" (refuses 6) ∷
     asks (string true) 4 "" "u&'\\+0041'" "" (refuses 6) ∷
-    asks (string true) 4 "" "U&'\\+000080-\\+00d7Ff%'" "" (writes 5 "\u{c2}\u{80}-\u{ed}\u{9f}\u{bf}%") ∷
+    asks (string true) 4 "" "U&'\\+000080-\\+00d7Ff%'" "" (writes 5 "Â\u{80}-í\u{9f}¿%") ∷
     asks (string false) 4 "$$" "u&' \"'" "'" (borrows 5 7 " \"") ∷
     asks (string true) 4 "$$" "u&' \"'" "'" (borrows 5 7 " \"") ∷
-    asks (string false) 4 "\u{c3}\u{a9}" "u&'\\0000\\\\'" "x" (refuses 6) ∷
-    asks (string true) 4 "\u{c3}\u{a9}" "u&'\\0000\\\\'" "x" (refuses 6) ∷
+    asks (string false) 4 "Ã©" "u&'\\0000\\\\'" "x" (refuses 6) ∷
+    asks (string true) 4 "Ã©" "u&'\\0000\\\\'" "x" (refuses 6) ∷
     asks (string true) 4 "" "u&'\\d7ffg\\n'" "" (refuses 6) ∷
     asks (string false) 4 "\\" "U&'\\dBFF\\d83D\\D800'" "1" (refuses 6) ∷
     asks (string true) 4 "\\" "U&'\\dBFF\\d83D\\D800'" "1" (refuses 6) ∷
@@ -159,176 +159,176 @@ rows =
     asks (string true) 4 "" "U&'\\+000000'" "" (refuses 6) ∷
     asks (string false) 4 "" "u&'&\\\\'" "" (writes 5 "&\\") ∷
     asks (string true) 4 "" "u&'\\D7FFg\\0000'" "" (refuses 6) ∷
-    asks (string true) 4 "" "U&'\\DbfF\\dE00&'" "" (writes 1 "\u{f4}\u{8f}\u{b8}\u{80}&") ∷
-    asks (string false) 4 "" "U&'\\0800' " "" (writes 0 "\u{e0}\u{a0}\u{80}") ∷
-    asks (string true) 4 "" "U&'\\0800' " "" (writes 0 "\u{e0}\u{a0}\u{80}") ∷
-    asks (string true) 4 "\u{0}" "u&'\\Ffff''\\\\\\\\'" "\u{0}" (writes 0 "\u{ef}\u{bf}\u{bf}'\\\\") ∷
-    asks (string false) 4 "" "u&'\\D83D\\dc00''\u{1}'" "" (writes 0 "\u{f0}\u{9f}\u{90}\u{80}'\u{1}") ∷
-    asks (string true) 4 "" "u&'\\D83D\\dc00''\u{1}'" "" (cramped "\u{f0}\u{9f}\u{90}\u{80}'\u{1}") ∷
+    asks (string true) 4 "" "U&'\\DbfF\\dE00&'" "" (writes 1 "ô\u{8f}¸\u{80}&") ∷
+    asks (string false) 4 "" "U&'\\0800' " "" (writes 0 "à\u{a0}\u{80}") ∷
+    asks (string true) 4 "" "U&'\\0800' " "" (writes 0 "à\u{a0}\u{80}") ∷
+    asks (string true) 4 "\0" "u&'\\Ffff''\\\\\\\\'" "\0" (writes 0 "ï¿¿'\\\\") ∷
+    asks (string false) 4 "" "u&'\\D83D\\dc00''\u{1}'" "" (writes 0 "ð\u{9f}\u{90}\u{80}'\u{1}") ∷
+    asks (string true) 4 "" "u&'\\D83D\\dc00''\u{1}'" "" (cramped "ð\u{9f}\u{90}\u{80}'\u{1}") ∷
     asks (string true) 4 "" "u&'\n\\d800\\D800\\dfff'" "" (refuses 6) ∷
     asks (string false) 4 "= " "U&''''''" "" (writes 0 "''") ∷
-    asks (string false) 4 "" "u&'E'" "\u{e3}\u{80}\u{80}" (borrows 3 4 "E") ∷
-    asks (string true) 4 "" "u&'E'" "\u{e3}\u{80}\u{80}" (borrows 3 4 "E") ∷
+    asks (string false) 4 "" "u&'E'" "ã\u{80}\u{80}" (borrows 3 4 "E") ∷
+    asks (string true) 4 "" "u&'E'" "ã\u{80}\u{80}" (borrows 3 4 "E") ∷
     asks (string false) 4 "" "u&'\\0000\\D83D\\DFFF'" "" (refuses 6) ∷
     asks (string false) 4 "" "u&'''U'" "" (writes 0 "'U") ∷
-    asks (string true) 4 "= " "U&'\\07ff'" "" (cramped "\u{df}\u{bf}") ∷
+    asks (string true) 4 "= " "U&'\\07ff'" "" (cramped "ß¿") ∷
     asks (string false) 4 "" "u&''''" "" (writes 0 "'") ∷
     asks (string false) 4 "= " "u&'\\DBfF \\+00dfFf'" "= " (refuses 6) ∷
-    asks (string false) 4 "" "u&'\\FFFF'" "" (writes 0 "\u{ef}\u{bf}\u{bf}") ∷
-    asks (string true) 4 "" "u&'\\FFFF'" "" (writes 0 "\u{ef}\u{bf}\u{bf}") ∷
-    asks (string true) 4 "" "u&'\u{0}\\004''!' \u{e2}\u{80}\u{a8}" "" (refuses 6) ∷
-    asks (string true) 4 "" "U&'\\d7ff\\ffffg'" "\u{c3}\u{a9}" (cramped "\u{ed}\u{9f}\u{bf}\u{ef}\u{bf}\u{bf}g") ∷
+    asks (string false) 4 "" "u&'\\FFFF'" "" (writes 0 "ï¿¿") ∷
+    asks (string true) 4 "" "u&'\\FFFF'" "" (writes 0 "ï¿¿") ∷
+    asks (string true) 4 "" "u&'\0\\004''!' â\u{80}¨" "" (refuses 6) ∷
+    asks (string true) 4 "" "U&'\\d7ff\\ffffg'" "Ã©" (cramped "í\u{9f}¿ï¿¿g") ∷
     asks (string true) 4 "" "u&'\"'" "" (borrows 3 4 "\"") ∷
     asks (string false) 4 "" "U&'''" "" (refuses 6) ∷
     asks (string false) 4 "" "u&'\\+00007F\\DffF\"'" "" (refuses 6) ∷
     asks (string false) 4 "" "U&'\"\\0800g\\0000g'" "" (refuses 6) ∷
     asks (string false) 4 "" "U&'#G'" "" (borrows 3 5 "#G") ∷
     asks (string true) 4 "" "U&'#G'" "" (borrows 3 5 "#G") ∷
-    asks (string false) 4 "" "U&'\n\\E000\u{df}\u{bf}'" "" (writes 0 "\n\u{ee}\u{80}\u{80}\u{df}\u{bf}") ∷
+    asks (string false) 4 "" "U&'\n\\E000ß¿'" "" (writes 0 "\nî\u{80}\u{80}ß¿") ∷
     asks (string false) 4 "" "u&'\"'''" "" (writes 1 "\"'") ∷
-    asks (string true) 4 "" "U&'\\+00E000g'" "" (writes 5 "\u{ee}\u{80}\u{80}g") ∷
-    asks (string true) 4 "" "U&'\u{0}\\+00fFFfg\\\\\\07fF'" "" (refuses 6) ∷
-    asks (string true) 4 "" "U&'\\\\'\u{c2}\u{a0}\n" "" (writes 0 "\\") ∷
-    asks (string false) 4 "" "u&'\\0800g'''" "" (writes 5 "\u{e0}\u{a0}\u{80}g'") ∷
-    asks (string true) 4 "" "u&''UeScape\u{0}'\u{e2}\u{80}\u{8b}'" "" (refuses 6) ∷
-    asks (string false) 4 "\u{e3}\u{80}\u{80}" "u&'_007f\\'uEScAPe '_'" "x" (writes 1 "\u{7f}\\") ∷
+    asks (string true) 4 "" "U&'\\+00E000g'" "" (writes 5 "î\u{80}\u{80}g") ∷
+    asks (string true) 4 "" "U&'\0\\+00fFFfg\\\\\\07fF'" "" (refuses 6) ∷
+    asks (string true) 4 "" "U&'\\\\'Â\u{a0}\n" "" (writes 0 "\\") ∷
+    asks (string false) 4 "" "u&'\\0800g'''" "" (writes 5 "à\u{a0}\u{80}g'") ∷
+    asks (string true) 4 "" "u&''UeScape\0'â\u{80}\u{8b}'" "" (refuses 6) ∷
+    asks (string false) 4 "ã\u{80}\u{80}" "u&'_007f\\'uEScAPe '_'" "x" (writes 1 "\u{7f}\\") ∷
     asks (string false) 4 "\\" "U&''  UESCAPe'!!'" "" (refuses 6) ∷
     asks (string false) 4 "" "u&''uEscAPe '!'" "" (borrows 3 3 "") ∷
     asks (string true) 4 "" "u&''uEscAPe '!'" "" (borrows 3 3 "") ∷
     asks (string false) 4 "1" "U&'' UeSCAPe\t '&'" "" (borrows 4 4 "") ∷
-    asks (string false) 4 "x" "u&'\"xx'ueSCApE\u{c2}\u{85} 'x'" "1" (writes 1 "\"x") ∷
-    asks (string true) 4 "x" "u&'\"xx'ueSCApE\u{c2}\u{85} 'x'" "1" (writes 0 "\"x") ∷
+    asks (string false) 4 "x" "u&'\"xx'ueSCApEÂ\u{85} 'x'" "1" (writes 1 "\"x") ∷
+    asks (string true) 4 "x" "u&'\"xx'ueSCApEÂ\u{85} 'x'" "1" (writes 0 "\"x") ∷
     asks (string false) 4 "'" "u&'U'uescaPe'!'" "'" (borrows 4 5 "U") ∷
     asks (string true) 4 "'" "u&'U'uescaPe'!'" "'" (borrows 4 5 "U") ∷
-    asks (string false) 4 "" "U&''uescape'\u{f0}\u{9f}\u{98}\u{80}'" "" (borrows 3 3 "") ∷
-    asks (string true) 4 "" "U&''uescape'\u{f0}\u{9f}\u{98}\u{80}'" "" (borrows 3 3 "") ∷
-    asks (string false) 4 "" "U&''''''\u{e2}\u{80}\u{a9}UESCAP\u{c3}\u{a9}'\\'" "" (refuses 6) ∷
+    asks (string false) 4 "" "U&''uescape'ð\u{9f}\u{98}\u{80}'" "" (borrows 3 3 "") ∷
+    asks (string true) 4 "" "U&''uescape'ð\u{9f}\u{98}\u{80}'" "" (borrows 3 3 "") ∷
+    asks (string false) 4 "" "U&''''''â\u{80}©UESCAPÃ©'\\'" "" (refuses 6) ∷
     asks (string false) 4 "" "U&'n'\ruEscApe\u{1c}''" "" (refuses 6) ∷
     asks (string true) 4 "" "U&'n'\ruEscApe\u{1c}''" "" (refuses 6) ∷
-    asks (string true) 4 "" "u&'\\' \u{c2}\u{a0}UESCAPEE\u{c}'$'" "" (refuses 6) ∷
+    asks (string true) 4 "" "u&'\\' Â\u{a0}UESCAPEE\u{c}'$'" "" (refuses 6) ∷
     asks (string true) 4 "" "u&'' uesCApE'!' " "" (refuses 6) ∷
-    asks (string false) 4 "\u{0}" "u&'\"\u{f0}\u{9f}\u{98}\u{80}DC00'\rUeScAPe" "\u{c3}\u{a9}" (refuses 6) ∷
-    asks (string true) 4 "\u{0}" "u&'\"\u{f0}\u{9f}\u{98}\u{80}DC00'\rUeScAPe" "\u{c3}\u{a9}" (refuses 6) ∷
-    asks (string false) 4 "\u{e3}\u{80}\u{80}" "u&''uescApE 'x'" "$$" (borrows 6 6 "") ∷
-    asks (string true) 4 "\u{e3}\u{80}\u{80}" "u&''uescApE 'x'" "$$" (borrows 6 6 "") ∷
+    asks (string false) 4 "\0" "u&'\"ð\u{9f}\u{98}\u{80}DC00'\rUeScAPe" "Ã©" (refuses 6) ∷
+    asks (string true) 4 "\0" "u&'\"ð\u{9f}\u{98}\u{80}DC00'\rUeScAPe" "Ã©" (refuses 6) ∷
+    asks (string false) 4 "ã\u{80}\u{80}" "u&''uescApE 'x'" "$$" (borrows 6 6 "") ∷
+    asks (string true) 4 "ã\u{80}\u{80}" "u&''uescApE 'x'" "$$" (borrows 6 6 "") ∷
     asks (string false) 4 "" "U&'\\'UESCApE 'x'" "" (borrows 3 4 "\\") ∷
     asks (string true) 4 "" "U&'\\'UESCApE 'x'" "" (borrows 3 4 "\\") ∷
     asks (string false) 4 "" "U&''uEscApe \r'_'" "" (borrows 3 3 "") ∷
     asks (string true) 4 "" "U&'' uESCaPE\u{b}'\\'" "" (borrows 3 3 "") ∷
-    asks (string true) 4 "" "U&'' UESCapE  '\u{e2}\u{80}\u{8b}'" "" (borrows 3 3 "") ∷
-    asks (string false) 4 "" "U&'' \rUescAPe \u{e2}\u{80}\u{8a}'\u{c2}\u{85}'" "" (refuses 6) ∷
-    asks (string true) 4 "" "U&'' \rUescAPe \u{e2}\u{80}\u{8a}'\u{c2}\u{85}'" "" (refuses 6) ∷
-    asks (string false) 4 "\u{e3}\u{80}\u{80}" "U&''\u{c}UeSCaPE\u{e2}\u{81}\u{9f} 'g'" "\u{0}" (borrows 6 6 "") ∷
-    asks (string false) 4 "" "U&'\u{ee}\u{80}\u{80}% ' UEScApe\u{c2}\u{85}'''" "" (refuses 6) ∷
+    asks (string true) 4 "" "U&'' UESCapE  'â\u{80}\u{8b}'" "" (borrows 3 3 "") ∷
+    asks (string false) 4 "" "U&'' \rUescAPe â\u{80}\u{8a}'Â\u{85}'" "" (refuses 6) ∷
+    asks (string true) 4 "" "U&'' \rUescAPe â\u{80}\u{8a}'Â\u{85}'" "" (refuses 6) ∷
+    asks (string false) 4 "ã\u{80}\u{80}" "U&''\u{c}UeSCaPEâ\u{81}\u{9f} 'g'" "\0" (borrows 6 6 "") ∷
+    asks (string false) 4 "" "U&'î\u{80}\u{80}% ' UEScApeÂ\u{85}'''" "" (refuses 6) ∷
     asks (string true) 4 "" "U&'!!'  UEsCaPE  '!'" "" (writes 0 "!") ∷
-    asks (string false) 4 "\\" "u&'' uescap\u{b} '\u{0}'" "x" (refuses 6) ∷
+    asks (string false) 4 "\\" "u&'' uescap\u{b} '\0'" "x" (refuses 6) ∷
     asks (string false) 4 "" "u&'\"g0027g\"'uEsCAPe'g'" "" (refuses 6) ∷
-    asks (string false) 4 "" "u&'' UEScapE\u{e2}\u{80}\u{80} ' '" "" (refuses 6) ∷
-    asks (string true) 4 "" "u&'''\u{e3}\u{80}\u{80}+110000g\u{e3}\u{80}\u{80}DBfF'uEscape\"\u{e3}\u{80}\u{80}\"" "" (refuses 6) ∷
-    asks (string true) 4 "" "u&''UeScapE\u{e2}\u{80}\u{8a}_" "" (refuses 6) ∷
-    asks (string false) 4 "" "U&'G'\u{e2}\u{80}\u{af}UEScApe\u{8}'g'" "" (refuses 6) ∷
-    asks (string true) 4 "" "U&'G'\u{e2}\u{80}\u{af}UEScApe\u{8}'g'" "" (refuses 6) ∷
+    asks (string false) 4 "" "u&'' UEScapEâ\u{80}\u{80} ' '" "" (refuses 6) ∷
+    asks (string true) 4 "" "u&'''ã\u{80}\u{80}+110000gã\u{80}\u{80}DBfF'uEscape\"ã\u{80}\u{80}\"" "" (refuses 6) ∷
+    asks (string true) 4 "" "u&''UeScapEâ\u{80}\u{8a}_" "" (refuses 6) ∷
+    asks (string false) 4 "" "U&'G'â\u{80}¯UEScApe\u{8}'g'" "" (refuses 6) ∷
+    asks (string true) 4 "" "U&'G'â\u{80}¯UEScApe\u{8}'g'" "" (refuses 6) ∷
     asks (string false) 4 "" "u&''''UEsCApe ''''" "" (refuses 6) ∷
-    asks (string false) 4 "" "u&''\n\tUeScaPE\u{c2}\u{85}\u{c2}\u{a0}'\\'" "" (borrows 3 3 "") ∷
+    asks (string false) 4 "" "u&''\n\tUeScaPEÂ\u{85}Â\u{a0}'\\'" "" (borrows 3 3 "") ∷
     asks (string false) 4 "" "U&''\r uEScAPE'!'" "" (borrows 3 3 "") ∷
     asks (string true) 4 "" "U&''\r uEScAPE'!'" "" (borrows 3 3 "") ∷
-    asks (string true) 4 "" "U&''\u{e2}\u{81}\u{9f}UEscapE'$'" "" (borrows 3 3 "") ∷
+    asks (string true) 4 "" "U&''â\u{81}\u{9f}UEscapE'$'" "" (borrows 3 3 "") ∷
     asks (string true) 4 "= " "U&'' uEsCApe\u{8}'!'" "$$" (refuses 6) ∷
-    asks (string true) 4 "" "U&'!'''\rUeSCaPE\u{e1}\u{9a}\u{80} '!'" "" (refuses 6) ∷
+    asks (string true) 4 "" "U&'!'''\rUeSCaPEá\u{9a}\u{80} '!'" "" (refuses 6) ∷
     asks (string false) 4 "" "u&'''' ueScape'!'" "" (writes 1 "'") ∷
     asks (string false) 4 "" "u&'''uescAPE 'x'" "" (refuses 6) ∷
-    asks (string false) 4 "" "u&''\u{b}\ruescap  '\u{f0}\u{9f}\u{98}\u{80}'" "" (refuses 6) ∷
+    asks (string false) 4 "" "u&''\u{b}\ruescap  'ð\u{9f}\u{98}\u{80}'" "" (refuses 6) ∷
     asks (string true) 4 "" "u&''uEScApE'x'" "" (borrows 3 3 "") ∷
     asks (string false) 4 "" "U&'9'uEscApE '9'" "" (refuses 6) ∷
     asks (string true) 4 "" "U&'9'uEscApE '9'" "" (refuses 6) ∷
-    asks (string true) 4 "'" "U&'''' UESCape'\u{e3}\u{80}\u{80}'" "1" (refuses 6) ∷
+    asks (string true) 4 "'" "U&'''' UESCape'ã\u{80}\u{80}'" "1" (refuses 6) ∷
     asks (string true) 4 "" "U&''Uescape'g'" "" (borrows 3 3 "") ∷
-    asks (string true) 4 "" "U&'\"' \u{c}uESCAPe'\u{c3}\u{a9}'" "" (borrows 3 4 "\"") ∷
-    asks (string false) 4 "\\" "U&'\n'UesCape'\u{f0}\u{9f}\u{98}\u{80}'" "1" (borrows 4 5 "\n") ∷
-    asks (string true) 4 "\\" "U&'\n'UesCape'\u{f0}\u{9f}\u{98}\u{80}'" "1" (borrows 4 5 "\n") ∷
+    asks (string true) 4 "" "U&'\"' \u{c}uESCAPe'Ã©'" "" (borrows 3 4 "\"") ∷
+    asks (string false) 4 "\\" "U&'\n'UesCape'ð\u{9f}\u{98}\u{80}'" "1" (borrows 4 5 "\n") ∷
+    asks (string true) 4 "\\" "U&'\n'UesCape'ð\u{9f}\u{98}\u{80}'" "1" (borrows 4 5 "\n") ∷
     asks (string false) 4 "= " "u&''\u{b}UEScAPe  ''''" "x" (refuses 6) ∷
     asks (string true) 4 "" "u&''UEscAPE  '&'" "" (borrows 3 3 "") ∷
     asks (string false) 4 "" "u&'u' uEScApE\r'g'" "" (borrows 3 4 "u") ∷
     asks (string true) 4 "" "u&'u' uEScApE\r'g'" "" (borrows 3 4 "u") ∷
-    asks (string true) 4 "" "u&'F'\u{e2}\u{80}\u{a9} uesCAPE\u{c2}\u{85}\u{e3}\u{80}\u{80}' '" "" (refuses 6) ∷
-    asks (string true) 4 "" "u&'\\''' UesCaPE\u{e2}\u{80}\u{8b}\"'\"" "" (refuses 6) ∷
-    asks (string true) 4 "= " "u&''  uesCaPE\u{e1}\u{9a}\u{80}'$'" "\u{c3}\u{a9}" (borrows 5 5 "") ∷
-    asks (string false) 4 "" "u&'!!!+00D7FF1'\u{e2}\u{80}\u{8a}\u{c2}\u{85}ueScape\u{c2}\u{85}'!'" "" (cramped "!\u{ed}\u{9f}\u{bf}1") ∷
-    asks (string true) 4 "" "u&'!!!+00D7FF1'\u{e2}\u{80}\u{8a}\u{c2}\u{85}ueScape\u{c2}\u{85}'!'" "" (writes 0 "!\u{ed}\u{9f}\u{bf}1") ∷
-    asks (string false) 4 "'" "U&''\u{e3}\u{80}\u{81}UE\u{c5}\u{bf}CAPE'\\'" "\u{0}" (refuses 6) ∷
-    asks (string true) 4 "\u{e3}\u{80}\u{80}" "u&'!+000041g!+000001'  UEsCApE '!'" "" (writes 0 "Ag\u{1}") ∷
+    asks (string true) 4 "" "u&'F'â\u{80}© uesCAPEÂ\u{85}ã\u{80}\u{80}' '" "" (refuses 6) ∷
+    asks (string true) 4 "" "u&'\\''' UesCaPEâ\u{80}\u{8b}\"'\"" "" (refuses 6) ∷
+    asks (string true) 4 "= " "u&''  uesCaPEá\u{9a}\u{80}'$'" "Ã©" (borrows 5 5 "") ∷
+    asks (string false) 4 "" "u&'!!!+00D7FF1'â\u{80}\u{8a}Â\u{85}ueScapeÂ\u{85}'!'" "" (cramped "!í\u{9f}¿1") ∷
+    asks (string true) 4 "" "u&'!!!+00D7FF1'â\u{80}\u{8a}Â\u{85}ueScapeÂ\u{85}'!'" "" (writes 0 "!í\u{9f}¿1") ∷
+    asks (string false) 4 "'" "U&''ã\u{80}\u{81}UEÅ¿CAPE'\\'" "\0" (refuses 6) ∷
+    asks (string true) 4 "ã\u{80}\u{80}" "u&'!+000041g!+000001'  UEsCApE '!'" "" (writes 0 "Ag\u{1}") ∷
     asks (string false) 4 "" "u&''ueScAPe\u{1f}'x'" "" (refuses 6) ∷
     asks (string true) 4 "" "u&''ueScAPe\u{1f}'x'" "" (refuses 6) ∷
-    asks (string false) 4 "= " "U&''\u{ef}\u{bb}\u{bf}ueScAPE \t'F'" "" (refuses 6) ∷
-    asks (string true) 4 "= " "U&''\u{ef}\u{bb}\u{bf}ueScAPE \t'F'" "" (refuses 6) ∷
-    asks (string true) 4 "" "u&''''\u{e2}\u{80}\u{af}uESCaPe'!'" "" (writes 0 "'") ∷
-    asks (string false) 4 "$$" "u&'&d8001&+00007F'\u{e3}\u{80}\u{80}\nUEscAPe'&'" "x" (refuses 6) ∷
-    asks (string true) 4 "$$" "u&'&d8001&+00007F'\u{e3}\u{80}\u{80}\nUEscAPe'&'" "x" (refuses 6) ∷
+    asks (string false) 4 "= " "U&''ï»¿ueScAPE \t'F'" "" (refuses 6) ∷
+    asks (string true) 4 "= " "U&''ï»¿ueScAPE \t'F'" "" (refuses 6) ∷
+    asks (string true) 4 "" "u&''''â\u{80}¯uESCaPe'!'" "" (writes 0 "'") ∷
+    asks (string false) 4 "$$" "u&'&d8001&+00007F'ã\u{80}\u{80}\nUEscAPe'&'" "x" (refuses 6) ∷
+    asks (string true) 4 "$$" "u&'&d8001&+00007F'ã\u{80}\u{80}\nUEscAPe'&'" "x" (refuses 6) ∷
     asks (string true) 4 "1" "u&'x'UEscApe'x'" "x" (refuses 6) ∷
-    asks (string true) 4 "" "u&''uEscape\u{e2}\u{80}\u{a9} 'g" "" (refuses 6) ∷
+    asks (string true) 4 "" "u&''uEscapeâ\u{80}© 'g" "" (refuses 6) ∷
     asks (string false) 4 "" "u&'''\"' UescApe'__'" "" (refuses 6) ∷
-    asks (string true) 4 "" "u&''''UEScape\u{e2}\u{81}\u{9f} '\u{c3}\u{a9}'" "" (writes 0 "'") ∷
+    asks (string true) 4 "" "u&''''UEScapeâ\u{81}\u{9f} 'Ã©'" "" (writes 0 "'") ∷
     asks (string false) 4 "" "U&''\u{1c}ueSCaPE'!' " "" (refuses 6) ∷
     asks (string true) 4 "" "U&''\u{1c}ueSCaPE'!' " "" (refuses 6) ∷
-    asks (string false) 4 "" "U&''\u{1c}UEScApE \u{e2}\u{80}\u{8a}'g'" "" (refuses 6) ∷
-    asks (string true) 4 "" "U&'Z'\r escape\u{e2}\u{80}\u{af} '\u{c3}\u{a9}'" "" (refuses 6) ∷
+    asks (string false) 4 "" "U&''\u{1c}UEScApE â\u{80}\u{8a}'g'" "" (refuses 6) ∷
+    asks (string true) 4 "" "U&'Z'\r escapeâ\u{80}¯ 'Ã©'" "" (refuses 6) ∷
     asks (string false) 4 "" "u&'' uescape'&'" "" (borrows 3 3 "") ∷
-    asks (string false) 4 "" "u&''\u{e2}\u{80}\u{a8}uESCAPE\u{c2}\u{a1}'\u{c3}\u{a9}'" "" (refuses 6) ∷
-    asks (string true) 4 "" "u&''\u{e2}\u{80}\u{a8}uESCAPE\u{c2}\u{a1}'\u{c3}\u{a9}'" "" (refuses 6) ∷
-    asks (string false) 4 "" "U&''''\u{e3}\u{80}\u{81}uEsCAPe '!'" "" (refuses 6) ∷
-    asks (string false) 4 "" "u&'''uEsCaPe '\u{f0}\u{9f}\u{98}\u{80}'" "" (refuses 6) ∷
-    asks (string true) 4 "" "u&'''uEsCaPe '\u{f0}\u{9f}\u{98}\u{80}'" "" (refuses 6) ∷
+    asks (string false) 4 "" "u&''â\u{80}¨uESCAPEÂ¡'Ã©'" "" (refuses 6) ∷
+    asks (string true) 4 "" "u&''â\u{80}¨uESCAPEÂ¡'Ã©'" "" (refuses 6) ∷
+    asks (string false) 4 "" "U&''''ã\u{80}\u{81}uEsCAPe '!'" "" (refuses 6) ∷
+    asks (string false) 4 "" "u&'''uEsCaPe 'ð\u{9f}\u{98}\u{80}'" "" (refuses 6) ∷
+    asks (string true) 4 "" "u&'''uEsCaPe 'ð\u{9f}\u{98}\u{80}'" "" (refuses 6) ∷
     asks (string true) 4 "" "U&''\t\nUESCAPE'x'" "" (borrows 3 3 "") ∷
     asks (string false) 4 "" "u&''UeScApE '$'" "" (borrows 3 3 "") ∷
     asks (string true) 4 "" "u&''UeScApE '$'" "" (borrows 3 3 "") ∷
-    asks (string false) 4 "\u{e3}\u{80}\u{80}" "U&'.'  uescaPe\u{e}'$'" "$$" (refuses 6) ∷
+    asks (string false) 4 "ã\u{80}\u{80}" "U&'.'  uescaPe\u{e}'$'" "$$" (refuses 6) ∷
     asks (string true) 4 "" "u&'\"'\u{e}UeScAPE\r'$'" "" (refuses 6) ∷
-    asks (string true) 4 "" "u&''uesCApe'\u{f0}\u{9f}\u{98}\u{80}'" "" (borrows 3 3 "") ∷
-    asks (string false) 4 "" "u&''\u{e2}\u{81}\u{a0}escape\u{c2}\u{84}'&'" "" (refuses 6) ∷
-    asks (string true) 4 "" "u&''\u{e2}\u{81}\u{a0}escape\u{c2}\u{84}'&'" "" (refuses 6) ∷
-    asks (string false) 4 "\u{e3}\u{80}\u{80}" "u&'\u{c2}\u{85}08001'\u{e1}\u{9a}\u{80}UEsCAPE" "\u{c3}\u{a9}" (refuses 6) ∷
-    asks (string true) 4 "\u{e3}\u{80}\u{80}" "u&'\u{c2}\u{85}08001'\u{e1}\u{9a}\u{80}UEsCAPE" "\u{c3}\u{a9}" (refuses 6) ∷
-    asks (string false) 4 "" "U&'' \u{e2}\u{80}\u{8a}UesCapE\u{e2}\u{80}\u{a9}'ab'" "" (refuses 6) ∷
-    asks (string true) 4 "" "U&'' \u{e2}\u{80}\u{8a}UesCapE\u{e2}\u{80}\u{a9}'ab'" "" (refuses 6) ∷
+    asks (string true) 4 "" "u&''uesCApe'ð\u{9f}\u{98}\u{80}'" "" (borrows 3 3 "") ∷
+    asks (string false) 4 "" "u&''â\u{81}\u{a0}escapeÂ\u{84}'&'" "" (refuses 6) ∷
+    asks (string true) 4 "" "u&''â\u{81}\u{a0}escapeÂ\u{84}'&'" "" (refuses 6) ∷
+    asks (string false) 4 "ã\u{80}\u{80}" "u&'Â\u{85}08001'á\u{9a}\u{80}UEsCAPE" "Ã©" (refuses 6) ∷
+    asks (string true) 4 "ã\u{80}\u{80}" "u&'Â\u{85}08001'á\u{9a}\u{80}UEsCAPE" "Ã©" (refuses 6) ∷
+    asks (string false) 4 "" "U&'' â\u{80}\u{8a}UesCapEâ\u{80}©'ab'" "" (refuses 6) ∷
+    asks (string true) 4 "" "U&'' â\u{80}\u{8a}UesCapEâ\u{80}©'ab'" "" (refuses 6) ∷
     asks (string true) 4 "" "U&'' uEsCApE'!'" "" (borrows 3 3 "") ∷
-    asks (string false) 4 "" "U&''ueScapE\u{e1}\u{a0}\u{8e}!" "" (refuses 6) ∷
-    asks (string false) 4 "" "U&''  uescape\u{e2}\u{80}\u{a8}\u{c}'&'" "" (borrows 3 3 "") ∷
-    asks (string false) 4 "" "U&'u\u{f0}\u{9f}\u{98}\u{80}d83d\u{f0}\u{9f}\u{98}\u{80}De00o' UESCapE\t\u{e2}\u{80}\u{af}'\u{f0}\u{9f}\u{98}\u{80}'" "" (writes 1 "u\u{f0}\u{9f}\u{98}\u{80}o") ∷
-    asks (string true) 4 "" "U&'u\u{f0}\u{9f}\u{98}\u{80}d83d\u{f0}\u{9f}\u{98}\u{80}De00o' UESCapE\t\u{e2}\u{80}\u{af}'\u{f0}\u{9f}\u{98}\u{80}'" "" (writes 1 "u\u{f0}\u{9f}\u{98}\u{80}o") ∷
+    asks (string false) 4 "" "U&''ueScapEá\u{a0}\u{8e}!" "" (refuses 6) ∷
+    asks (string false) 4 "" "U&''  uescapeâ\u{80}¨\u{c}'&'" "" (borrows 3 3 "") ∷
+    asks (string false) 4 "" "U&'uð\u{9f}\u{98}\u{80}d83dð\u{9f}\u{98}\u{80}De00o' UESCapE\tâ\u{80}¯'ð\u{9f}\u{98}\u{80}'" "" (writes 1 "uð\u{9f}\u{98}\u{80}o") ∷
+    asks (string true) 4 "" "U&'uð\u{9f}\u{98}\u{80}d83dð\u{9f}\u{98}\u{80}De00o' UESCapE\tâ\u{80}¯'ð\u{9f}\u{98}\u{80}'" "" (writes 1 "uð\u{9f}\u{98}\u{80}o") ∷
     asks (string true) 4 "$$" "U&'!Dc00'\u{c}UESCapE'!'" "x" (refuses 6) ∷
-    asks (string false) 4 "\\" "u&''uEscaPe\u{e2}\u{80}\u{a9} '\u{c3}\u{a9}'" "x" (borrows 4 4 "") ∷
-    asks (string true) 4 "\\" "u&''uEscaPe\u{e2}\u{80}\u{a9} '\u{c3}\u{a9}'" "x" (borrows 4 4 "") ∷
-    asks (string false) 4 "" "u&'c'''\u{8}UEsCAPE\u{c2}\u{a0}'\u{e2}\u{80}\u{8b}" "" (refuses 6) ∷
-    asks (string true) 4 "" "u&'c'''\u{8}UEsCAPE\u{c2}\u{a0}'\u{e2}\u{80}\u{8b}" "" (refuses 6) ∷
-    asks (string false) 4 "$$" "U&';' ueSCape\u{e2}\u{80}\u{a9}\n'_'" "\\" (borrows 5 6 ";") ∷
-    asks (string true) 4 "$$" "U&';' ueSCape\u{e2}\u{80}\u{a9}\n'_'" "\\" (borrows 5 6 ";") ∷
-    asks (string false) 4 "\u{0}" "u&'\"aa'UESCAPEE \u{c}'a'" "\\" (refuses 6) ∷
-    asks (string true) 4 "\u{0}" "u&'\"aa'UESCAPEE \u{c}'a'" "\\" (refuses 6) ∷
+    asks (string false) 4 "\\" "u&''uEscaPeâ\u{80}© 'Ã©'" "x" (borrows 4 4 "") ∷
+    asks (string true) 4 "\\" "u&''uEscaPeâ\u{80}© 'Ã©'" "x" (borrows 4 4 "") ∷
+    asks (string false) 4 "" "u&'c'''\u{8}UEsCAPEÂ\u{a0}'â\u{80}\u{8b}" "" (refuses 6) ∷
+    asks (string true) 4 "" "u&'c'''\u{8}UEsCAPEÂ\u{a0}'â\u{80}\u{8b}" "" (refuses 6) ∷
+    asks (string false) 4 "$$" "U&';' ueSCapeâ\u{80}©\n'_'" "\\" (borrows 5 6 ";") ∷
+    asks (string true) 4 "$$" "U&';' ueSCapeâ\u{80}©\n'_'" "\\" (borrows 5 6 ";") ∷
+    asks (string false) 4 "\0" "u&'\"aa'UESCAPEE \u{c}'a'" "\\" (refuses 6) ∷
+    asks (string true) 4 "\0" "u&'\"aa'UESCAPEE \u{c}'a'" "\\" (refuses 6) ∷
     asks (string false) 4 "" "u&'b'\u{b} UEscApE'_'" "" (borrows 3 4 "b") ∷
-    asks (string false) 4 "" "u&''\u{e}UEscAPe'\u{f0}\u{9f}\u{98}\u{80}'" "= " (refuses 6) ∷
-    asks (string true) 4 "" "u&''\u{e}UEscAPe'\u{f0}\u{9f}\u{98}\u{80}'" "= " (refuses 6) ∷
+    asks (string false) 4 "" "u&''\u{e}UEscAPe'ð\u{9f}\u{98}\u{80}'" "= " (refuses 6) ∷
+    asks (string true) 4 "" "u&''\u{e}UEscAPe'ð\u{9f}\u{98}\u{80}'" "= " (refuses 6) ∷
     asks (string false) 4 "" "U&'''xx'UeScaPE\r'x'" "" (writes 1 "'x") ∷
     asks (string true) 4 "" "U&'''xx'UeScaPE\r'x'" "" (writes 0 "'x") ∷
-    asks (string false) 4 "" "U&'\u{ee}\u{80}\u{80}xd800'UEScapE'x'" "" (refuses 6) ∷
+    asks (string false) 4 "" "U&'î\u{80}\u{80}xd800'UEScapE'x'" "" (refuses 6) ∷
     asks (string true) 4 "" "$$$$;0%u$$" "" (borrows 2 8 "$$;0%u") ∷
     asks (string true) 4 "" "$tag$$tag$ " "" (refuses 6) ∷
-    asks (string false) 4 "" "$_$G\u{c2}\u{85}$_$" "" (borrows 3 6 "G\u{c2}\u{85}") ∷
-    asks (string true) 4 "" "$_$G\u{c2}\u{85}$_$" "" (borrows 3 6 "G\u{c2}\u{85}") ∷
+    asks (string false) 4 "" "$_$GÂ\u{85}$_$" "" (borrows 3 6 "GÂ\u{85}") ∷
+    asks (string true) 4 "" "$_$GÂ\u{85}$_$" "" (borrows 3 6 "GÂ\u{85}") ∷
     asks (string false) 4 "" "$$\u{1}Z$$" "" (borrows 2 4 "\u{1}Z") ∷
-    asks (string true) 4 "\u{e3}\u{80}\u{80}" "$a$Y$$/'-$a$" "\u{0}" (borrows 6 12 "Y$$/'-") ∷
+    asks (string true) 4 "ã\u{80}\u{80}" "$a$Y$$/'-$a$" "\0" (borrows 6 12 "Y$$/'-") ∷
     asks (string false) 4 "" "$Z$E\\n$Z$" "" (borrows 3 6 "E\\n") ∷
     asks (string true) 4 "" "$Z$E\\n$Z$" "" (borrows 3 6 "E\\n") ∷
-    asks (string false) 4 "" "$a$Y\u{c3}\u{a9}$a$" "" (borrows 3 6 "Y\u{c3}\u{a9}") ∷
+    asks (string false) 4 "" "$a$YÃ©$a$" "" (borrows 3 6 "YÃ©") ∷
     asks (string false) 4 "" "$tag$$tag$" "" (borrows 5 5 "") ∷
     asks (string true) 4 "" "$tag$$tag$" "" (borrows 5 5 "") ∷
     asks (string false) 4 "" "$$$$$" "" (borrows 2 3 "$") ∷
-    asks (string true) 4 "" "$A$_\u{b}\u{c3}\u{a9}0x$A$x" "" (refuses 6) ∷
+    asks (string true) 4 "" "$A$_\u{b}Ã©0x$A$x" "" (refuses 6) ∷
     asks (string false) 4 "" "$_$Z$_$" "" (borrows 3 4 "Z") ∷
     asks (string true) 4 "" "$$uG-K$$" "" (borrows 2 6 "uG-K") ∷
-    asks (string true) 4 "" "$Z$\u{ee}\u{80}\u{80}%$Z$" "" (borrows 3 7 "\u{ee}\u{80}\u{80}%") ∷
+    asks (string true) 4 "" "$Z$î\u{80}\u{80}%$Z$" "" (borrows 3 7 "î\u{80}\u{80}%") ∷
     asks (string true) 4 "" "$_$'\u{7f}$_$" "" (borrows 3 5 "'\u{7f}") ∷
     asks (string false) 4 "" "$a b$\\$$$a b$" "" (refuses 6) ∷
-    asks (string false) 4 "\u{e3}\u{80}\u{80}" "$\u{c3}\u{a9}$$$$A$" "\\" (refuses 6) ∷
+    asks (string false) 4 "ã\u{80}\u{80}" "$Ã©$$$$A$" "\\" (refuses 6) ∷
     asks (string false) 4 "" "$Z$$Z$" "" (borrows 3 3 "") ∷
     asks (string false) 4 "1" "$$u|n$$" "'" (borrows 3 6 "u|n") ∷
     asks (string true) 4 "x" "$a$\t\"\\n$a$x" "1" (refuses 6) ∷
@@ -337,225 +337,225 @@ rows =
     asks (string true) 4 "" "$_$$_$" "" (borrows 3 3 "") ∷
     asks (string false) 4 "" "$z_9$)f\\$z_9$" "" (borrows 5 8 ")f\\") ∷
     asks (string true) 4 "" "$z_9$)f\\$z_9$" "" (borrows 5 8 ")f\\") ∷
-    asks (string false) 4 "" "$\u{c3}\u{a9}$$$&a8$\u{c3}\u{a9}$" "" (borrows 4 9 "$$&a8") ∷
-    asks (string true) 4 "" "$\u{c3}\u{a9}$$$&a8$\u{c3}\u{a9}$" "" (borrows 4 9 "$$&a8") ∷
+    asks (string false) 4 "" "$Ã©$$$&a8$Ã©$" "" (borrows 4 9 "$$&a8") ∷
+    asks (string true) 4 "" "$Ã©$$$&a8$Ã©$" "" (borrows 4 9 "$$&a8") ∷
     asks (string false) 4 "" "$$$$" "" (borrows 2 2 "") ∷
     asks (string true) 4 "" "$$$$" "" (borrows 2 2 "") ∷
     asks (string false) 4 "" "$_$1$_$" "" (borrows 3 4 "1") ∷
-    asks (string false) 4 "" "$$9a\u{ed}\u{9f}\u{bf}g$$" "" (borrows 2 8 "9a\u{ed}\u{9f}\u{bf}g") ∷
-    asks (string false) 4 "\u{0}" "$-$;$$-$\\ $-$" "" (refuses 6) ∷
-    asks (string true) 4 "\u{0}" "$-$;$$-$\\ $-$" "" (refuses 6) ∷
+    asks (string false) 4 "" "$$9aí\u{9f}¿g$$" "" (borrows 2 8 "9aí\u{9f}¿g") ∷
+    asks (string false) 4 "\0" "$-$;$$-$\\ $-$" "" (refuses 6) ∷
+    asks (string true) 4 "\0" "$-$;$$-$\\ $-$" "" (refuses 6) ∷
     asks (string true) 4 "" "$$\\n\u{7f}$$" "" (borrows 2 5 "\\n\u{7f}") ∷
-    asks (string true) 4 "" "$_$\u{c3}\u{a9}($_$x" "" (refuses 6) ∷
+    asks (string true) 4 "" "$_$Ã©($_$x" "" (refuses 6) ∷
     asks (string false) 4 "" "$z_9$$z_91$" "" (refuses 6) ∷
     asks (string true) 4 "" "$A$$$x$A$" "" (borrows 3 6 "$$x") ∷
     asks (string true) 4 "" "$a$x$a$" "" (borrows 3 4 "x") ∷
     asks (string false) 4 "'" "$1$eX|$1$" "" (refuses 6) ∷
-    asks (string false) 4 "" "$a-$\u{c2}\u{80}$a-$$a-$" "" (refuses 6) ∷
-    asks (string true) 4 "" "$a-$\u{c2}\u{80}$a-$$a-$" "" (refuses 6) ∷
-    asks (string false) 4 "" "$\u{c3}\u{a9}$$'$\u{c3}\u{a9}$\u{f0}\u{90}\u{80}\u{80}/$\u{c3}\u{a9}$" "" (borrows 4 15 "$'$\u{c3}\u{a9}$\u{f0}\u{90}\u{80}\u{80}/") ∷
-    asks (string true) 4 "" "$\u{c3}\u{a9}$$'$\u{c3}\u{a9}$\u{f0}\u{90}\u{80}\u{80}/$\u{c3}\u{a9}$" "" (borrows 4 15 "$'$\u{c3}\u{a9}$\u{f0}\u{90}\u{80}\u{80}/") ∷
-    asks (string true) 4 "" "$Z$\u{c3}\u{a9}$Z$E\\&$Z$" "\u{e3}\u{80}\u{80}" (borrows 3 11 "\u{c3}\u{a9}$Z$E\\&") ∷
+    asks (string false) 4 "" "$a-$Â\u{80}$a-$$a-$" "" (refuses 6) ∷
+    asks (string true) 4 "" "$a-$Â\u{80}$a-$$a-$" "" (refuses 6) ∷
+    asks (string false) 4 "" "$Ã©$$'$Ã©$ð\u{90}\u{80}\u{80}/$Ã©$" "" (borrows 4 15 "$'$Ã©$ð\u{90}\u{80}\u{80}/") ∷
+    asks (string true) 4 "" "$Ã©$$'$Ã©$ð\u{90}\u{80}\u{80}/$Ã©$" "" (borrows 4 15 "$'$Ã©$ð\u{90}\u{80}\u{80}/") ∷
+    asks (string true) 4 "" "$Z$Ã©$Z$E\\&$Z$" "ã\u{80}\u{80}" (borrows 3 11 "Ã©$Z$E\\&") ∷
     asks (string true) 4 "" "$a$nx$a$" "" (borrows 3 5 "nx") ∷
-    asks (string true) 4 "\u{e3}\u{80}\u{80}" "$ab1$\u{1}$\u{1}f\t$ab1$" "" (borrows 8 13 "\u{1}$\u{1}f\t") ∷
-    asks (string false) 4 "" "$a b$FaU\"\u{c3}\u{a9}$A$" "" (refuses 6) ∷
-    asks (string true) 4 "" "$a b$FaU\"\u{c3}\u{a9}$A$" "" (refuses 6) ∷
-    asks (string false) 4 "" "$tag$\u{c3}\u{a9}$tag$" "" (borrows 5 7 "\u{c3}\u{a9}") ∷
-    asks (string true) 4 "" "$tag$\u{c3}\u{a9}$tag$" "" (borrows 5 7 "\u{c3}\u{a9}") ∷
+    asks (string true) 4 "ã\u{80}\u{80}" "$ab1$\u{1}$\u{1}f\t$ab1$" "" (borrows 8 13 "\u{1}$\u{1}f\t") ∷
+    asks (string false) 4 "" "$a b$FaU\"Ã©$A$" "" (refuses 6) ∷
+    asks (string true) 4 "" "$a b$FaU\"Ã©$A$" "" (refuses 6) ∷
+    asks (string false) 4 "" "$tag$Ã©$tag$" "" (borrows 5 7 "Ã©") ∷
+    asks (string true) 4 "" "$tag$Ã©$tag$" "" (borrows 5 7 "Ã©") ∷
     asks (string false) 4 "" "$tag$Ux\\n'$tag$" "" (borrows 5 10 "Ux\\n'") ∷
     asks (string false) 4 "" "$$U+\\$$" "" (borrows 2 5 "U+\\") ∷
     asks (string false) 4 "" "$a$u$a$__$a$" "" (borrows 3 9 "u$a$__") ∷
-    asks (string true) 4 "" "$a b$c$\u{f0}\u{90}\u{80}\u{80},x$a b$" "" (refuses 6) ∷
-    asks (string false) 4 "" "$a$N$\u{c3}\u{a9}$a$" "" (borrows 3 7 "N$\u{c3}\u{a9}") ∷
-    asks (string true) 4 "\u{0}" "$\u{e3}\u{80}\u{80}$\t$'#/$\u{e3}\u{80}\u{80}$" "\u{0}" (borrows 6 11 "\t$'#/") ∷
+    asks (string true) 4 "" "$a b$c$ð\u{90}\u{80}\u{80},x$a b$" "" (refuses 6) ∷
+    asks (string false) 4 "" "$a$N$Ã©$a$" "" (borrows 3 7 "N$Ã©") ∷
+    asks (string true) 4 "\0" "$ã\u{80}\u{80}$\t$'#/$ã\u{80}\u{80}$" "\0" (borrows 6 11 "\t$'#/") ∷
     asks (string false) 4 "" "$$nx$$" "" (borrows 2 4 "nx") ∷
-    asks (string false) 4 "" "$tag$$tag$)$$$tag$" "\u{c3}\u{a9}" (borrows 5 13 "$tag$)$$") ∷
-    asks (string true) 4 "" "$tag$$tag$)$$$tag$" "\u{c3}\u{a9}" (borrows 5 13 "$tag$)$$") ∷
+    asks (string false) 4 "" "$tag$$tag$)$$$tag$" "Ã©" (borrows 5 13 "$tag$)$$") ∷
+    asks (string true) 4 "" "$tag$$tag$)$$$tag$" "Ã©" (borrows 5 13 "$tag$)$$") ∷
     asks (string false) 4 "" "$$$$\\\t$$x" "" (refuses 6) ∷
     asks (string true) 4 "" "$tag$\\x\u{c}X1$tag$" "" (borrows 5 10 "\\x\u{c}X1") ∷
-    asks (string false) 4 "" "$\u{c3}\u{a9}$\n\\$\u{c3}\u{a9}$x" "" (refuses 6) ∷
-    asks (string true) 4 "" "$\u{c3}\u{a9}$\n\\$\u{c3}\u{a9}$x" "" (refuses 6) ∷
+    asks (string false) 4 "" "$Ã©$\n\\$Ã©$x" "" (refuses 6) ∷
+    asks (string true) 4 "" "$Ã©$\n\\$Ã©$x" "" (refuses 6) ∷
     asks (string true) 4 "" "$1$\\n$1$" "" (refuses 6) ∷
-    asks (string false) 4 "\u{0}" "$z_9$\u{7f}x\u{f0}\u{9f}\u{98}\u{80}_$z_9$" "'" (borrows 6 13 "\u{7f}x\u{f0}\u{9f}\u{98}\u{80}_") ∷
-    asks (string true) 4 "\u{0}" "$z_9$\u{7f}x\u{f0}\u{9f}\u{98}\u{80}_$z_9$" "'" (borrows 6 13 "\u{7f}x\u{f0}\u{9f}\u{98}\u{80}_") ∷
-    asks (string false) 4 "" "$$-\u{f0}\u{90}\u{80}\u{80}1$$$$" "" (borrows 2 10 "-\u{f0}\u{90}\u{80}\u{80}1$$") ∷
-    asks (string true) 4 "" "$$-\u{f0}\u{90}\u{80}\u{80}1$$$$" "" (borrows 2 10 "-\u{f0}\u{90}\u{80}\u{80}1$$") ∷
+    asks (string false) 4 "\0" "$z_9$\u{7f}xð\u{9f}\u{98}\u{80}_$z_9$" "'" (borrows 6 13 "\u{7f}xð\u{9f}\u{98}\u{80}_") ∷
+    asks (string true) 4 "\0" "$z_9$\u{7f}xð\u{9f}\u{98}\u{80}_$z_9$" "'" (borrows 6 13 "\u{7f}xð\u{9f}\u{98}\u{80}_") ∷
+    asks (string false) 4 "" "$$-ð\u{90}\u{80}\u{80}1$$$$" "" (borrows 2 10 "-ð\u{90}\u{80}\u{80}1$$") ∷
+    asks (string true) 4 "" "$$-ð\u{90}\u{80}\u{80}1$$$$" "" (borrows 2 10 "-ð\u{90}\u{80}\u{80}1$$") ∷
     asks (string false) 4 "" "$_$\"!x1$_$" "" (borrows 3 7 "\"!x1") ∷
     asks (string true) 4 "" "$_$\"!x1$_$" "" (borrows 3 7 "\"!x1") ∷
-    asks (string false) 4 "" "$a-$$a-$\u{ef}\u{bf}\u{bf}\r\u{c3}\u{a9}$a-$" "" (refuses 6) ∷
-    asks (string false) 4 "" "$\u{e3}\u{80}\u{80}$\t\u{ef}\u{bf}\u{bf}N!$\u{e3}\u{80}\u{80}$" "" (borrows 5 11 "\t\u{ef}\u{bf}\u{bf}N!") ∷
-    asks (string false) 4 "" "$\u{e3}\u{80}\u{80}$x\"\\nN9$\u{e3}\u{80}\u{80}$" "" (borrows 5 11 "x\"\\nN9") ∷
-    asks (string true) 4 "" "$\u{e3}\u{80}\u{80}$$\u{e3}\u{80}\u{80}$" "" (borrows 5 5 "") ∷
-    asks (string false) 4 "" "$A$$A$\u{c3}\u{9f}\"$A$" "1" (borrows 3 9 "$A$\u{c3}\u{9f}\"") ∷
-    asks (string true) 4 "" "$A$$A$\u{c3}\u{9f}\"$A$" "1" (borrows 3 9 "$A$\u{c3}\u{9f}\"") ∷
-    asks (string true) 4 "= " "$_$$Ug#;$_$" "\u{e3}\u{80}\u{80}" (borrows 5 10 "$Ug#;") ∷
+    asks (string false) 4 "" "$a-$$a-$ï¿¿\rÃ©$a-$" "" (refuses 6) ∷
+    asks (string false) 4 "" "$ã\u{80}\u{80}$\tï¿¿N!$ã\u{80}\u{80}$" "" (borrows 5 11 "\tï¿¿N!") ∷
+    asks (string false) 4 "" "$ã\u{80}\u{80}$x\"\\nN9$ã\u{80}\u{80}$" "" (borrows 5 11 "x\"\\nN9") ∷
+    asks (string true) 4 "" "$ã\u{80}\u{80}$$ã\u{80}\u{80}$" "" (borrows 5 5 "") ∷
+    asks (string false) 4 "" "$A$$A$Ã\u{9f}\"$A$" "1" (borrows 3 9 "$A$Ã\u{9f}\"") ∷
+    asks (string true) 4 "" "$A$$A$Ã\u{9f}\"$A$" "1" (borrows 3 9 "$A$Ã\u{9f}\"") ∷
+    asks (string true) 4 "= " "$_$$Ug#;$_$" "ã\u{80}\u{80}" (borrows 5 10 "$Ug#;") ∷
     asks (string false) 4 "" "$_$$_$_$" "" (borrows 3 5 "$_") ∷
     asks (string true) 4 "" "$tag$e$tag$" "" (borrows 5 6 "e") ∷
-    asks (string false) 4 "" "$$\u{ed}\u{9f}\u{bf}$$" "" (borrows 2 5 "\u{ed}\u{9f}\u{bf}") ∷
-    asks (string true) 4 "" "$\u{c3}\u{a9}$$|$\u{c3}\u{a9}$" "" (borrows 4 6 "$|") ∷
+    asks (string false) 4 "" "$$í\u{9f}¿$$" "" (borrows 2 5 "í\u{9f}¿") ∷
+    asks (string true) 4 "" "$Ã©$$|$Ã©$" "" (borrows 4 6 "$|") ∷
     asks (string false) 4 "'" "$tag$b$,%$tag$" "x" (borrows 6 10 "b$,%") ∷
     asks (string true) 4 "'" "$tag$b$,%$tag$" "x" (borrows 6 10 "b$,%") ∷
     asks (string false) 4 "1" "$A$x+\\x\\n$A$" "1" (borrows 4 10 "x+\\x\\n") ∷
     asks (string true) 4 "" "$_$$_$$_$" "" (borrows 3 6 "$_$") ∷
-    asks (string false) 4 "" "$z_9$$$z_9$" "\u{c3}\u{a9}" (borrows 5 6 "$") ∷
-    asks (string true) 4 "" "$z_9$$$z_9$" "\u{c3}\u{a9}" (borrows 5 6 "$") ∷
-    asks (string true) 4 "\u{c3}\u{a9}" "$\u{c3}\u{a9}$\u{c}\u{c2}\u{a0}\u{1}\"$\u{c3}\u{a9}$$\u{c3}\u{a9}$" "\u{0}" (borrows 6 15 "\u{c}\u{c2}\u{a0}\u{1}\"$\u{c3}\u{a9}$") ∷
-    asks (string true) 4 "\u{e3}\u{80}\u{80}" "''\u{c2}\u{a1}''\u{c2}\u{85}'\\_x'''" "= " (refuses 6) ∷
-    asks (string true) 4 "" "n'' u&''\u{e2}\u{81}\u{9f} u&''" "" (refuses 6) ∷
-    asks (string false) 4 "" "N'e\u{f4}\u{8f}\u{bf}\u{bf}\"' e'' 'N'" "" (refuses 6) ∷
+    asks (string false) 4 "" "$z_9$$$z_9$" "Ã©" (borrows 5 6 "$") ∷
+    asks (string true) 4 "" "$z_9$$$z_9$" "Ã©" (borrows 5 6 "$") ∷
+    asks (string true) 4 "Ã©" "$Ã©$\u{c}Â\u{a0}\u{1}\"$Ã©$$Ã©$" "\0" (borrows 6 15 "\u{c}Â\u{a0}\u{1}\"$Ã©$") ∷
+    asks (string true) 4 "ã\u{80}\u{80}" "''Â¡''Â\u{85}'\\_x'''" "= " (refuses 6) ∷
+    asks (string true) 4 "" "n'' u&''â\u{81}\u{9f} u&''" "" (refuses 6) ∷
+    asks (string false) 4 "" "N'eô\u{8f}¿¿\"' e'' 'N'" "" (refuses 6) ∷
     asks (string true) 4 "" "_A'\"''''' '''' " "" (cramped "\"'''") ∷
     asks (string true) 4 "" "u&'9'\u{c} ';#''' " "" (writes 0 "9;#'") ∷
-    asks (string false) 4 "" "E''\u{b} ''''\u{e2}\u{80}\u{a8}$9a$$9a$ " "" (refuses 6) ∷
-    asks (string true) 4 "" "E''\u{b} ''''\u{e2}\u{80}\u{a8}$9a$$9a$ " "" (refuses 6) ∷
-    asks (string false) 4 "" "',o'\u{e2}\u{80}\u{80}'''\u{e2}\u{80}\u{80}'\\\u{c3}\u{a9}''o'x" "" (refuses 6) ∷
-    asks (string true) 4 "" "',o'\u{e2}\u{80}\u{80}'''\u{e2}\u{80}\u{80}'\\\u{c3}\u{a9}''o'x" "" (refuses 6) ∷
-    asks (string true) 4 "" "N'.'''\u{e2}\u{80}\u{af}'\\\u{f0}\u{9f}\u{98}\u{80}\\R\\f'\n" "" (writes 5 ".'\u{f0}\u{9f}\u{98}\u{80}Rf") ∷
-    asks (string false) 4 "" "\"'+\"\u{e1}\u{9a}\u{80}''\n'\tb;'\u{e3}\u{80}\u{81}'#'\n" "" (refuses 6) ∷
-    asks (string true) 4 "1" "'F\t)' \u{e2}\u{80}\u{a8}'\\Z\"'\nN''" "= " (writes 0 "F\t)\u{1a}\"") ∷
-    asks (string true) 4 "" "'\\f'\u{e3}\u{80}\u{80}''\u{c2}\u{a0}\u{e2}\u{80}\u{af}N'E'x" "" (refuses 6) ∷
-    asks (string false) 4 "" "\"\"  ''  ''\"\" " "\u{0}" (writes 0 "") ∷
-    asks (string false) 4 "" "'\"' '\\e' \u{c2}\u{85}$$u\nY%.$$\n" "" (refuses 6) ∷
-    asks (string false) 4 "" "'\\N'\u{e1}\u{9a}\u{80} X'' " "" (refuses 6) ∷
-    asks (string false) 4 "" "n''\n''\u{e3}\u{80}\u{80}" "" (writes 2 "") ∷
-    asks (string true) 4 "" "n''\n''\u{e3}\u{80}\u{80}" "" (writes 0 "") ∷
-    asks (string false) 4 "" "__''\n'/'\u{e2}\u{80}\u{8a}\u{b}'\"\\z\u{c2}\u{85}'\u{e3}\u{80}\u{80}" "" (writes 1 "/\"\\z\u{c2}\u{85}") ∷
-    asks (string true) 4 "" "_A''\u{c}',\\\u{f0}\u{9f}\u{98}\u{80}E'" "" (writes 0 ",\u{f0}\u{9f}\u{98}\u{80}E") ∷
-    asks (string false) 4 "" "\"\" \r'9\u{f0}\u{90}\u{80}\u{80}' \t\"\"\"\\8/\"" "" (writes 5 "9\u{f0}\u{90}\u{80}\u{80}\"\\8/") ∷
+    asks (string false) 4 "" "E''\u{b} ''''â\u{80}¨$9a$$9a$ " "" (refuses 6) ∷
+    asks (string true) 4 "" "E''\u{b} ''''â\u{80}¨$9a$$9a$ " "" (refuses 6) ∷
+    asks (string false) 4 "" "',o'â\u{80}\u{80}'''â\u{80}\u{80}'\\Ã©''o'x" "" (refuses 6) ∷
+    asks (string true) 4 "" "',o'â\u{80}\u{80}'''â\u{80}\u{80}'\\Ã©''o'x" "" (refuses 6) ∷
+    asks (string true) 4 "" "N'.'''â\u{80}¯'\\ð\u{9f}\u{98}\u{80}\\R\\f'\n" "" (writes 5 ".'ð\u{9f}\u{98}\u{80}Rf") ∷
+    asks (string false) 4 "" "\"'+\"á\u{9a}\u{80}''\n'\tb;'ã\u{80}\u{81}'#'\n" "" (refuses 6) ∷
+    asks (string true) 4 "1" "'F\t)' â\u{80}¨'\\Z\"'\nN''" "= " (writes 0 "F\t)\u{1a}\"") ∷
+    asks (string true) 4 "" "'\\f'ã\u{80}\u{80}''Â\u{a0}â\u{80}¯N'E'x" "" (refuses 6) ∷
+    asks (string false) 4 "" "\"\"  ''  ''\"\" " "\0" (writes 0 "") ∷
+    asks (string false) 4 "" "'\"' '\\e' Â\u{85}$$u\nY%.$$\n" "" (refuses 6) ∷
+    asks (string false) 4 "" "'\\N'á\u{9a}\u{80} X'' " "" (refuses 6) ∷
+    asks (string false) 4 "" "n''\n''ã\u{80}\u{80}" "" (writes 2 "") ∷
+    asks (string true) 4 "" "n''\n''ã\u{80}\u{80}" "" (writes 0 "") ∷
+    asks (string false) 4 "" "__''\n'/'â\u{80}\u{8a}\u{b}'\"\\zÂ\u{85}'ã\u{80}\u{80}" "" (writes 1 "/\"\\zÂ\u{85}") ∷
+    asks (string true) 4 "" "_A''\u{c}',\\ð\u{9f}\u{98}\u{80}E'" "" (writes 0 ",ð\u{9f}\u{98}\u{80}E") ∷
+    asks (string false) 4 "" "\"\" \r'9ð\u{90}\u{80}\u{80}' \t\"\"\"\\8/\"" "" (writes 5 "9ð\u{90}\u{80}\u{80}\"\\8/") ∷
     asks (string true) 4 "" "e''\u{b}\"\u{1}\" \"f\\\\\" 'N\\b'x" "" (refuses 6) ∷
-    asks (string true) 4 "\u{e3}\u{80}\u{80}" "_Utf8'' ''\n" "\u{c3}\u{a9}" (writes 0 "") ∷
-    asks (string false) 4 "" "\"$\\\" \u{b}\"\"\"U\"\u{e3}\u{80}\u{80}_A\"\"\u{e3}\u{80}\u{80}" "" (cramped "$\\\"U") ∷
-    asks (string true) 4 "" "\"$\\\" \u{b}\"\"\"U\"\u{e3}\u{80}\u{80}_A\"\"\u{e3}\u{80}\u{80}" "" (refuses 6) ∷
+    asks (string true) 4 "ã\u{80}\u{80}" "_Utf8'' ''\n" "Ã©" (writes 0 "") ∷
+    asks (string false) 4 "" "\"$\\\" \u{b}\"\"\"U\"ã\u{80}\u{80}_A\"\"ã\u{80}\u{80}" "" (cramped "$\\\"U") ∷
+    asks (string true) 4 "" "\"$\\\" \u{b}\"\"\"U\"ã\u{80}\u{80}_A\"\"ã\u{80}\u{80}" "" (refuses 6) ∷
     asks (string true) 4 "" "''''\u{b}'\\f''''" "" (refuses 6) ∷
-    asks (string true) 4 "\u{0}" "\"\"\"\"\u{e1}\u{9a}\u{80}\u{e2}\u{80}\u{af}'1\\f\\_'\nx'1'\u{e2}\u{80}\u{80} '\\b|'' " "\u{e3}\u{80}\u{80}" (refuses 6) ∷
-    asks (string false) 4 "x" "'1'\u{b} '#;!'\u{e3}\u{80}\u{80}_a''\u{e3}\u{80}\u{80}" "\u{0}" (cramped "1#;!") ∷
-    asks (string false) 4 "" "N'\\zg\\B' n''\u{e3}\u{80}\u{80}" "" (refuses 6) ∷
+    asks (string true) 4 "\0" "\"\"\"\"á\u{9a}\u{80}â\u{80}¯'1\\f\\_'\nx'1'â\u{80}\u{80} '\\b|'' " "ã\u{80}\u{80}" (refuses 6) ∷
+    asks (string false) 4 "x" "'1'\u{b} '#;!'ã\u{80}\u{80}_a''ã\u{80}\u{80}" "\0" (cramped "1#;!") ∷
+    asks (string false) 4 "" "N'\\zg\\B' n''ã\u{80}\u{80}" "" (refuses 6) ∷
     asks (string false) 4 "" "_utf8mb4\"x\" \u{c}''\n" "" (writes 1 "x") ∷
-    asks (string true) 4 "" "\"$Z|\"\u{e1}\u{9a}\u{80}\u{e2}\u{80}\u{a8}''''\n" "" (writes 0 "$Z|'") ∷
-    asks (string true) 4 "" "''''\u{e2}\u{80}\u{80}\n''  '#''\"'" "" (writes 1 "'#'\"") ∷
+    asks (string true) 4 "" "\"$Z|\"á\u{9a}\u{80}â\u{80}¨''''\n" "" (writes 0 "$Z|'") ∷
+    asks (string true) 4 "" "''''â\u{80}\u{80}\n''  '#''\"'" "" (writes 1 "'#'\"") ∷
     asks (string true) 4 "" "_utf8mb4'N' ''''x'" "" (refuses 6) ∷
     asks (string false) 4 "" "'&&' '' '\n''" "" (refuses 6) ∷
     asks (string true) 4 "" "'&&' '' '\n''" "" (refuses 6) ∷
-    asks (string false) 4 "'" "\"_\"\u{e3}\u{80}\u{80}'e'\u{c2}\u{85} \"'\u{1}\"" "$$" (writes 0 "_e'\u{1}") ∷
-    asks (string false) 4 "= " "U&'\\\\0'\u{e2}\u{81}\u{9f}\u{b}''''\\_'x" "'" (refuses 6) ∷
+    asks (string false) 4 "'" "\"_\"ã\u{80}\u{80}'e'Â\u{85} \"'\u{1}\"" "$$" (writes 0 "_e'\u{1}") ∷
+    asks (string false) 4 "= " "U&'\\\\0'â\u{81}\u{9f}\u{b}''''\\_'x" "'" (refuses 6) ∷
     asks (string false) 4 "" "_A'\\N\\'\\\\' 'K\"'x" "" (refuses 6) ∷
-    asks (string false) 4 "1" "'N%\u{f0}\u{90}\u{80}\u{80}''\"\\B'x" "1" (refuses 6) ∷
-    asks (string true) 4 "1" "'N%\u{f0}\u{90}\u{80}\u{80}''\"\\B'x" "1" (refuses 6) ∷
-    asks (string false) 4 "" "u&'&' '\\z\\r'\u{e2}\u{80}\u{af}X'1' '''8'\u{e3}\u{80}\u{80}" "" (refuses 6) ∷
-    asks (string false) 4 "\\" "\"\u{e2}\u{81}\u{9f}\" 'ZN\u{7f}'" "\u{0}" (writes 5 "\u{e2}\u{81}\u{9f}ZN\u{7f}") ∷
-    asks (string false) 4 "" "'''\u{e2}\u{80}\u{80}'\"\\T'" "" (refuses 6) ∷
-    asks (string false) 4 "" "n'\u{e2}\u{80}\u{8a}\t' ''_latin1\"\"\"\"\n" "" (writes 1 "\u{e2}\u{80}\u{8a}\t\"") ∷
-    asks (string false) 4 "" "N'\\z' \u{e2}\u{80}\u{80}''\n" "" (writes 0 "\\z") ∷
-    asks (string false) 4 "\u{0}" "e'\n\\udc''\t\u{7f}\u{e1}\u{9a}\u{80}'\n" "\u{c3}\u{a9}" (refuses 6) ∷
-    asks (string true) 4 "\u{0}" "e'\n\\udc''\t\u{7f}\u{e1}\u{9a}\u{80}'\n" "\u{c3}\u{a9}" (refuses 6) ∷
+    asks (string false) 4 "1" "'N%ð\u{90}\u{80}\u{80}''\"\\B'x" "1" (refuses 6) ∷
+    asks (string true) 4 "1" "'N%ð\u{90}\u{80}\u{80}''\"\\B'x" "1" (refuses 6) ∷
+    asks (string false) 4 "" "u&'&' '\\z\\r'â\u{80}¯X'1' '''8'ã\u{80}\u{80}" "" (refuses 6) ∷
+    asks (string false) 4 "\\" "\"â\u{81}\u{9f}\" 'ZN\u{7f}'" "\0" (writes 5 "â\u{81}\u{9f}ZN\u{7f}") ∷
+    asks (string false) 4 "" "'''â\u{80}\u{80}'\"\\T'" "" (refuses 6) ∷
+    asks (string false) 4 "" "n'â\u{80}\u{8a}\t' ''_latin1\"\"\"\"\n" "" (writes 1 "â\u{80}\u{8a}\t\"") ∷
+    asks (string false) 4 "" "N'\\z' â\u{80}\u{80}''\n" "" (writes 0 "\\z") ∷
+    asks (string false) 4 "\0" "e'\n\\udc''\t\u{7f}á\u{9a}\u{80}'\n" "Ã©" (refuses 6) ∷
+    asks (string true) 4 "\0" "e'\n\\udc''\t\u{7f}á\u{9a}\u{80}'\n" "Ã©" (refuses 6) ∷
     asks (string true) 4 "" "'G;'\r\n'g\\R'\n" "" (writes 5 "G;gR") ∷
-    asks (string false) 4 "" "\"\\b\"\"\u{0}\"\u{e3}\u{80}\u{81}''" "" (refuses 6) ∷
-    asks (string true) 4 "" "_B_2'\\\"'\u{c2}\u{a0} '\\%'\u{e3}\u{80}\u{80}" "" (writes 1 "\"\\%") ∷
+    asks (string false) 4 "" "\"\\b\"\"\0\"ã\u{80}\u{81}''" "" (refuses 6) ∷
+    asks (string true) 4 "" "_B_2'\\\"'Â\u{a0} '\\%'ã\u{80}\u{80}" "" (writes 1 "\"\\%") ∷
     asks (string false) 4 "" "E'\"'\n'\\f' \"')\" ''" "" (cramped "\"\\f')") ∷
     asks (string true) 4 "" "E'\"'\n'\\f' \"')\" ''" "" (writes 5 "\"f')") ∷
-    asks (string false) 4 "1" "E'\\f'\u{e2}\u{81}\u{9f}''\u{0}\"x\u{e2}\u{80}\u{a8}\" \u{b}'' " "" (refuses 6) ∷
-    asks (string false) 4 "" "''\u{e2}\u{80}\u{a9}''" "\u{0}" (writes 0 "") ∷
-    asks (string true) 4 "" "''\u{e2}\u{80}\u{a9}''" "\u{0}" (writes 2 "") ∷
+    asks (string false) 4 "1" "E'\\f'â\u{81}\u{9f}''\0\"xâ\u{80}¨\" \u{b}'' " "" (refuses 6) ∷
+    asks (string false) 4 "" "''â\u{80}©''" "\0" (writes 0 "") ∷
+    asks (string true) 4 "" "''â\u{80}©''" "\0" (writes 2 "") ∷
     asks (string false) 4 "" "'U\\''\n'''b_'" "" (refuses 6) ∷
     asks (string true) 4 "" "'U\\''\n'''b_'" "" (writes 0 "U''b_") ∷
-    asks (string false) 4 "\u{c3}\u{a9}" "E'''''\\\u{e3}\u{80}\u{80}' '\\\\''\u{f0}\u{90}\u{80}\u{80}'" "\\" (writes 5 "''\u{e3}\u{80}\u{80}\\\\'\u{f0}\u{90}\u{80}\u{80}") ∷
-    asks (string true) 4 "\u{c3}\u{a9}" "_A\"\"  '\\_\u{c5}\u{bf}'\u{c2}\u{85}X'0'\n\"\"" "x" (refuses 6) ∷
-    asks (string false) 4 "\u{e3}\u{80}\u{80}" "N'x\u{e2}\u{80}\u{a8}'\n'\u{c5}\u{bf}\u{c3}\u{a9}'\u{c} n''\n" "\u{0}" (writes 5 "x\u{e2}\u{80}\u{a8}\u{c5}\u{bf}\u{c3}\u{a9}") ∷
-    asks (string true) 4 "\u{e3}\u{80}\u{80}" "N'x\u{e2}\u{80}\u{a8}'\n'\u{c5}\u{bf}\u{c3}\u{a9}'\u{c} n''\n" "\u{0}" (cramped "x\u{e2}\u{80}\u{a8}\u{c5}\u{bf}\u{c3}\u{a9}") ∷
-    asks (string false) 4 "" "'' ''\n\"\" '\"\u{c2}\u{80}'" "" (writes 1 "\"\u{c2}\u{80}") ∷
-    asks (string false) 4 "x" "__\"\"  '''\t'\u{e2}\u{80}\u{af} $$1#$$x" "\\" (refuses 6) ∷
-    asks (string true) 4 "x" "__\"\"  '''\t'\u{e2}\u{80}\u{af} $$1#$$x" "\\" (refuses 6) ∷
-    asks (string true) 4 "" "_a\"\u{0}(\"'u,\\''\u{b} \"\u{f0}\u{90}\u{80}\u{80}\"\n" "\u{0}" (refuses 6) ∷
-    asks (string true) 4 "" "_utf8mb4'\\x\"9'\u{e2}\u{80}\u{80}''" "" (writes 0 "x\"9") ∷
-    asks (string false) 4 "" "_A'\\%'\u{e2}\u{80}\u{af}\r'1\"E'  'e'" "" (writes 5 "\\%1\"Ee") ∷
+    asks (string false) 4 "Ã©" "E'''''\\ã\u{80}\u{80}' '\\\\''ð\u{90}\u{80}\u{80}'" "\\" (writes 5 "''ã\u{80}\u{80}\\\\'ð\u{90}\u{80}\u{80}") ∷
+    asks (string true) 4 "Ã©" "_A\"\"  '\\_Å¿'Â\u{85}X'0'\n\"\"" "x" (refuses 6) ∷
+    asks (string false) 4 "ã\u{80}\u{80}" "N'xâ\u{80}¨'\n'Å¿Ã©'\u{c} n''\n" "\0" (writes 5 "xâ\u{80}¨Å¿Ã©") ∷
+    asks (string true) 4 "ã\u{80}\u{80}" "N'xâ\u{80}¨'\n'Å¿Ã©'\u{c} n''\n" "\0" (cramped "xâ\u{80}¨Å¿Ã©") ∷
+    asks (string false) 4 "" "'' ''\n\"\" '\"Â\u{80}'" "" (writes 1 "\"Â\u{80}") ∷
+    asks (string false) 4 "x" "__\"\"  '''\t'â\u{80}¯ $$1#$$x" "\\" (refuses 6) ∷
+    asks (string true) 4 "x" "__\"\"  '''\t'â\u{80}¯ $$1#$$x" "\\" (refuses 6) ∷
+    asks (string true) 4 "" "_a\"\0(\"'u,\\''\u{b} \"ð\u{90}\u{80}\u{80}\"\n" "\0" (refuses 6) ∷
+    asks (string true) 4 "" "_utf8mb4'\\x\"9'â\u{80}\u{80}''" "" (writes 0 "x\"9") ∷
+    asks (string false) 4 "" "_A'\\%'â\u{80}¯\r'1\"E'  'e'" "" (writes 5 "\\%1\"Ee") ∷
     asks (string false) 4 "" "'''\n''''\n" "" (refuses 6) ∷
     asks (string true) 4 "" "'''\n''''\n" "" (refuses 6) ∷
-    asks (string false) 4 "= " "'-N'  '\u{c5}\u{bf}'\u{e3}\u{80}\u{80}" "'" (writes 5 "-N\u{c5}\u{bf}") ∷
-    asks (string true) 4 "= " "'-N'  '\u{c5}\u{bf}'\u{e3}\u{80}\u{80}" "'" (writes 5 "-N\u{c5}\u{bf}") ∷
-    asks (string true) 4 "" "'\u{7f}\\x\\R'  '\u{ed}\u{9f}\u{bf}\\8'\n" "" (writes 0 "\u{7f}xR\u{ed}\u{9f}\u{bf}8") ∷
+    asks (string false) 4 "= " "'-N'  'Å¿'ã\u{80}\u{80}" "'" (writes 5 "-NÅ¿") ∷
+    asks (string true) 4 "= " "'-N'  'Å¿'ã\u{80}\u{80}" "'" (writes 5 "-NÅ¿") ∷
+    asks (string true) 4 "" "'\u{7f}\\x\\R'  'í\u{9f}¿\\8'\n" "" (writes 0 "\u{7f}xRí\u{9f}¿8") ∷
     asks (string false) 4 "" "n'\\f' '\\'0''' " "" (refuses 6) ∷
-    asks (string false) 4 "'" "_a''''\u{ef}\u{bb}\u{bf}'' '\"\\T' " "\u{c3}\u{a9}" (refuses 6) ∷
-    asks (string true) 4 "'" "e' \\u0080'  ''''''\u{e3}\u{80}\u{80}" "" (writes 0 " \u{c2}\u{80}''") ∷
-    asks (string false) 4 "" "'u\\T'''\u{e2}\u{81}\u{9f}''x" "" (refuses 6) ∷
-    asks (string false) 4 "" "e''\u{e2}\u{80}\u{a8} '1.!'\u{e2}\u{80}\u{a8}\"\"\u{e3}\u{80}\u{80} ' N\t'\n" "" (cramped "1.! N\t") ∷
-    asks (string false) 4 "" "n'\\'''  'u''G'\u{c2}\u{85}\",\"" "" (writes 1 "\\'u'G,") ∷
-    asks (string false) 4 "" "''e\\T' '\\T\\'\\\"'\u{e3}\u{80}\u{80}" "" (refuses 6) ∷
-    asks (string true) 4 "" "''e\\T' '\\T\\'\\\"'\u{e3}\u{80}\u{80}" "" (refuses 6) ∷
-    asks (string true) 4 "" "e''''\u{c2}\u{85}'\\rY'\n" "" (cramped "'\rY") ∷
-    asks (string false) 4 "" "N''\u{c2}\u{84}\"\u{c2}\u{85}\" E'''''''\\'" "" (refuses 6) ∷
-    asks (string false) 4 "\u{0}" "e''\n\u{c2}\u{85}\"\\Z\\f\" " "'" (writes 5 "\\Z\\f") ∷
-    asks (string false) 4 "1" "\"\\f\"\"\"\u{b}'\\'''\u{c5}\u{bf}G\u{e2}\u{80}\u{a8}'" "1" (refuses 6) ∷
-    asks (string true) 4 "1" "\"\\f\"\"\"\u{b}'\\'''\u{c5}\u{bf}G\u{e2}\u{80}\u{a8}'" "1" (writes 0 "f\"''\u{c5}\u{bf}G\u{e2}\u{80}\u{a8}") ∷
+    asks (string false) 4 "'" "_a''''ï»¿'' '\"\\T' " "Ã©" (refuses 6) ∷
+    asks (string true) 4 "'" "e' \\u0080'  ''''''ã\u{80}\u{80}" "" (writes 0 " Â\u{80}''") ∷
+    asks (string false) 4 "" "'u\\T'''â\u{81}\u{9f}''x" "" (refuses 6) ∷
+    asks (string false) 4 "" "e''â\u{80}¨ '1.!'â\u{80}¨\"\"ã\u{80}\u{80} ' N\t'\n" "" (cramped "1.! N\t") ∷
+    asks (string false) 4 "" "n'\\'''  'u''G'Â\u{85}\",\"" "" (writes 1 "\\'u'G,") ∷
+    asks (string false) 4 "" "''e\\T' '\\T\\'\\\"'ã\u{80}\u{80}" "" (refuses 6) ∷
+    asks (string true) 4 "" "''e\\T' '\\T\\'\\\"'ã\u{80}\u{80}" "" (refuses 6) ∷
+    asks (string true) 4 "" "e''''Â\u{85}'\\rY'\n" "" (cramped "'\rY") ∷
+    asks (string false) 4 "" "N''Â\u{84}\"Â\u{85}\" E'''''''\\'" "" (refuses 6) ∷
+    asks (string false) 4 "\0" "e''\nÂ\u{85}\"\\Z\\f\" " "'" (writes 5 "\\Z\\f") ∷
+    asks (string false) 4 "1" "\"\\f\"\"\"\u{b}'\\'''Å¿Gâ\u{80}¨'" "1" (refuses 6) ∷
+    asks (string true) 4 "1" "\"\\f\"\"\"\u{b}'\\'''Å¿Gâ\u{80}¨'" "1" (writes 0 "f\"''Å¿Gâ\u{80}¨") ∷
     asks (string false) 4 "" "N'\\t' ''''\n'\n\"\\Z'" "" (cramped "\\t'\n\"\\Z") ∷
     asks (string true) 4 "" "N'\\t' ''''\n'\n\"\\Z'" "" (cramped "\t'\n\"\u{1a}") ∷
-    asks (string false) 4 "" "n''\u{c2}\u{a0} '\\_' '\\n)'" "" (writes 0 "\\_\\n)") ∷
-    asks (string true) 4 "" "n''\u{c2}\u{a0} '\\_' '\\n)'" "" (writes 5 "\\_\n)") ∷
-    asks (string false) 4 "" "n'\\t''\\'\u{e2}\u{80}\u{8a}''\u{e3}\u{80}\u{80}" "" (writes 1 "\\t'\\") ∷
-    asks (string true) 4 "" "__''\u{e2}\u{80}\u{8a}\r'|'''''x" "" (refuses 6) ∷
-    asks (string false) 4 "" "N'' \"\tu\"'ZeN' \u{e2}\u{80}\u{a9}''" "" (writes 5 "\tuZeN") ∷
-    asks (string true) 4 "\\" "'+\\Z''' '''+' " "\u{e3}\u{80}\u{80}" (writes 0 "+\u{1a}''+") ∷
-    asks (string false) 4 "" "\"!'\"\u{e2}\u{80}\u{a9}N'#'''" "" (refuses 6) ∷
-    asks (string false) 4 "" "'\"'''\n\"$\"\u{e1}\u{9a}\u{80}'%\"'\n" "" (writes 0 "\"'$%\"") ∷
-    asks (string true) 4 "" "'\"'''\n\"$\"\u{e1}\u{9a}\u{80}'%\"'\n" "" (cramped "\"'$%\"") ∷
-    asks (string false) 4 "" "_B_2''''\u{c2}\u{85}\"\\R'\\\u{c3}\u{a9}\"\n" "" (writes 5 "'\\R'\\\u{c3}\u{a9}") ∷
-    asks (string true) 4 "" "\"G\u{1}\"'''\\%X' _0\"\"\u{e3}\u{80}\u{80}" "" (cramped "G\u{1}'\\%X") ∷
-    asks (string false) 4 "" "N''' ' f'\u{e3}\u{80}\u{80}" "" (refuses 6) ∷
-    asks (string true) 4 "" "N''' ' f'\u{e3}\u{80}\u{80}" "" (refuses 6) ∷
+    asks (string false) 4 "" "n''Â\u{a0} '\\_' '\\n)'" "" (writes 0 "\\_\\n)") ∷
+    asks (string true) 4 "" "n''Â\u{a0} '\\_' '\\n)'" "" (writes 5 "\\_\n)") ∷
+    asks (string false) 4 "" "n'\\t''\\'â\u{80}\u{8a}''ã\u{80}\u{80}" "" (writes 1 "\\t'\\") ∷
+    asks (string true) 4 "" "__''â\u{80}\u{8a}\r'|'''''x" "" (refuses 6) ∷
+    asks (string false) 4 "" "N'' \"\tu\"'ZeN' â\u{80}©''" "" (writes 5 "\tuZeN") ∷
+    asks (string true) 4 "\\" "'+\\Z''' '''+' " "ã\u{80}\u{80}" (writes 0 "+\u{1a}''+") ∷
+    asks (string false) 4 "" "\"!'\"â\u{80}©N'#'''" "" (refuses 6) ∷
+    asks (string false) 4 "" "'\"'''\n\"$\"á\u{9a}\u{80}'%\"'\n" "" (writes 0 "\"'$%\"") ∷
+    asks (string true) 4 "" "'\"'''\n\"$\"á\u{9a}\u{80}'%\"'\n" "" (cramped "\"'$%\"") ∷
+    asks (string false) 4 "" "_B_2''''Â\u{85}\"\\R'\\Ã©\"\n" "" (writes 5 "'\\R'\\Ã©") ∷
+    asks (string true) 4 "" "\"G\u{1}\"'''\\%X' _0\"\"ã\u{80}\u{80}" "" (cramped "G\u{1}'\\%X") ∷
+    asks (string false) 4 "" "N''' ' f'ã\u{80}\u{80}" "" (refuses 6) ∷
+    asks (string true) 4 "" "N''' ' f'ã\u{80}\u{80}" "" (refuses 6) ∷
     asks (string true) 4 "" "'(\"'\n'\\Z\\8'\n" "" (writes 1 "(\"\u{1a}8") ∷
     asks (string false) 4 "" "''\n'' N'''f' _B_2'#\u{1}'\n" "" (writes 0 "'f#\u{1}") ∷
-    asks (string false) 4 "" "'\\0'\u{e1}\u{9a}\u{80}$a$$\u{c3}\u{a9}$a$\u{e3}\u{80}\u{80}" "" (refuses 6) ∷
-    asks (string true) 4 "\\" "'' '''\\'x" "\u{0}" (refuses 6) ∷
-    asks (string false) 4 "" "\" \"\"\"\u{e3}\u{80}\u{81}''\r\u{e2}\u{80}\u{af}'\"' " "" (refuses 6) ∷
-    asks (string true) 4 "\u{e3}\u{80}\u{80}" "'&'\t\u{c2}\u{a0}''''" "\u{c3}\u{a9}" (writes 0 "&'") ∷
-    asks (string true) 4 "" "_Z'#''''' '\\_' \"\"\"\u{e3}\u{80}\u{80}" "" (refuses 6) ∷
-    asks (string false) 4 "" "'%;U'\u{e2}\u{80}\u{a8}\u{e2}\u{80}\u{a8}'' " "" (writes 0 "%;U") ∷
-    asks (string true) 4 "" "'%;U'\u{e2}\u{80}\u{a8}\u{e2}\u{80}\u{a8}'' " "" (writes 0 "%;U") ∷
-    asks (string false) 4 "" "\"_%(\"\u{b}'\\t,'  ''\u{e3}\u{80}\u{80}" "" (writes 0 "_%(\\t,") ∷
-    asks (string true) 4 "" "\"_%(\"\u{b}'\\t,'  ''\u{e3}\u{80}\u{80}" "" (cramped "_%(\t,") ∷
-    asks (string false) 4 "" "E''\n'('''''\u{c2}\u{a1}\"\\_#\"" "" (refuses 6) ∷
-    asks (string true) 4 "" "E''\n'('''''\u{c2}\u{a1}\"\\_#\"" "" (refuses 6) ∷
+    asks (string false) 4 "" "'\\0'á\u{9a}\u{80}$a$$Ã©$a$ã\u{80}\u{80}" "" (refuses 6) ∷
+    asks (string true) 4 "\\" "'' '''\\'x" "\0" (refuses 6) ∷
+    asks (string false) 4 "" "\" \"\"\"ã\u{80}\u{81}''\râ\u{80}¯'\"' " "" (refuses 6) ∷
+    asks (string true) 4 "ã\u{80}\u{80}" "'&'\tÂ\u{a0}''''" "Ã©" (writes 0 "&'") ∷
+    asks (string true) 4 "" "_Z'#''''' '\\_' \"\"\"ã\u{80}\u{80}" "" (refuses 6) ∷
+    asks (string false) 4 "" "'%;U'â\u{80}¨â\u{80}¨'' " "" (writes 0 "%;U") ∷
+    asks (string true) 4 "" "'%;U'â\u{80}¨â\u{80}¨'' " "" (writes 0 "%;U") ∷
+    asks (string false) 4 "" "\"_%(\"\u{b}'\\t,'  ''ã\u{80}\u{80}" "" (writes 0 "_%(\\t,") ∷
+    asks (string true) 4 "" "\"_%(\"\u{b}'\\t,'  ''ã\u{80}\u{80}" "" (cramped "_%(\t,") ∷
+    asks (string false) 4 "" "E''\n'('''''Â¡\"\\_#\"" "" (refuses 6) ∷
+    asks (string true) 4 "" "E''\n'('''''Â¡\"\\_#\"" "" (refuses 6) ∷
     asks (string true) 4 "\\" "'' '\\''' " "x" (refuses 6) ∷
-    asks (string false) 4 "$$" "n''\u{e1}\u{9a}\u{80}'%\"'x" "$$" (refuses 6) ∷
-    asks (string true) 4 "$$" "n''\u{e1}\u{9a}\u{80}'%\"'x" "$$" (refuses 6) ∷
-    asks (string false) 4 "" "U&''\u{c2}\u{a0}\u{e1}\u{9a}\u{80}'''''" "" (refuses 6) ∷
+    asks (string false) 4 "$$" "n''á\u{9a}\u{80}'%\"'x" "$$" (refuses 6) ∷
+    asks (string true) 4 "$$" "n''á\u{9a}\u{80}'%\"'x" "$$" (refuses 6) ∷
+    asks (string false) 4 "" "U&''Â\u{a0}á\u{9a}\u{80}'''''" "" (refuses 6) ∷
     asks (string false) 4 "" "'\\Z'''\u{b} 'Z'\n" "" (cramped "\\Z'Z") ∷
-    asks (string false) 4 "" "N'\u{ed}\u{9f}\u{bf}'''\u{e2}\u{80}\u{80}''" "" (writes 5 "\u{ed}\u{9f}\u{bf}'") ∷
-    asks (string true) 4 "" "N'\u{ed}\u{9f}\u{bf}'''\u{e2}\u{80}\u{80}''" "" (writes 0 "\u{ed}\u{9f}\u{bf}'") ∷
-    asks (string false) 4 "" "_utf8mb4'\u{c2}\u{80}0G'\u{c2}\u{a0}\u{c}''''" "" (writes 0 "\u{c2}\u{80}0G'") ∷
+    asks (string false) 4 "" "N'í\u{9f}¿'''â\u{80}\u{80}''" "" (writes 5 "í\u{9f}¿'") ∷
+    asks (string true) 4 "" "N'í\u{9f}¿'''â\u{80}\u{80}''" "" (writes 0 "í\u{9f}¿'") ∷
+    asks (string false) 4 "" "_utf8mb4'Â\u{80}0G'Â\u{a0}\u{c}''''" "" (writes 0 "Â\u{80}0G'") ∷
     asks (string false) 4 "" "'.'''  '\\f'\n" "" (writes 0 ".'\\f") ∷
     asks (string true) 4 "" "'.'''  '\\f'\n" "" (writes 1 ".'f") ∷
     asks (string false) 4 "1" "_a'''' 'E\\x' \"\"\n" "" (writes 1 "'E\\x") ∷
-    asks (string false) 4 "" "\"x\"\"\"\"\"\u{c2}\u{85}'19\\z'\u{c2}\u{a0} 'G'" "" (writes 0 "x\"\"19\\zG") ∷
-    asks (string false) 4 "" "\")\"\"\"\u{b}'\\B'\t\u{e2}\u{80}\u{a9}'\\0'x" "x" (refuses 6) ∷
-    asks (string true) 4 "" "\")\"\"\"\u{b}'\\B'\t\u{e2}\u{80}\u{a9}'\\0'x" "x" (refuses 6) ∷
+    asks (string false) 4 "" "\"x\"\"\"\"\"Â\u{85}'19\\z'Â\u{a0} 'G'" "" (writes 0 "x\"\"19\\zG") ∷
+    asks (string false) 4 "" "\")\"\"\"\u{b}'\\B'\tâ\u{80}©'\\0'x" "x" (refuses 6) ∷
+    asks (string true) 4 "" "\")\"\"\"\u{b}'\\B'\tâ\u{80}©'\\0'x" "x" (refuses 6) ∷
     asks (string true) 4 "" "'g\"\\_'  '\\t'8' '' \u{c}\"Z\"" "" (refuses 6) ∷
     asks (string false) 4 "" "u&'' '(\"'''" "" (writes 1 "(\"'") ∷
     asks (string false) 4 "" "\"\"\t 'N''n'\n" "'" (writes 5 "N'n") ∷
-    asks (string false) 4 "" "e''\u{c2}\u{85}'''' ''\u{c}'g'" "" (writes 5 "'g") ∷
-    asks (string true) 4 "" "e''\u{c2}\u{85}'''' ''\u{c}'g'" "" (writes 5 "'g") ∷
-    asks (string true) 4 "" "N'' \u{e1}\u{9a}\u{80}\"\\b'\"\u{e3}\u{80}\u{81}'' '\"' " "" (refuses 6) ∷
-    asks (string false) 4 "" "u&'\\+000800''\\f'  ''\n$Z$N\u{e2}\u{81}\u{9f}$Z$ " "" (refuses 6) ∷
-    asks (string true) 4 "" "u&'\\+000800''\\f'  ''\n$Z$N\u{e2}\u{81}\u{9f}$Z$ " "" (refuses 6) ∷
-    asks (string false) 4 "" "__\"\"\u{1f}''\u{e3}\u{80}\u{80}" "" (refuses 6) ∷
-    asks (string true) 4 "" "__\"\"\u{1f}''\u{e3}\u{80}\u{80}" "" (refuses 6) ∷
-    asks (string false) 4 "" "n'\u{f0}\u{9f}\u{98}\u{80}'\u{1c}\"g-\"" "" (refuses 6) ∷
-    asks (string true) 4 "" "n'\u{f0}\u{9f}\u{98}\u{80}'\u{1c}\"g-\"" "" (refuses 6) ∷
-    asks (string false) 4 "" "''\u{c2}\u{a1}''\u{e}'\\\u{f0}\u{9f}\u{98}\u{80}'''''" "" (refuses 6) ∷
-    asks (string true) 4 "" "''\u{c2}\u{a1}''\u{e}'\\\u{f0}\u{9f}\u{98}\u{80}'''''" "" (refuses 6) ∷
-    asks (string true) 4 "" "''\u{e2}\u{80}\u{8a}x'B5'\u{1c}\"!\u{0}'\"x" "" (refuses 6) ∷
+    asks (string false) 4 "" "e''Â\u{85}'''' ''\u{c}'g'" "" (writes 5 "'g") ∷
+    asks (string true) 4 "" "e''Â\u{85}'''' ''\u{c}'g'" "" (writes 5 "'g") ∷
+    asks (string true) 4 "" "N'' á\u{9a}\u{80}\"\\b'\"ã\u{80}\u{81}'' '\"' " "" (refuses 6) ∷
+    asks (string false) 4 "" "u&'\\+000800''\\f'  ''\n$Z$Nâ\u{81}\u{9f}$Z$ " "" (refuses 6) ∷
+    asks (string true) 4 "" "u&'\\+000800''\\f'  ''\n$Z$Nâ\u{81}\u{9f}$Z$ " "" (refuses 6) ∷
+    asks (string false) 4 "" "__\"\"\u{1f}''ã\u{80}\u{80}" "" (refuses 6) ∷
+    asks (string true) 4 "" "__\"\"\u{1f}''ã\u{80}\u{80}" "" (refuses 6) ∷
+    asks (string false) 4 "" "n'ð\u{9f}\u{98}\u{80}'\u{1c}\"g-\"" "" (refuses 6) ∷
+    asks (string true) 4 "" "n'ð\u{9f}\u{98}\u{80}'\u{1c}\"g-\"" "" (refuses 6) ∷
+    asks (string false) 4 "" "''Â¡''\u{e}'\\ð\u{9f}\u{98}\u{80}'''''" "" (refuses 6) ∷
+    asks (string true) 4 "" "''Â¡''\u{e}'\\ð\u{9f}\u{98}\u{80}'''''" "" (refuses 6) ∷
+    asks (string true) 4 "" "''â\u{80}\u{8a}x'B5'\u{1c}\"!\0'\"x" "" (refuses 6) ∷
     asks (string true) 4 "" "_a$'b'\n''''\u{b}\"\" '1' " "" (refuses 6) ∷
-    asks (string false) 4 "" "E'\\_'\u{e3}\u{80}\u{80}'\\\u{f0}\u{9f}\u{98}\u{80}' '\u{7f}b$'" "" (writes 0 "_\\\u{f0}\u{9f}\u{98}\u{80}\u{7f}b$") ∷
-    asks (string true) 4 "" "E'\\_'\u{e3}\u{80}\u{80}'\\\u{f0}\u{9f}\u{98}\u{80}' '\u{7f}b$'" "" (writes 0 "_\u{f0}\u{9f}\u{98}\u{80}\u{7f}b$") ∷
-    asks (string true) 4 "" "N''\u{c2}\u{a0} 'b'''x" "" (refuses 6) ∷
+    asks (string false) 4 "" "E'\\_'ã\u{80}\u{80}'\\ð\u{9f}\u{98}\u{80}' '\u{7f}b$'" "" (writes 0 "_\\ð\u{9f}\u{98}\u{80}\u{7f}b$") ∷
+    asks (string true) 4 "" "E'\\_'ã\u{80}\u{80}'\\ð\u{9f}\u{98}\u{80}' '\u{7f}b$'" "" (writes 0 "_ð\u{9f}\u{98}\u{80}\u{7f}b$") ∷
+    asks (string true) 4 "" "N''Â\u{a0} 'b'''x" "" (refuses 6) ∷
     asks (string true) 4 "" "n''''''\n'' \"\"x" "" (refuses 6) ∷
-    asks (string false) 4 "" "'_Y\\T'  '\\\"+\"'\u{e3}\u{80}\u{80}" "" (writes 0 "_Y\\T\\\"+\"") ∷
-    asks (string true) 4 "" "'_Y\\T'  '\\\"+\"'\u{e3}\u{80}\u{80}" "" (writes 1 "_YT\"+\"") ∷
-    asks (string true) 4 "" "n'f'\n\u{c2}\u{a0}'.F' " "" (writes 1 "f.F") ∷
-    asks (string false) 4 "= " "E'' '' ''\u{e3}\u{80}\u{80}" "\u{0}" (writes 2 "") ∷
-    asks (string true) 4 "= " "E'' '' ''\u{e3}\u{80}\u{80}" "\u{0}" (writes 2 "") ∷
-    asks (string true) 4 "" "n'\\x\u{ef}\u{bc}\u{99}''\tN\\z'\n" "" (refuses 6) ∷
-    asks (string true) 4 "" "\"'\"\n'\\\u{c3}\u{a9}G\u{b}'\n" "" (cramped "'\u{c3}\u{a9}G\u{b}") ∷
-    asks (string true) 4 "" "n'''b'\u{e2}\u{80}\u{80}'\"'''n''\n" "" (writes 1 "'b\"'") ∷
-    asks (string false) 4 "" "''\u{e2}\u{80}\u{a9}'\\r\\\\' '\"\\\\'x" "" (refuses 6) ∷ []
+    asks (string false) 4 "" "'_Y\\T'  '\\\"+\"'ã\u{80}\u{80}" "" (writes 0 "_Y\\T\\\"+\"") ∷
+    asks (string true) 4 "" "'_Y\\T'  '\\\"+\"'ã\u{80}\u{80}" "" (writes 1 "_YT\"+\"") ∷
+    asks (string true) 4 "" "n'f'\nÂ\u{a0}'.F' " "" (writes 1 "f.F") ∷
+    asks (string false) 4 "= " "E'' '' ''ã\u{80}\u{80}" "\0" (writes 2 "") ∷
+    asks (string true) 4 "= " "E'' '' ''ã\u{80}\u{80}" "\0" (writes 2 "") ∷
+    asks (string true) 4 "" "n'\\xï¼\u{99}''\tN\\z'\n" "" (refuses 6) ∷
+    asks (string true) 4 "" "\"'\"\n'\\Ã©G\u{b}'\n" "" (cramped "'Ã©G\u{b}") ∷
+    asks (string true) 4 "" "n'''b'â\u{80}\u{80}'\"'''n''\n" "" (writes 1 "'b\"'") ∷
+    asks (string false) 4 "" "''â\u{80}©'\\r\\\\' '\"\\\\'x" "" (refuses 6) ∷ []
 
 pub rows-right : T (all rows)
 unfolding within isMark isLetter isDecimal inName startsTag inTag digit allDigits lead utf8 more encode isScalar isSpace doubled oneByte mayEscape scalarBy pair lowHalf uescaped named segment segmentStep cut continues encloses argument upper isUnicode unicodeSpelling delimiter spelling answer one read signLength isMinus baseBy radixPrefix parsed separated radixValue i64Of digitsBy digitsOf decimalOf bitBody bits money tokenStart quoteToken temporalToken temporal charsetEnd uescapeLegal escapeValid unicodeValid ident partShown filled cutsCharacter badSpan sourceText tested stringQuestion decimalQuestion bitsQuestion temporalQuestion sourceQuestion moneyQuestion charsetQuestion i64Question identifierQuestion

@@ -18,98 +18,98 @@ use Rattle.meaning.proofs.Rows.{Row, asks, spans, detached, helps, name
 
 abbrev pub rows : List Row
 rows =
-    asks (string false) 4 "" "\"\"  '\"-'\r\u{c2}\u{85}\"\"" "" (writes 1 "\"-") ∷
-    asks (string false) 4 "" "'\u{e2}\u{80}\u{af}\n;'''''\n\"\"" "" (writes 0 "\u{e2}\u{80}\u{af}\n;''") ∷
-    asks (string true) 4 "" "u&''\u{e2}\u{80}\u{80}''" "" (writes 0 "") ∷
+    asks (string false) 4 "" "\"\"  '\"-'\rÂ\u{85}\"\"" "" (writes 1 "\"-") ∷
+    asks (string false) 4 "" "'â\u{80}¯\n;'''''\n\"\"" "" (writes 0 "â\u{80}¯\n;''") ∷
+    asks (string true) 4 "" "u&''â\u{80}\u{80}''" "" (writes 0 "") ∷
     asks (string false) 4 "" "N'\\0'\n'\\b' " "" (writes 1 "\\0\\b") ∷
-    asks (string true) 4 "" "e''\u{c2}\u{a0}'u\u{c2}\u{80}' _Z\"\"\"'\"\n" "" (cramped "u\u{c2}\u{80}\"'") ∷
+    asks (string true) 4 "" "e''Â\u{a0}'uÂ\u{80}' _Z\"\"\"'\"\n" "" (cramped "uÂ\u{80}\"'") ∷
     asks (string false) 4 "" "\".#\" \n''''\u{b}X''" "" (refuses 6) ∷
     asks (string true) 4 "" "\".#\" \n''''\u{b}X''" "" (refuses 6) ∷
     asks (string false) 4 "" "''\r '\\Z'x" "" (refuses 6) ∷
-    asks (string false) 4 "" "\"\u{1}\" \u{c2}\u{a0}'8'x" "" (refuses 6) ∷
-    asks (string true) 4 "" "\"\u{1}\" \u{c2}\u{a0}'8'x" "" (refuses 6) ∷
-    asks (string false) 4 "" "'\\B\\_'\u{c2}\u{a0}'\\b\"'\u{e2}\u{80}\u{8a} '\"1'" "" (writes 0 "\\B\\_\\b\"\"1") ∷
-    asks (string true) 4 "" "'\\B\\_'\u{c2}\u{a0}'\\b\"'\u{e2}\u{80}\u{8a} '\"1'" "" (writes 0 "B\\_\u{8}\"\"1") ∷
-    asks (string false) 4 "" "n'\n9\\_'\r\u{e2}\u{80}\u{af}'' u&'' '' " "" (writes 0 "\n9\\_") ∷
-    asks (string true) 4 "" "n'\n9\\_'\r\u{e2}\u{80}\u{af}'' u&'' '' " "" (writes 0 "\n9\\_") ∷
-    asks (string false) 4 "" "\"\" \u{c2}\u{a0}'' \"(\\x\"" "" (writes 1 "(\\x") ∷
-    asks (string false) 4 "" "\"\\f1\"\u{c}\u{e2}\u{81}\u{9f}''\"8\"" "" (writes 1 "\\f18") ∷
-    asks (string true) 4 "" "\"\\f1\"\u{c}\u{e2}\u{81}\u{9f}''\"8\"" "" (writes 5 "f18") ∷
-    asks (string false) 4 "" "'\u{f0}\u{9f}\u{98}\u{80}\\'''\u{e2}\u{81}\u{9f}''\n\"N\\\"\"x" "" (refuses 6) ∷
+    asks (string false) 4 "" "\"\u{1}\" Â\u{a0}'8'x" "" (refuses 6) ∷
+    asks (string true) 4 "" "\"\u{1}\" Â\u{a0}'8'x" "" (refuses 6) ∷
+    asks (string false) 4 "" "'\\B\\_'Â\u{a0}'\\b\"'â\u{80}\u{8a} '\"1'" "" (writes 0 "\\B\\_\\b\"\"1") ∷
+    asks (string true) 4 "" "'\\B\\_'Â\u{a0}'\\b\"'â\u{80}\u{8a} '\"1'" "" (writes 0 "B\\_\u{8}\"\"1") ∷
+    asks (string false) 4 "" "n'\n9\\_'\râ\u{80}¯'' u&'' '' " "" (writes 0 "\n9\\_") ∷
+    asks (string true) 4 "" "n'\n9\\_'\râ\u{80}¯'' u&'' '' " "" (writes 0 "\n9\\_") ∷
+    asks (string false) 4 "" "\"\" Â\u{a0}'' \"(\\x\"" "" (writes 1 "(\\x") ∷
+    asks (string false) 4 "" "\"\\f1\"\u{c}â\u{81}\u{9f}''\"8\"" "" (writes 1 "\\f18") ∷
+    asks (string true) 4 "" "\"\\f1\"\u{c}â\u{81}\u{9f}''\"8\"" "" (writes 5 "f18") ∷
+    asks (string false) 4 "" "'ð\u{9f}\u{98}\u{80}\\'''â\u{81}\u{9f}''\n\"N\\\"\"x" "" (refuses 6) ∷
     asks (string false) 4 "" "u&''\n ''\n''" "" (writes 0 "") ∷
     asks (string true) 4 "" "u&''\n ''\n''" "" (writes 2 "") ∷
-    asks (string false) 4 "x" "_binary\"u\"\u{e1}\u{a0}\u{8e}''''''\n" "\\" (refuses 6) ∷
-    asks (string true) 4 "" "''\u{8}'-\\8'\tx'2'\u{e3}\u{80}\u{80}" "" (refuses 6) ∷
-    asks (string false) 4 "" "E''\u{8}'\\b' \"\u{1}8\"\"\"\u{e3}\u{80}\u{80}" "" (refuses 6) ∷
+    asks (string false) 4 "x" "_binary\"u\"á\u{a0}\u{8e}''''''\n" "\\" (refuses 6) ∷
+    asks (string true) 4 "" "''\u{8}'-\\8'\tx'2'ã\u{80}\u{80}" "" (refuses 6) ∷
+    asks (string false) 4 "" "E''\u{8}'\\b' \"\u{1}8\"\"\"ã\u{80}\u{80}" "" (refuses 6) ∷
     asks (string false) 4 "" "\"\"  '\u{7f}'\n" "" (writes 5 "\u{7f}") ∷
-    asks (string false) 4 "" "E''\u{c}''  $$ $$\u{c2}\u{85} X'0F'" "" (refuses 6) ∷
-    asks (string true) 4 "" "'F''\u{1}'\u{e2}\u{80}\u{a8}'\u{e2}\u{80}\u{a9}'" "" (writes 0 "F'\u{1}\u{e2}\u{80}\u{a9}") ∷
+    asks (string false) 4 "" "E''\u{c}''  $$ $$Â\u{85} X'0F'" "" (refuses 6) ∷
+    asks (string true) 4 "" "'F''\u{1}'â\u{80}¨'â\u{80}©'" "" (writes 0 "F'\u{1}â\u{80}©") ∷
     asks (string false) 4 "" "''  ''\u{c}'Z'\n''" "" (writes 1 "Z") ∷
     asks (string true) 4 "" "''  ''\u{c}'Z'\n''" "" (writes 1 "Z") ∷
-    asks (string false) 4 "" "\"\"'' \u{e2}\u{81}\u{9f}x'1'\u{e3}\u{80}\u{80}" "" (refuses 6) ∷
-    asks (string true) 4 "" "'' \u{c2}\u{85}'\"''\u{e2}\u{80}\u{80}'x" "" (refuses 6) ∷
-    asks (string true) 4 "\u{e3}\u{80}\u{80}" "N'' '\"\u{c3}\u{a9}\u{0}'\u{e3}\u{80}\u{80}" "= " (refuses 6) ∷
-    asks (string true) 4 "" "'\" \\r'\u{e2}\u{81}\u{a0}''\u{e3}\u{80}\u{80}'' ''x" "\\" (refuses 6) ∷
-    asks (string true) 4 "" "\"\"\"'8\"\u{c2}\u{a0}\r''\u{e2}\u{80}\u{8a} u&''" "" (cramped "\"'8") ∷
-    asks (string true) 4 "" "_Utf8\"\\\u{c3}\u{a9} -\"\u{e3}\u{80}\u{80}'\\z'\u{e3}\u{80}\u{80}" "" (writes 0 "\u{c3}\u{a9} -z") ∷
-    asks (string true) 4 "" "'\u{0}'\u{b}''''" "" (refuses 6) ∷
+    asks (string false) 4 "" "\"\"'' â\u{81}\u{9f}x'1'ã\u{80}\u{80}" "" (refuses 6) ∷
+    asks (string true) 4 "" "'' Â\u{85}'\"''â\u{80}\u{80}'x" "" (refuses 6) ∷
+    asks (string true) 4 "ã\u{80}\u{80}" "N'' '\"Ã©\0'ã\u{80}\u{80}" "= " (refuses 6) ∷
+    asks (string true) 4 "" "'\" \\r'â\u{81}\u{a0}''ã\u{80}\u{80}'' ''x" "\\" (refuses 6) ∷
+    asks (string true) 4 "" "\"\"\"'8\"Â\u{a0}\r''â\u{80}\u{8a} u&''" "" (cramped "\"'8") ∷
+    asks (string true) 4 "" "_Utf8\"\\Ã© -\"ã\u{80}\u{80}'\\z'ã\u{80}\u{80}" "" (writes 0 "Ã© -z") ∷
+    asks (string true) 4 "" "'\0'\u{b}''''" "" (refuses 6) ∷
     asks (string false) 4 "" "'\\f'\t\r'/'\n" "" (writes 0 "\\f/") ∷
-    asks (string false) 4 "x" "''\u{c2}\u{a1}'%''' ''\n" "x" (refuses 6) ∷
-    asks (string true) 4 "x" "''\u{c2}\u{a1}'%''' ''\n" "x" (refuses 6) ∷
-    asks (string false) 4 "\u{c3}\u{a9}" "'+'  '#'" "\u{c3}\u{a9}" (writes 0 "+#") ∷
-    asks (string true) 4 "\u{c3}\u{a9}" "'+'  '#'" "\u{c3}\u{a9}" (writes 0 "+#") ∷
-    asks (string false) 4 "" "\"Z|\"\n'\\r\\b'''\u{c2}\u{85}';\" '" "" (writes 5 "Z|\\r\\b';\" ") ∷
-    asks (string true) 4 "" "\"Z|\"\n'\\r\\b'''\u{c2}\u{85}';\" '" "" (cramped "Z|\r\u{8}';\" ") ∷
-    asks (string false) 4 "" "'Y|\"''''\\z'''\n\"\u{f4}\u{8f}\u{bf}\u{bf} \" " "" (writes 0 "Y|\"''\\z'\u{f4}\u{8f}\u{bf}\u{bf} ") ∷
-    asks (string true) 4 "" "'Y|\"''''\\z'''\n\"\u{f4}\u{8f}\u{bf}\u{bf} \" " "" (writes 0 "Y|\"''z'\u{f4}\u{8f}\u{bf}\u{bf} ") ∷
-    asks (string false) 4 "" "\"\" '''\u{e3}\u{80}\u{80}" "" (refuses 6) ∷
-    asks (string true) 4 "" "\"\" '''\u{e3}\u{80}\u{80}" "" (refuses 6) ∷
-    asks (string false) 4 "" "__'\"\u{0}9' \u{e2}\u{80}\u{a8}''" "x" (refuses 6) ∷
+    asks (string false) 4 "x" "''Â¡'%''' ''\n" "x" (refuses 6) ∷
+    asks (string true) 4 "x" "''Â¡'%''' ''\n" "x" (refuses 6) ∷
+    asks (string false) 4 "Ã©" "'+'  '#'" "Ã©" (writes 0 "+#") ∷
+    asks (string true) 4 "Ã©" "'+'  '#'" "Ã©" (writes 0 "+#") ∷
+    asks (string false) 4 "" "\"Z|\"\n'\\r\\b'''Â\u{85}';\" '" "" (writes 5 "Z|\\r\\b';\" ") ∷
+    asks (string true) 4 "" "\"Z|\"\n'\\r\\b'''Â\u{85}';\" '" "" (cramped "Z|\r\u{8}';\" ") ∷
+    asks (string false) 4 "" "'Y|\"''''\\z'''\n\"ô\u{8f}¿¿ \" " "" (writes 0 "Y|\"''\\z'ô\u{8f}¿¿ ") ∷
+    asks (string true) 4 "" "'Y|\"''''\\z'''\n\"ô\u{8f}¿¿ \" " "" (writes 0 "Y|\"''z'ô\u{8f}¿¿ ") ∷
+    asks (string false) 4 "" "\"\" '''ã\u{80}\u{80}" "" (refuses 6) ∷
+    asks (string true) 4 "" "\"\" '''ã\u{80}\u{80}" "" (refuses 6) ∷
+    asks (string false) 4 "" "__'\"\09' â\u{80}¨''" "x" (refuses 6) ∷
     asks (string false) 4 "" "_A\"\\F\" '/;'" "" (writes 0 "\\F/;") ∷
     asks (string false) 4 "" "_z9'a''' '\\f&' ''x" "" (refuses 6) ∷
-    asks (string false) 4 "\u{c3}\u{a9}" "n'\"\\T'\n\"a\"" "" (cramped "\"\\Ta") ∷
-    asks (string true) 4 "\u{c3}\u{a9}" "n'\"\\T'\n\"a\"" "" (writes 0 "\"Ta") ∷
-    asks (string true) 4 "" "u&'\"'\u{c2}\u{a0}'9\\B\\x'\n\"\"'Yx'" "" (writes 1 "\"9BxYx") ∷
-    asks (string false) 4 "" "u&''\u{e2}\u{80}\u{8a} ''" "" (writes 2 "") ∷
-    asks (string true) 4 "" "'\\0e\u{0}'\u{1f}''  \"\"x" "" (refuses 6) ∷
+    asks (string false) 4 "Ã©" "n'\"\\T'\n\"a\"" "" (cramped "\"\\Ta") ∷
+    asks (string true) 4 "Ã©" "n'\"\\T'\n\"a\"" "" (writes 0 "\"Ta") ∷
+    asks (string true) 4 "" "u&'\"'Â\u{a0}'9\\B\\x'\n\"\"'Yx'" "" (writes 1 "\"9BxYx") ∷
+    asks (string false) 4 "" "u&''â\u{80}\u{8a} ''" "" (writes 2 "") ∷
+    asks (string true) 4 "" "'\\0e\0'\u{1f}''  \"\"x" "" (refuses 6) ∷
     asks (string false) 4 "" "'\\'.'\n''\n\nN'\u{1}\\z'" "" (refuses 6) ∷
     asks (string true) 4 "" "'\\'.'\n''\n\nN'\u{1}\\z'" "" (cramped "'.\u{1}z") ∷
     asks (string false) 4 "= " "n''\n'''9' '''x'\n" "'" (cramped "'9'x") ∷
     asks (string true) 4 "= " "n''\n'''9' '''x'\n" "'" (cramped "'9'x") ∷
     asks (string false) 4 "" "\"\" '\\' 'X'1'" "" (refuses 6) ∷
-    asks (string true) 4 "" "'\\%' '''\u{e1}\u{9a}\u{80}|' " "" (writes 0 "\\%'\u{e1}\u{9a}\u{80}|") ∷
-    asks (string true) 4 "" "u&'\\007F\\x'\u{e2}\u{81}\u{9f} '.' " "" (refuses 6) ∷
+    asks (string true) 4 "" "'\\%' '''á\u{9a}\u{80}|' " "" (writes 0 "\\%'á\u{9a}\u{80}|") ∷
+    asks (string true) 4 "" "u&'\\007F\\x'â\u{81}\u{9f} '.' " "" (refuses 6) ∷
     asks (string false) 4 "" "n'''' '''\\t\\''" "" (refuses 6) ∷
     asks (string true) 4 "" "n'''' '''\\t\\''" "" (cramped "''\t'") ∷
-    asks (string true) 4 "" "\"#o\"\n' ''\u{e2}\u{80}\u{af}'" "" (writes 0 "#o '\u{e2}\u{80}\u{af}") ∷
+    asks (string true) 4 "" "\"#o\"\n' ''â\u{80}¯'" "" (writes 0 "#o 'â\u{80}¯") ∷
     asks (string false) 4 "" "_z9'' '&F' " "" (writes 0 "&F") ∷
     asks (string true) 4 "" "_z9'' '&F' " "" (writes 0 "&F") ∷
-    asks (string false) 4 "" "'' 'F&\\'''\u{e2}\u{80}\u{80}\u{c2}\u{a0}''x" "" (refuses 6) ∷
-    asks (string true) 4 "" "'\\x\u{0}X' '''\\''' \u{c2}\u{85}''\u{e1}\u{a0}\u{8e}\"\u{0}\"" "" (refuses 6) ∷
+    asks (string false) 4 "" "'' 'F&\\'''â\u{80}\u{80}Â\u{a0}''x" "" (refuses 6) ∷
+    asks (string true) 4 "" "'\\x\0X' '''\\''' Â\u{85}''á\u{a0}\u{8e}\"\0\"" "" (refuses 6) ∷
     asks (string false) 4 "" "'' ''" "" (writes 0 "") ∷
     asks (string true) 4 "" "'' ''" "" (writes 0 "") ∷
-    asks (string false) 4 "\u{0}" "\"\u{ef}\u{bf}\u{bf}\"\n'\\0\\\u{f0}\u{9f}\u{98}\u{80}'" "" (writes 0 "\u{ef}\u{bf}\u{bf}\\0\\\u{f0}\u{9f}\u{98}\u{80}") ∷
-    asks (string true) 4 "" "_B_2\"\"\u{c}'\\r\u{c5}\u{bf}\n'x" "" (refuses 6) ∷
+    asks (string false) 4 "\0" "\"ï¿¿\"\n'\\0\\ð\u{9f}\u{98}\u{80}'" "" (writes 0 "ï¿¿\\0\\ð\u{9f}\u{98}\u{80}") ∷
+    asks (string true) 4 "" "_B_2\"\"\u{c}'\\rÅ¿\n'x" "" (refuses 6) ∷
     asks (string false) 4 "" "'' ','x" "" (refuses 6) ∷
     asks (string true) 4 "" "'' ','x" "" (refuses 6) ∷
-    asks (string true) 4 "" "'8\u{0}''''' \u{e3}\u{80}\u{80}'\"\t'" "" (refuses 6) ∷
-    asks (string true) 4 "" "n'F' ''\u{c2}\u{a0}\u{c}\"8\"\"%\"\u{8}''''x" "" (refuses 6) ∷
+    asks (string true) 4 "" "'8\0''''' ã\u{80}\u{80}'\"\t'" "" (refuses 6) ∷
+    asks (string true) 4 "" "n'F' ''Â\u{a0}\u{c}\"8\"\"%\"\u{8}''''x" "" (refuses 6) ∷
     asks (string true) 4 "" "'b%'\n'+U#'" "" (cramped "b%+U#") ∷
-    asks (string false) 4 "" "'\\x\\t\"' '' \t'\u{e2}\u{80}\u{af}\\R'''" "" (cramped "\\x\\t\"\u{e2}\u{80}\u{af}\\R'") ∷
+    asks (string false) 4 "" "'\\x\\t\"' '' \t'â\u{80}¯\\R'''" "" (cramped "\\x\\t\"â\u{80}¯\\R'") ∷
     asks (string true) 4 "" "u&''\r'KgY'" "" (writes 0 "KgY") ∷
-    asks (string false) 4 "$$" "n'\u{f4}\u{8f}\u{bf}\u{bf}%'''\u{b}u&''" "'" (refuses 6) ∷
+    asks (string false) 4 "$$" "n'ô\u{8f}¿¿%'''\u{b}u&''" "'" (refuses 6) ∷
     asks (string false) 4 "" "\"\\t\\Z\\r\"'''\\'\\T'\n ''" "" (refuses 6) ∷
     asks (string true) 4 "" "n'bFa' ''x" "" (refuses 6) ∷
     asks (string false) 4 "" "N'\\r'\n'ax'" "" (writes 0 "\\rax") ∷
-    asks (string true) 4 "x" "_B_2\"\"'\\Z\\b\u{e2}\u{80}\u{af}'\rU&'x' " "x" (writes 1 "\u{1a}\u{8}\u{e2}\u{80}\u{af}x") ∷
+    asks (string true) 4 "x" "_B_2\"\"'\\Z\\bâ\u{80}¯'\rU&'x' " "x" (writes 1 "\u{1a}\u{8}â\u{80}¯x") ∷
     asks (string false) 4 "" "x110''1'" "" (refuses 6) ∷
     asks (string true) 4 "" "x110''1'" "" (refuses 6) ∷
-    asks (string false) 4 "\u{e3}\u{80}\u{80}" "e''\r''\u{e2}\u{80}\u{a8}\"" "\u{c3}\u{a9}" (refuses 6) ∷
-    asks (string false) 4 "" "E'\\U\u{0}_0110000'" "" (refuses 6) ∷
+    asks (string false) 4 "ã\u{80}\u{80}" "e''\r''â\u{80}¨\"" "Ã©" (refuses 6) ∷
+    asks (string false) 4 "" "E'\\U\0_0110000'" "" (refuses 6) ∷
     asks (string false) 4 "" "$$" "" (refuses 6) ∷
-    asks (string false) 4 "" "$\u{c3}\u{a9}\u{0}52\u{0}" "" (refuses 6) ∷
-    asks (string false) 4 "\u{e3}\u{80}\u{80}" "e'\\xa9xa9f\u{7f}'" "x" (refuses 6) ∷
-    asks (string true) 4 "\u{e3}\u{80}\u{80}" "e'\\xa9xa9f\u{7f}'" "x" (refuses 6) ∷
+    asks (string false) 4 "" "$Ã©\052\0" "" (refuses 6) ∷
+    asks (string false) 4 "ã\u{80}\u{80}" "e'\\xa9xa9f\u{7f}'" "x" (refuses 6) ∷
+    asks (string true) 4 "ã\u{80}\u{80}" "e'\\xa9xa9f\u{7f}'" "x" (refuses 6) ∷
     asks (string false) 4 "1" "_az9\"\"" "x" (borrows 6 6 "") ∷
     asks (string true) 4 "1" "_az9\"\"" "x" (borrows 6 6 "") ∷
     asks (string true) 4 "" "" "" (refuses 6) ∷
@@ -121,14 +121,14 @@ rows =
     asks (string true) 4 "" "x'01110' '" "" (refuses 6) ∷
     asks (string false) 4 "" "z9'K'" "" (refuses 6) ∷
     asks (string false) 4 "" "b110001'" "" (refuses 6) ∷
-    asks (string false) 4 "" "$A$'\u{c3}\u{a9}$A$e$A$" "'" (borrows 3 10 "'\u{c3}\u{a9}$A$e") ∷
-    asks (string true) 4 "" "$A$'\u{c3}\u{a9}$A$e$A$" "'" (borrows 3 10 "'\u{c3}\u{a9}$A$e") ∷
+    asks (string false) 4 "" "$A$'Ã©$A$e$A$" "'" (borrows 3 10 "'Ã©$A$e") ∷
+    asks (string true) 4 "" "$A$'Ã©$A$e$A$" "'" (borrows 3 10 "'Ã©$A$e") ∷
     asks (string false) 4 "" "u&" "" (refuses 6) ∷
     asks (string true) 4 "" "u&" "" (refuses 6) ∷
     asks (string false) 4 "" "e''\\xc3g''''" "" (refuses 6) ∷
     asks (string true) 4 "" "e''\\xc3g''''" "" (refuses 6) ∷
-    asks (string false) 4 "'" "u&\u{c3}\u{a9}\\0800g'" "$$" (refuses 6) ∷
-    asks (string true) 4 "'" "u&\u{c3}\u{a9}\\0800g'" "$$" (refuses 6) ∷
+    asks (string false) 4 "'" "u&Ã©\\0800g'" "$$" (refuses 6) ∷
+    asks (string true) 4 "'" "u&Ã©\\0800g'" "$$" (refuses 6) ∷
     asks (string false) 4 "" "x'1100E'\\" "$$" (refuses 6) ∷
     asks (string true) 4 "" "x'1100E'\\" "$$" (refuses 6) ∷
     asks (string false) 4 "" "+99619_e836" "" (refuses 6) ∷
@@ -139,24 +139,24 @@ rows =
     asks (string false) 4 "" "TIME$X'\\TNu' 'x'" "" (refuses 6) ∷
     asks (string false) 4 "" "N'\\tgY)\\\\ 0'" "" (borrows 2 11 "\\tgY)\\\\ 0") ∷
     asks (string true) 4 "" "N'\\tgY)\\\\ 0'" "" (writes 0 "\tgY)\\ 0") ∷
-    asks (string true) 4 "\u{e3}\u{80}\u{80}" "+0x+67a$74_\"" "" (refuses 6) ∷
-    asks (string false) 4 "" "$Z$\u{df}\u{bf}\u{c2}\u{80}\\$Zx" "" (refuses 6) ∷
-    asks (string false) 4 "\\" "_a$'\\0\\T'B'" "\u{c3}\u{a9}" (refuses 6) ∷
-    asks (string false) 4 "" "U&'\\00011'\u{0}" "" (refuses 6) ∷
+    asks (string true) 4 "ã\u{80}\u{80}" "+0x+67a$74_\"" "" (refuses 6) ∷
+    asks (string false) 4 "" "$Z$ß¿Â\u{80}\\$Zx" "" (refuses 6) ∷
+    asks (string false) 4 "\\" "_a$'\\0\\T'B'" "Ã©" (refuses 6) ∷
+    asks (string false) 4 "" "U&'\\00011'\0" "" (refuses 6) ∷
     asks (string false) 4 "" "\"g\\n \\\"" "" (borrows 1 6 "g\\n \\") ∷
-    asks (string false) 4 "" "'E\u{e3}\u{80}\u{80},\"\u{f0}\u{9f}\u{98}\u{80}'" "" (borrows 1 11 "E\u{e3}\u{80}\u{80},\"\u{f0}\u{9f}\u{98}\u{80}") ∷
+    asks (string false) 4 "" "'Eã\u{80}\u{80},\"ð\u{9f}\u{98}\u{80}'" "" (borrows 1 11 "Eã\u{80}\u{80},\"ð\u{9f}\u{98}\u{80}") ∷
     asks (string false) 4 "= " "'11F'" "" (borrows 3 6 "11F") ∷
     asks (string true) 4 "= " "'11F'" "" (borrows 3 6 "11F") ∷
-    asks (string true) 4 "\u{e3}\u{80}\u{80}" "'1-2'" "\\" (borrows 4 7 "1-2") ∷
+    asks (string true) 4 "ã\u{80}\u{80}" "'1-2'" "\\" (borrows 4 7 "1-2") ∷
     asks (string false) 4 "$$" "' E''\\'\t'" "= " (refuses 6) ∷
     asks (string true) 4 "$$" "' E''\\'\t'" "= " (writes 0 " E''\t") ∷
     asks (string true) 4 "" "n'\"'_" "" (refuses 6) ∷
-    asks (string false) 4 "" "'n__\u{e3}\u{80}\u{80}'" "" (borrows 1 7 "n__\u{e3}\u{80}\u{80}") ∷
+    asks (string false) 4 "" "'n__ã\u{80}\u{80}'" "" (borrows 1 7 "n__ã\u{80}\u{80}") ∷
     asks (string true) 4 "" "B'\\100'" "" (refuses 6) ∷
-    asks (string true) 4 "" "\u{c3}\u{a9}_'' '\\r\\n\\\u{c3}\u{a9}' $$" "" (refuses 6) ∷
+    asks (string true) 4 "" "Ã©_'' '\\r\\n\\Ã©' $$" "" (refuses 6) ∷
     asks (string true) 4 "" "\"e\\'' " "" (refuses 6) ∷
-    asks (string false) 4 "" "\u{c3}\u{a9}'\u{e3}\u{80}\u{80}\"''" "" (refuses 6) ∷
-    asks (string true) 4 "" "\u{c3}\u{a9}'\u{e3}\u{80}\u{80}\"''" "" (refuses 6) ∷
+    asks (string false) 4 "" "Ã©'ã\u{80}\u{80}\"''" "" (refuses 6) ∷
+    asks (string true) 4 "" "Ã©'ã\u{80}\u{80}\"''" "" (refuses 6) ∷
     asks (string false) 4 "" "X''\u{8}" "" (refuses 6) ∷
     asks (string true) 4 "" "X''\u{8}" "" (refuses 6) ∷
     asks (string false) 4 "" "u&'\\\\' '\\Z\\b" "" (refuses 6) ∷
@@ -171,100 +171,100 @@ rows =
     asks (string true) 4 "" "$,'$'," "" (refuses 6) ∷
     asks (string true) 4 "" "F\"" "" (refuses 6) ∷
     asks (string false) 4 "" "U'Xx+'UEsCaPE_x'" "" (refuses 6) ∷
-    asks (string true) 4 "" "'\\_(\u{e2}\u{80}\u{af}'' " "" (refuses 6) ∷
+    asks (string true) 4 "" "'\\_(â\u{80}¯'' " "" (refuses 6) ∷
     asks (string true) 4 "$$" "$$$ " "" (refuses 6) ∷
-    asks (string true) 4 "\u{c3}\u{a9}" "_\u{ef}\u{bd}\u{81}\"Y\u{0}\" '\\\"x'\u{c3}\u{a9} " "" (refuses 6) ∷
+    asks (string true) 4 "Ã©" "_ï½\u{81}\"Y\0\" '\\\"x'Ã© " "" (refuses 6) ∷
     asks (string true) 4 "" "n'&\\T\"'" "" (writes 0 "&T\"") ∷
     asks (string true) 4 "" "'10g1'" "" (borrows 1 5 "10g1") ∷
-    asks (string false) 4 "" "u&'_\u{0}F\\\\'\u{e3}\u{80}\u{80}" "" (refuses 6) ∷
-    asks (string true) 4 "" "u&'_\u{0}F\\\\'\u{e3}\u{80}\u{80}" "" (refuses 6) ∷
+    asks (string false) 4 "" "u&'_\0F\\\\'ã\u{80}\u{80}" "" (refuses 6) ∷
+    asks (string true) 4 "" "u&'_\0F\\\\'ã\u{80}\u{80}" "" (refuses 6) ∷
     asks (string false) 4 "" "63931" "" (refuses 6) ∷
     asks (string false) 4 "" "b'11\\100' " "" (refuses 6) ∷
-    asks (string true) 4 "\u{0}" "E'''8\\u\\xC3\\101" "" (refuses 6) ∷
-    asks (string true) 4 "" "'\t\\\u{e3}\u{80}\u{80}\u{c3}\u{a9}'" "" (writes 1 "\t\u{e3}\u{80}\u{80}\u{c3}\u{a9}") ∷
+    asks (string true) 4 "\0" "E'''8\\u\\xC3\\101" "" (refuses 6) ∷
+    asks (string true) 4 "" "'\t\\ã\u{80}\u{80}Ã©'" "" (writes 1 "\tã\u{80}\u{80}Ã©") ∷
     asks (string false) 4 "" "\"\\Z\\Ba'\"" "" (borrows 1 7 "\\Z\\Ba'") ∷
     asks (string true) 4 "" "\"\\Z\\Ba'\"" "" (cramped "\u{1a}Ba'") ∷
     asks (string true) 4 "" "\"\u{b}\"\"" "" (refuses 6) ∷
     asks (string true) 4 "" "U&'\\d83d\\_0dC00'" "" (refuses 6) ∷
     asks (string false) 4 "'" "+98_12._1" "'" (refuses 6) ∷
-    asks (string true) 4 "\u{0}" "DA\u{0}E ''\u{0}" "\u{0}" (refuses 6) ∷
-    asks (string false) 4 "\\" "A\"$\"" "\u{c3}\u{a9}" (refuses 6) ∷
-    asks (string false) 4 "" "\u{c3}\u{a9}" "" (refuses 6) ∷
-    asks (string true) 4 "" "\u{c3}\u{a9}" "" (refuses 6) ∷
-    asks (string false) 4 "\u{0}" "\"'f\"\"\"'\\N\\''\n'" "" (writes 5 "'f\"\\N\\'\n") ∷
+    asks (string true) 4 "\0" "DA\0E ''\0" "\0" (refuses 6) ∷
+    asks (string false) 4 "\\" "A\"$\"" "Ã©" (refuses 6) ∷
+    asks (string false) 4 "" "Ã©" "" (refuses 6) ∷
+    asks (string true) 4 "" "Ã©" "" (refuses 6) ∷
+    asks (string false) 4 "\0" "\"'f\"\"\"'\\N\\''\n'" "" (writes 5 "'f\"\\N\\'\n") ∷
     asks (string false) 4 "" "407e+$" "" (refuses 6) ∷
     asks (string true) 4 "" "407e+$" "" (refuses 6) ∷
-    asks (string true) 4 "\u{c3}\u{a9}" "u&'' UesCaaE  '\u{e2}\u{80}\u{8b}'" "\u{0}" (refuses 6) ∷
-    asks (string false) 4 "" "n'\u{e2}\u{80}\u{a9}\u{c3}\u{a9}b\\B''" "" (refuses 6) ∷
-    asks (string true) 4 "" "n'\u{e2}\u{80}\u{a9}\u{c3}\u{a9}b\\B''" "" (refuses 6) ∷
+    asks (string true) 4 "Ã©" "u&'' UesCaaE  'â\u{80}\u{8b}'" "\0" (refuses 6) ∷
+    asks (string false) 4 "" "n'â\u{80}©Ã©b\\B''" "" (refuses 6) ∷
+    asks (string true) 4 "" "n'â\u{80}©Ã©b\\B''" "" (refuses 6) ∷
     asks (string false) 4 "" "'\"" "" (refuses 6) ∷
     asks (string true) 4 "" "&'\\0800gN0\\00'" "" (refuses 6) ∷
-    asks (string false) 4 "" " e'\\\u{f0}\u{9f}\u{98}\u{80}" "" (refuses 6) ∷
-    asks (string true) 4 "" " e'\\\u{f0}\u{9f}\u{98}\u{80}" "" (refuses 6) ∷
-    asks (string false) 4 "" "\u{ee}\u{80}\u{80}'" "" (refuses 6) ∷
-    asks (string true) 4 "" "E'\\360\\x9F\\x98\\x80'''" "" (cramped "\u{f0}\u{9f}\u{98}\u{80}'") ∷
-    asks (string true) 4 "" "_B_2'(\\'\u{ed}\u{9f}\u{bf}'" "" (writes 0 "('\u{ed}\u{9f}\u{bf}") ∷
-    asks (string true) 4 "\u{0}" "\"\\_\\B\"\"\"" "\u{c3}\u{a9}" (writes 1 "\\_B\"") ∷
+    asks (string false) 4 "" " e'\\ð\u{9f}\u{98}\u{80}" "" (refuses 6) ∷
+    asks (string true) 4 "" " e'\\ð\u{9f}\u{98}\u{80}" "" (refuses 6) ∷
+    asks (string false) 4 "" "î\u{80}\u{80}'" "" (refuses 6) ∷
+    asks (string true) 4 "" "E'\\360\\x9F\\x98\\x80'''" "" (cramped "ð\u{9f}\u{98}\u{80}'") ∷
+    asks (string true) 4 "" "_B_2'(\\'í\u{9f}¿'" "" (writes 0 "('í\u{9f}¿") ∷
+    asks (string true) 4 "\0" "\"\\_\\B\"\"\"" "Ã©" (writes 1 "\\_B\"") ∷
     asks (string false) 4 "" "_B2\"\"" "" (borrows 4 4 "") ∷
-    asks (string false) 4 "" "e'\u{c3}\u{a9}\\Exa9\\x4g'" "" (writes 0 "\u{c3}\u{a9}Exa9\u{4}g") ∷
-    asks (string true) 4 "" "e'\u{c3}\u{a9}\\Exa9\\x4g'" "" (writes 1 "\u{c3}\u{a9}Exa9\u{4}g") ∷
-    asks (string false) 4 "\u{e3}\u{80}\u{80}" "$$\nx\u{c3}\u{a9}\"$$" "'" (borrows 5 10 "\nx\u{c3}\u{a9}\"") ∷
+    asks (string false) 4 "" "e'Ã©\\Exa9\\x4g'" "" (writes 0 "Ã©Exa9\u{4}g") ∷
+    asks (string true) 4 "" "e'Ã©\\Exa9\\x4g'" "" (writes 1 "Ã©Exa9\u{4}g") ∷
+    asks (string false) 4 "ã\u{80}\u{80}" "$$\nxÃ©\"$$" "'" (borrows 5 10 "\nxÃ©\"") ∷
     asks (string true) 4 "" "'Y0''''\"f'" "" (writes 0 "Y0''\"f") ∷
-    asks (string false) 4 "" "'1100'\u{e1}\u{9a}\u{80} '06''01'\u{e2}\u{80}\u{a8}" "" (writes 5 "110006'01") ∷
-    asks (string true) 4 "" "'1100'\u{e1}\u{9a}\u{80} '06''01'\u{e2}\u{80}\u{a8}" "" (writes 5 "110006'01") ∷
+    asks (string false) 4 "" "'1100'á\u{9a}\u{80} '06''01'â\u{80}¨" "" (writes 5 "110006'01") ∷
+    asks (string true) 4 "" "'1100'á\u{9a}\u{80} '06''01'â\u{80}¨" "" (writes 5 "110006'01") ∷
     asks (string true) 4 "" "'!u'" "" (borrows 1 3 "!u") ∷
     asks (string true) 4 "= " "$$ ,\u{7f}_$$" "\\" (borrows 4 8 " ,\u{7f}_") ∷
-    asks (string false) 4 "\\" "$a$%F$a$$$$a$" "\u{e3}\u{80}\u{80}" (borrows 4 11 "%F$a$$$") ∷
+    asks (string false) 4 "\\" "$a$%F$a$$$$a$" "ã\u{80}\u{80}" (borrows 4 11 "%F$a$$$") ∷
     asks (string true) 4 "" "'1011'" "" (borrows 1 5 "1011") ∷
     asks (string true) 4 "" "E'''\\a2518'" "" (writes 0 "'a2518") ∷
-    asks (string false) 4 "" "$$\u{e3}\u{80}\u{80}X$$$$" "" (borrows 2 8 "\u{e3}\u{80}\u{80}X$$") ∷
+    asks (string false) 4 "" "$$ã\u{80}\u{80}X$$$$" "" (borrows 2 8 "ã\u{80}\u{80}X$$") ∷
     asks (string false) 4 "" "\"\\8\\0\"" "" (borrows 1 5 "\\8\\0") ∷
-    asks (string true) 4 "" "\"\\8\\0\"" "" (writes 5 "8\u{0}") ∷
+    asks (string true) 4 "" "\"\\8\\0\"" "" (writes 5 "8\0") ∷
     asks (string true) 4 "" "n'\\N'" "" (cramped "N") ∷
     asks (string false) 4 "" "'11'" "" (borrows 1 3 "11") ∷
     asks (string false) 4 "" "_A'\\\"''\u{7f}'" "" (writes 5 "\\\"'\u{7f}") ∷
     asks (string true) 4 "" "_A'\\\"''\u{7f}'" "" (writes 1 "\"'\u{7f}") ∷
     asks (string true) 4 "" "\"!(\n\"\"\\f'\"" "1" (writes 0 "!(\n\"f'") ∷
-    asks (string false) 4 "" "_z9'\u{f0}\u{90}\u{80}\u{80}'" "" (borrows 4 8 "\u{f0}\u{90}\u{80}\u{80}") ∷
-    asks (string true) 4 "" "_z9'\u{f0}\u{90}\u{80}\u{80}'" "" (borrows 4 8 "\u{f0}\u{90}\u{80}\u{80}") ∷
-    asks (string true) 4 "" "'\\R\\\\R\\\u{c3}\u{a9}u\\T'" "" (writes 0 "R\\R\u{c3}\u{a9}uT") ∷
-    asks (string false) 4 "" "'U''''U\u{ef}\u{bc}\u{99}'" "" (writes 1 "U''U\u{ef}\u{bc}\u{99}") ∷
+    asks (string false) 4 "" "_z9'ð\u{90}\u{80}\u{80}'" "" (borrows 4 8 "ð\u{90}\u{80}\u{80}") ∷
+    asks (string true) 4 "" "_z9'ð\u{90}\u{80}\u{80}'" "" (borrows 4 8 "ð\u{90}\u{80}\u{80}") ∷
+    asks (string true) 4 "" "'\\R\\\\R\\Ã©u\\T'" "" (writes 0 "R\\RÃ©uT") ∷
+    asks (string false) 4 "" "'U''''Uï¼\u{99}'" "" (writes 1 "U''Uï¼\u{99}") ∷
     asks (string false) 4 "" "\"\"\"%\"'c o'\n U&'\"' ''" "" (writes 0 "\"%c o\"") ∷
     asks (string false) 4 "" "'E%g'" "" (borrows 1 4 "E%g") ∷
     asks (string true) 4 "" "'E%g'" "" (borrows 1 4 "E%g") ∷
-    asks (string false) 4 "= " "\"\"\n'1\\\\\u{c3}\u{a9}' " "\u{e3}\u{80}\u{80}" (writes 1 "1\\\\\u{c3}\u{a9}") ∷
-    asks (string false) 4 "" "\"\\b1_\u{df}\u{bf}\"\"\"" "" (writes 1 "\\b1_\u{df}\u{bf}\"") ∷
-    asks (string false) 4 "" "\"\u{e3}\u{80}\u{80}c\\\u{c3}\u{a9}\"" "" (borrows 1 8 "\u{e3}\u{80}\u{80}c\\\u{c3}\u{a9}") ∷
+    asks (string false) 4 "= " "\"\"\n'1\\\\Ã©' " "ã\u{80}\u{80}" (writes 1 "1\\\\Ã©") ∷
+    asks (string false) 4 "" "\"\\b1_ß¿\"\"\"" "" (writes 1 "\\b1_ß¿\"") ∷
+    asks (string false) 4 "" "\"ã\u{80}\u{80}c\\Ã©\"" "" (borrows 1 8 "ã\u{80}\u{80}c\\Ã©") ∷
     asks (string false) 4 "$$" "'0110g1'" "" (borrows 3 9 "0110g1") ∷
-    asks (string false) 4 "" "n'\u{c2}\u{a0}\nU$F'" "" (borrows 2 8 "\u{c2}\u{a0}\nU$F") ∷
-    asks (string false) 4 "1" "_B0_2'\u{e3}\u{80}\u{80}'" "\u{c3}\u{a9}" (borrows 7 10 "\u{e3}\u{80}\u{80}") ∷
+    asks (string false) 4 "" "n'Â\u{a0}\nU$F'" "" (borrows 2 8 "Â\u{a0}\nU$F") ∷
+    asks (string false) 4 "1" "_B0_2'ã\u{80}\u{80}'" "Ã©" (borrows 7 10 "ã\u{80}\u{80}") ∷
     asks (string false) 4 "" "'eZ te\t\t'" "" (borrows 1 8 "eZ te\t\t") ∷
     asks (string true) 4 "" "'eZ te\t\t'" "" (borrows 1 8 "eZ te\t\t") ∷
     asks (string false) 4 "" "'\"f'" "" (borrows 1 3 "\"f") ∷
-    asks (string true) 4 "" "__'10\\'/\u{c3}\u{a9}'''" "" (cramped "10'/\u{c3}\u{a9}'") ∷
+    asks (string true) 4 "" "__'10\\'/Ã©'''" "" (cramped "10'/Ã©'") ∷
     asks plain 4 "" "e'\\u'" "" (refuses 6) ∷
     asks plain 4 "" "B'010100'x" "" (refuses 6) ∷
-    asks plain 4 "\u{e3}\u{80}\u{80}" "$$_2" "x" (refuses 6) ∷
-    asks plain 4 "\u{c3}\u{a9}" "E'g'" "\u{e3}\u{80}\u{80}" (borrows 4 5 "g") ∷
+    asks plain 4 "ã\u{80}\u{80}" "$$_2" "x" (refuses 6) ∷
+    asks plain 4 "Ã©" "E'g'" "ã\u{80}\u{80}" (borrows 4 5 "g") ∷
     asks plain 4 "" "X'B'" "" (refuses 6) ∷
     asks plain 4 "" "_utf8mb4''" "" (borrows 9 9 "") ∷
     asks plain 4 "" "DATE'' 'x'" "" (refuses 6) ∷
-    asks plain 4 "" "$\u{e3}\u{80}\u{80}$$\u{e3}\u{80}\u{80}$" "'" (borrows 5 5 "") ∷
-    asks plain 4 "\u{e3}\u{80}\u{80}" "\"\"\"\\Tx\"" "$$" (writes 0 "\"\\Tx") ∷
+    asks plain 4 "" "$ã\u{80}\u{80}$$ã\u{80}\u{80}$" "'" (borrows 5 5 "") ∷
+    asks plain 4 "ã\u{80}\u{80}" "\"\"\"\\Tx\"" "$$" (writes 0 "\"\\Tx") ∷
     asks plain 4 "" "'''\\z!-'" "" (writes 1 "'\\z!-") ∷
     asks plain 4 "" "'''G\"\"\\8'" "" (writes 0 "'G\"\"\\8") ∷
     asks plain 4 "" "$a$\"$a$x" "" (refuses 6) ∷
     asks plain 4 "" "B'200E'''" "" (refuses 6) ∷
     asks plain 4 "" "U&''" "" (borrows 3 3 "") ∷
     asks plain 4 "" "\"\"" "" (borrows 1 1 "") ∷
-    asks plain 4 "\u{0}" "2X 1" "$$" (refuses 6) ∷
+    asks plain 4 "\0" "2X 1" "$$" (refuses 6) ∷
     asks plain 4 "" "_z9''" "" (borrows 4 4 "") ∷
     asks plain 4 "" "-984_._e71" "" (refuses 6) ∷
-    asks plain 4 "\\" "\"9\"\"\"\"\\%\\_\"" "\u{c3}\u{a9}" (writes 5 "9\"\"\\%\\_") ∷
-    asks plain 4 "\u{c3}\u{a9}" "'9'\u{e2}\u{80}\u{a9} '' \u{e2}\u{80}\u{af}\"&(\"\n" "\\" (writes 0 "9&(") ∷
+    asks plain 4 "\\" "\"9\"\"\"\"\\%\\_\"" "Ã©" (writes 5 "9\"\"\\%\\_") ∷
+    asks plain 4 "Ã©" "'9'â\u{80}© '' â\u{80}¯\"&(\"\n" "\\" (writes 0 "9&(") ∷
     asks i64 1 "" "-0X_0Cf9_4_DaFE" "" (refuses 5) ∷
     asks i64 1 "" "0B--0000" "" (refuses 5) ∷
-    asks i64 1 "'" "-0x+8000000000000001" "\u{c3}\u{a9}" (refuses 5) ∷
+    asks i64 1 "'" "-0x+8000000000000001" "Ã©" (refuses 5) ∷
     asks i64 1 "" "-0XD5938" "" (minus 874808) ∷
     asks i64 1 "" "+5058_9" "$$" (plus 50589) ∷
     asks i64 1 "" "0559786" "" (plus 559786) ∷
@@ -291,7 +291,7 @@ rows =
     asks i64 1 "" "0B-01_001100" "" (minus 76) ∷
     asks i64 1 "" "+9223372036854775808" "" (refuses 5) ∷
     asks i64 1 "" "-0x8Ae70E" "" (minus 9103118) ∷
-    asks i64 1 "$$" "0O105022" "\u{c3}\u{a9}" (plus 35346) ∷
+    asks i64 1 "$$" "0O105022" "Ã©" (plus 35346) ∷
     asks i64 1 "" "04324" "" (plus 4324) ∷
     asks i64 1 "" "" "" (refuses 5) ∷
     asks i64 1 "" "0o46_446114" "" (plus 10112076) ∷
@@ -302,12 +302,12 @@ rows =
     asks i64 1 "" "0B-10_0000011" "" (minus 259) ∷
     asks i64 1 "" "-0x--8_9F" "" (refuses 5) ∷
     asks i64 1 "" "-0X_7fffFFFFFfFfF_fFe" "" (refuses 5) ∷
-    asks i64 1 "1" "-0x8000000000000_000" "\u{e3}\u{80}\u{80}" (refuses 5) ∷
+    asks i64 1 "1" "-0x8000000000000_000" "ã\u{80}\u{80}" (refuses 5) ∷
     asks i64 1 "" "-7765982" "" (minus 7765982) ∷
-    asks i64 1 "\u{e3}\u{80}\u{80}" "0X--8000000000000001" "$$" (refuses 5) ∷
+    asks i64 1 "ã\u{80}\u{80}" "0X--8000000000000001" "$$" (refuses 5) ∷
     asks i64 1 "" "46936340" "" (plus 46936340) ∷
     asks i64 1 "\\" "-9643" "'" (minus 9643) ∷
-    asks i64 1 "\u{0}" "-0x_" "\u{c3}\u{a9}" (refuses 5) ∷
+    asks i64 1 "\0" "-0x_" "Ã©" (refuses 5) ∷
     asks i64 1 "" "0X--53" "" (refuses 5) ∷
     asks i64 1 "" "-0xa8EB_EA333" "" (minus 45344531251) ∷
     asks i64 1 "= " "0X" "$$" (refuses 5) ∷
@@ -319,8 +319,8 @@ rows =
     asks i64 1 "$$" "+0XBb49C1De" "1" (plus 3142173150) ∷
     asks i64 1 "" "0X-e_9aD_77" "" (minus 15314295) ∷
     asks i64 1 "" "8_9_6_2245" "" (plus 8962245) ∷
-    asks i64 1 "\u{c3}\u{a9}" "1_6148" "x" (plus 16148) ∷
-    asks i64 1 "\\" "+0x8000000000000_000" "\u{0}" (refuses 5) ∷
+    asks i64 1 "Ã©" "1_6148" "x" (plus 16148) ∷
+    asks i64 1 "\\" "+0x8000000000000_000" "\0" (refuses 5) ∷
     asks i64 1 "" "0X-8000000000000000" "" (minus 9223372036854775808) ∷
     asks i64 1 "= " "+0X_46B" "1" (refuses 5) ∷
     asks i64 1 "" "0B111" "" (plus 7) ∷
@@ -329,16 +329,16 @@ rows =
     asks i64 1 "" "0_8" "" (plus 8) ∷
     asks i64 1 "" "36595" "" (plus 36595) ∷
     asks i64 1 "" "0B+101" "" (plus 5) ∷
-    asks i64 1 "\u{e3}\u{80}\u{80}" "0O53545" "\u{c3}\u{a9}" (plus 22373) ∷
+    asks i64 1 "ã\u{80}\u{80}" "0O53545" "Ã©" (plus 22373) ∷
     asks i64 1 "" "937" "" (plus 937) ∷
     asks i64 1 "" "09223372036854775807" "\\" (plus 9223372036854775807) ∷
     asks i64 1 "" "+4001596" "" (plus 4001596) ∷
     asks i64 1 "" "-094027" "" (minus 94027) ∷
-    asks i64 1 "\u{0}" "-009223372036854775807" "" (minus 9223372036854775807) ∷
+    asks i64 1 "\0" "-009223372036854775807" "" (minus 9223372036854775807) ∷
     asks i64 1 "" "9223372036854775807" "" (plus 9223372036854775807) ∷
-    asks i64 1 "\u{e3}\u{80}\u{80}" "+0X--A_4" "" (refuses 5) ∷
+    asks i64 1 "ã\u{80}\u{80}" "+0X--A_4" "" (refuses 5) ∷
     asks i64 1 "x" "+0B01" "= " (plus 1) ∷
-    asks i64 1 "\u{e3}\u{80}\u{80}" "+0x--8bA9666" "\u{0}" (refuses 5) ∷
+    asks i64 1 "ã\u{80}\u{80}" "+0x--8bA9666" "\0" (refuses 5) ∷
     asks i64 1 "" "1608770_9" "" (plus 16087709) ∷
     asks i64 1 "\\" "0xA346c00" "x" (plus 171207680) ∷
     asks i64 1 "" "-9223372036854775807" "" (minus 9223372036854775807) ∷
@@ -352,13 +352,13 @@ rows =
     asks i64 1 "\\" "-4" "= " (minus 4) ∷
     asks i64 1 "" "9223372036854775_809" "" (refuses 5) ∷
     asks i64 1 "" "-0X-C_b045" "" (plus 831557) ∷
-    asks i64 1 "\u{0}" "0o-03572605" "x" (minus 980357) ∷
+    asks i64 1 "\0" "0o-03572605" "x" (minus 980357) ∷
     asks i64 1 "" "235630608" "" (plus 235630608) ∷
     asks i64 1 "" "-009223372036854775806" "" (minus 9223372036854775806) ∷
-    asks i64 1 "= " "+0x2A5B" "\u{c3}\u{a9}" (plus 10843) ∷
+    asks i64 1 "= " "+0x2A5B" "Ã©" (plus 10843) ∷
     asks i64 1 "" "-0B100" "" (minus 4) ∷
     asks i64 1 "" "+9223372036854775806" "" (plus 9223372036854775806) ∷
-    asks i64 1 "\u{c3}\u{a9}" "946_17_9_1_52" "= " (plus 946179152) ∷
+    asks i64 1 "Ã©" "946_17_9_1_52" "= " (plus 946179152) ∷
     asks i64 1 "" "0B--01111001" "" (refuses 5) ∷
     asks i64 1 "" "0x06_704b83f" "" (plus 1728362559) ∷
     asks i64 1 "" "09223372036854775808" "" (refuses 5) ∷
@@ -368,23 +368,23 @@ rows =
     asks i64 1 "" "0x2" "" (plus 2) ∷
     asks i64 1 "" "-0xcf" "" (minus 207) ∷
     asks i64 1 "1" "09223372036854775_808" "" (refuses 5) ∷
-    asks i64 1 "\u{e3}\u{80}\u{80}" "+0x7FFffFfFFfFfF_ffe" "" (plus 9223372036854775806) ∷
+    asks i64 1 "ã\u{80}\u{80}" "+0x7FFffFfFFfFfF_ffe" "" (plus 9223372036854775806) ∷
     asks i64 1 "" "-009223372036854775808" "" (minus 9223372036854775808) ∷
     asks i64 1 "" "7077" "" (plus 7077) ∷
     asks i64 1 "" "0x+7FFFffFffffFF_fFE" "" (plus 9223372036854775806) ∷
     asks i64 1 "" "0x7FF_FfffFfFff_FfE" "" (plus 576460752303423486) ∷
-    asks i64 1 "\u{c3}\u{a9}" "22_0_2$37" "" (refuses 5) ∷
+    asks i64 1 "Ã©" "22_0_2$37" "" (refuses 5) ∷
     asks i64 1 "'" "0x7fffffFFffFFf\"ffe" "" (refuses 5) ∷
-    asks i64 1 "" "92233720368547\u{c3}\u{a9}75807" "" (refuses 5) ∷
+    asks i64 1 "" "92233720368547Ã©75807" "" (refuses 5) ∷
     asks i64 1 "" "009223372036854 775806" "" (refuses 5) ∷
-    asks i64 1 "'" "-9223372036854775__807" "\u{0}" (refuses 5) ∷
+    asks i64 1 "'" "-9223372036854775__807" "\0" (refuses 5) ∷
     asks i64 1 "\\" "9a23372036854775807" "= " (refuses 5) ∷
-    asks i64 1 "" "\u{e3}\u{80}\u{80}" "" (refuses 5) ∷
+    asks i64 1 "" "ã\u{80}\u{80}" "" (refuses 5) ∷
     asks i64 1 "" "73474774" "" (plus 73474774) ∷
     asks i64 1 "" "-923372036854775809" "" (minus 923372036854775809) ∷
     asks i64 1 "" "Xc" "" (refuses 5) ∷
-    asks i64 1 "1" "0X7fFffFFfffFF\u{e3}\u{80}\u{80}ffF" "= " (refuses 5) ∷
-    asks i64 1 "" "\u{c3}\u{a9}" "" (refuses 5) ∷
+    asks i64 1 "1" "0X7fFffFFfffFFã\u{80}\u{80}ffF" "= " (refuses 5) ∷
+    asks i64 1 "" "Ã©" "" (refuses 5) ∷
     asks i64 1 "" "0--6417" "" (refuses 5) ∷
     asks i64 1 "= " "-0x7fFFFfffffffFFF" "'" (minus 576460752303423487) ∷
     asks i64 1 "" "0XE6_27140d" "" (plus 3861320717) ∷
@@ -392,11 +392,11 @@ rows =
     asks i64 1 "" "0O3_15206" "" (plus 105094) ∷
     asks i64 1 "" "388" "" (plus 388) ∷
     asks i64 1 "" "0X7" "" (plus 7) ∷
-    asks decimal-text 1 "" "1" "\u{e3}\u{80}\u{80}" (borrows 0 1 "1") ∷
+    asks decimal-text 1 "" "1" "ã\u{80}\u{80}" (borrows 0 1 "1") ∷
     asks decimal-text 2 "" "X1-65" "" (borrows 0 5 "X1-65") ∷
-    asks decimal-text 1 "'" "-46" "\u{0}" (borrows 1 4 "-46") ∷
+    asks decimal-text 1 "'" "-46" "\0" (borrows 1 4 "-46") ∷
     asks decimal-text 1 "" "0x_B" "" (refuses 5) ∷
-    asks decimal-text 1 "\u{0}" "5244.95e+48" "\u{c3}\u{a9}" (borrows 1 12 "5244.95e+48") ∷
+    asks decimal-text 1 "\0" "5244.95e+48" "Ã©" (borrows 1 12 "5244.95e+48") ∷
     asks decimal-text 3 "" "0O+471041_275" "" (cramped "82068157") ∷
     asks decimal-text 2 "'" "+099" "'" (borrows 1 5 "+099") ∷
     asks decimal-text 1 "" "_.e+8" "" (refuses 5) ∷
@@ -404,9 +404,9 @@ rows =
     asks decimal-text 3 "" "188_.1E-" "" (refuses 5) ∷
     asks decimal-text 2 "" "-56485._5E-6" "" (refuses 5) ∷
     asks decimal-text 1 "" "0X4" "" (writes 0 "4") ∷
-    asks decimal-text 3 "" "_34\u{c3}\u{a9}.4" "" (refuses 5) ∷
+    asks decimal-text 3 "" "_34Ã©.4" "" (refuses 5) ∷
     asks decimal-text 3 "" "3BO" "" (borrows 0 3 "3BO") ∷
-    asks decimal-text 1 "\u{c3}\u{a9}" "-0X+93" "\u{c3}\u{a9}" (writes 0 "-147") ∷
+    asks decimal-text 1 "Ã©" "-0X+93" "Ã©" (writes 0 "-147") ∷
     asks decimal-text 3 "= " "-0X_7" "" (refuses 5) ∷
     asks decimal-text 3 "1" "045057._83e+82" "= " (refuses 5) ∷
     asks decimal-text 3 "" "04_5997523" "" (writes 1 "045997523") ∷
@@ -423,21 +423,21 @@ rows =
     asks decimal-text 3 "" "-0X_8898_3F54" "" (refuses 5) ∷
     asks decimal-text 2 "" "155_7_0.924" "" (writes 0 "15570.924") ∷
     asks decimal-text 2 "" "6._301e5_4_5" "" (refuses 5) ∷
-    asks decimal-text 3 "" "\u{c3}\u{a9}8" "" (borrows 0 3 "\u{c3}\u{a9}8") ∷
+    asks decimal-text 3 "" "Ã©8" "" (borrows 0 3 "Ã©8") ∷
     asks decimal-text 2 "" "xa" "" (borrows 0 2 "xa") ∷
     asks decimal-text 3 "'" "+1424_952e" "\\" (writes 1 "+1424952e") ∷
     asks decimal-text 1 "" "+._e" "" (refuses 5) ∷
-    asks decimal-text 3 "\u{c3}\u{a9}" "0X_769965A8" "1" (refuses 5) ∷
+    asks decimal-text 3 "Ã©" "0X_769965A8" "1" (refuses 5) ∷
     asks decimal-text 2 "" "-5_5190._71_e0" "" (refuses 5) ∷
     asks decimal-text 1 "" "0xa83152A" "" (writes 5 "176362794") ∷
-    asks decimal-text 1 "" "-_.5_e" "\u{e3}\u{80}\u{80}" (refuses 5) ∷
+    asks decimal-text 1 "" "-_.5_e" "ã\u{80}\u{80}" (refuses 5) ∷
     asks decimal-text 2 "" "26EOo" "" (borrows 0 5 "26EOo") ∷
     asks decimal-text 3 "" "-64_493_.966e+1" "" (refuses 5) ∷
-    asks decimal-text 2 "" "\u{c3}\u{a9}04 " "" (borrows 0 5 "\u{c3}\u{a9}04 ") ∷
+    asks decimal-text 2 "" "Ã©04 " "" (borrows 0 5 "Ã©04 ") ∷
     asks decimal-text 2 "" "464_1.9751" "" (writes 1 "4641.9751") ∷
     asks decimal-text 2 "" "+6.06" "" (borrows 0 5 "+6.06") ∷
     asks decimal-text 3 "" "-0X-" "" (refuses 5) ∷
-    asks decimal-text 2 "" "\u{0}-2-51" "" (borrows 0 6 "\u{0}-2-51") ∷
+    asks decimal-text 2 "" "\0-2-51" "" (borrows 0 6 "\0-2-51") ∷
     asks decimal-text 2 "" "" "" (borrows 0 0 "") ∷
     asks decimal-text 3 "" "+0X82" "" (writes 5 "130") ∷
     asks decimal-text 3 "" "0x_39481" "" (refuses 5) ∷
@@ -446,12 +446,12 @@ rows =
     asks decimal-text 3 "" "+378575_.e84" "" (refuses 5) ∷
     asks decimal-text 1 "" "8084635" "" (borrows 0 7 "8084635") ∷
     asks decimal-text 1 "" "B" "" (borrows 0 1 "B") ∷
-    asks decimal-text 1 "" "\u{c3}\u{a9}\u{0}" "" (borrows 0 3 "\u{c3}\u{a9}\u{0}") ∷
-    asks decimal-text 2 "1" "aa" "\u{c3}\u{a9}" (borrows 1 3 "aa") ∷
+    asks decimal-text 1 "" "Ã©\0" "" (borrows 0 3 "Ã©\0") ∷
+    asks decimal-text 2 "1" "aa" "Ã©" (borrows 1 3 "aa") ∷
     asks decimal-text 2 "" "-61_02_3._5180E-54" "" (refuses 5) ∷
     asks decimal-text 3 "" "-0b00" "" (cramped "0") ∷
     asks decimal-text 1 "" "-17404e8" "" (borrows 0 8 "-17404e8") ∷
-    asks decimal-text 1 "\u{c3}\u{a9}" "._e188" "\u{c3}\u{a9}" (refuses 5) ∷
+    asks decimal-text 1 "Ã©" "._e188" "Ã©" (refuses 5) ∷
     asks decimal-text 2 "" "-77_8036" "" (writes 0 "-778036") ∷
     asks decimal-text 1 "" "_.061e852" "" (refuses 5) ∷
     asks decimal-text 3 "" "2" "" (borrows 0 1 "2") ∷
@@ -465,7 +465,7 @@ rows =
     asks decimal-text 1 "" "45085_.2e" "" (refuses 5) ∷
     asks decimal-text 2 "" "-7986_57907" "" (cramped "-798657907") ∷
     asks decimal-text 1 "" "0X7_3d04" "" (writes 0 "474372") ∷
-    asks decimal-text 2 "" "aX\u{0}o3" "" (borrows 0 5 "aX\u{0}o3") ∷
+    asks decimal-text 2 "" "aX\0o3" "" (borrows 0 5 "aX\0o3") ∷
     asks decimal-text 1 "" "70.6_693_e034" "" (refuses 5) ∷
     asks decimal-text 1 "" "0917._39E-" "" (refuses 5) ∷
     asks decimal-text 1 "" "54899" "" (borrows 0 5 "54899") ∷
@@ -494,7 +494,7 @@ rows =
     asks decimal-text 2 "" "0xAB1a_10E32" "" (writes 1 "45929795122") ∷
     asks decimal-text 3 "" "+1852_7495" "" (writes 5 "+18527495") ∷
     asks decimal-text 2 "" "0O-6177" "" (writes 0 "-3199") ∷
-    asks decimal-text 1 "\u{0}" "E.OB" "x" (borrows 1 5 "E.OB") ∷
+    asks decimal-text 1 "\0" "E.OB" "x" (borrows 1 5 "E.OB") ∷
     asks decimal-text 1 "" "+1_92026_.89_2_9e+9" "" (refuses 5) ∷
     asks decimal-text 2 "" "Xb" "" (borrows 0 2 "Xb") ∷
     asks decimal-text 1 "" "0X_b4CA6" "" (refuses 5) ∷
@@ -507,19 +507,19 @@ rows =
     asks decimal-text 1 "" "+0B0 1101_01" "" (refuses 5) ∷
     asks decimal-text 1 "" "01O" "" (borrows 0 3 "01O") ∷
     asks decimal-text 1 "" ".434479'" "" (borrows 0 8 ".434479'") ∷
-    asks decimal-text 2 "" "4\u{e3}\u{80}\u{80}O" "" (borrows 0 5 "4\u{e3}\u{80}\u{80}O") ∷
+    asks decimal-text 2 "" "4ã\u{80}\u{80}O" "" (borrows 0 5 "4ã\u{80}\u{80}O") ∷
     asks decimal-text 2 "" "0O021_" "" (refuses 5) ∷
     asks decimal-text 1 "" "o0_72" "" (cramped "o072") ∷
-    asks decimal-text 3 "\u{c3}\u{a9}" "\"O4E__\u{c3}\u{a9}" "x" (refuses 5) ∷
+    asks decimal-text 3 "Ã©" "\"O4E__Ã©" "x" (refuses 5) ∷
     asks decimal-text 3 "" "01" "" (borrows 0 2 "01") ∷
-    asks decimal-text 3 "\u{c3}\u{a9}" "X--2dd6" "$$" (borrows 2 9 "X--2dd6") ∷
-    asks decimal-text 3 "" "0o154\u{0}_514" "" (refuses 5) ∷
+    asks decimal-text 3 "Ã©" "X--2dd6" "$$" (borrows 2 9 "X--2dd6") ∷
+    asks decimal-text 3 "" "0o154\0_514" "" (refuses 5) ∷
     asks decimal-text 3 "" "9$" "" (borrows 0 2 "9$") ∷
     asks decimal-text 1 "" "-0_b0110" "" (refuses 5) ∷
-    asks decimal-text 2 "" "3\u{0}3.8" "" (borrows 0 5 "3\u{0}3.8") ∷
-    asks decimal-text 1 "" "2\\O" "\u{e3}\u{80}\u{80}" (borrows 0 3 "2\\O") ∷
+    asks decimal-text 2 "" "3\03.8" "" (borrows 0 5 "3\03.8") ∷
+    asks decimal-text 1 "" "2\\O" "ã\u{80}\u{80}" (borrows 0 3 "2\\O") ∷
     asks decimal-text 1 "" "+-" "" (borrows 0 2 "+-") ∷
-    asks decimal-text 1 "" "\u{0}0x--" "" (borrows 0 5 "\u{0}0x--") ∷
+    asks decimal-text 1 "" "\00x--" "" (borrows 0 5 "\00x--") ∷
     asks decimal-text 2 "" "0x3638E" "" (writes 0 "222094") ∷
     asks decimal-text 2 "" "45929._28\"282" "" (refuses 5) ∷
     asks decimal-text 3 "" "692" "" (borrows 0 3 "692") ∷
@@ -532,12 +532,12 @@ rows =
     asks decimal-text 3 "" "4\"50E-" "" (borrows 0 6 "4\"50E-") ∷
     asks decimal-text 2 "" "9e.3" "" (borrows 0 4 "9e.3") ∷
     asks decimal-text 3 "" "051._8_e494" "" (refuses 5) ∷
-    asks bit-text 12 "" "x'\u{0}'x" "" (refuses 7) ∷
-    asks bit-text 12 "" "B'10A'  '0E0'\u{e3}\u{80}\u{80}''" "" (refuses 7) ∷
+    asks bit-text 12 "" "x'\0'x" "" (refuses 7) ∷
+    asks bit-text 12 "" "B'10A'  '0E0'ã\u{80}\u{80}''" "" (refuses 7) ∷
     asks bit-text 12 "\\" "x'e0\"1'" "= " (refuses 7) ∷
     asks bit-text 12 "" "b'011'" "" (borrows 2 5 "011") ∷
     asks bit-text 12 "1" "X'1F1' \n''x" "'" (refuses 7) ∷
-    asks bit-text 12 "" "b'0011'\u{b}\u{e1}\u{9a}\u{80}''x" "\u{c3}\u{a9}" (refuses 7) ∷
+    asks bit-text 12 "" "b'0011'\u{b}á\u{9a}\u{80}''x" "Ã©" (refuses 7) ∷
     asks bit-text 12 "" "x'1E1111'" "" (refuses 7) ∷
     asks bit-text 12 "" "b'5110'" "" (refuses 7) ∷
     asks bit-text 12 "" "B'07101E'" "" (refuses 7) ∷
@@ -545,7 +545,7 @@ rows =
     asks bit-text 12 "" "B'b0100'" "" (refuses 7) ∷
     asks bit-text 12 "" "x'0003'" "" (refuses 7) ∷
     asks bit-text 12 "" "x'0'" "" (borrows 2 3 "0") ∷
-    asks bit-text 12 "" "B'121101'\u{c2}\u{85}'00'\u{e2}\u{80}\u{af}'1'" "" (refuses 7) ∷
+    asks bit-text 12 "" "B'121101'Â\u{85}'00'â\u{80}¯'1'" "" (refuses 7) ∷
     asks bit-text 12 "" "b'20'" "" (refuses 7) ∷
     asks bit-text 12 "\\" "X'010000'" "1" (borrows 3 9 "010000") ∷
     asks bit-text 12 "x" "x'4'" "" (refuses 7) ∷
@@ -554,7 +554,7 @@ rows =
     asks bit-text 12 "" "X'0b1b10'  '00\\'\u{c}'0'x" "" (refuses 7) ∷
     asks bit-text 12 "" "X'106'\u{b}'' '0C'" "" (refuses 7) ∷
     asks bit-text 12 "= " "X'1bd020'" "1" (refuses 7) ∷
-    asks bit-text 12 "\u{c3}\u{a9}" "b'0\"0E'" "$$" (refuses 7) ∷
+    asks bit-text 12 "Ã©" "b'0\"0E'" "$$" (refuses 7) ∷
     asks bit-text 12 "" "X'990E'" "" (refuses 7) ∷ []
 
 pub rows-right : T (all rows)

@@ -20,24 +20,24 @@ abbrev pub rows : List Row
 rows =
     asks bit-text 12 "" "x'10Fb' '111''D01'" "" (refuses 7) ∷
     asks bit-text 12 "" "x'110'" "" (borrows 2 5 "110") ∷
-    asks bit-text 12 "" "b'\u{ef}\u{bc}\u{92}'" "" (refuses 7) ∷
-    asks bit-text 12 "" "X'1001D0'\u{e2}\u{80}\u{a8}\re'\"''01'" "" (refuses 7) ∷
-    asks bit-text 12 "$$" "B'g' \u{e3}\u{80}\u{80}'F1'" "" (refuses 7) ∷
+    asks bit-text 12 "" "b'ï¼\u{92}'" "" (refuses 7) ∷
+    asks bit-text 12 "" "X'1001D0'â\u{80}¨\re'\"''01'" "" (refuses 7) ∷
+    asks bit-text 12 "$$" "B'g' ã\u{80}\u{80}'F1'" "" (refuses 7) ∷
     asks bit-text 12 "\\" "b'1 D100'" "x" (refuses 7) ∷
     asks bit-text 12 "" "B'1100'" "" (borrows 2 6 "1100") ∷
-    asks bit-text 12 "\u{0}" "b'0011d1'" "x" (refuses 7) ∷
+    asks bit-text 12 "\0" "b'0011d1'" "x" (refuses 7) ∷
     asks bit-text 12 "" "b'F0401'" "" (refuses 7) ∷
     asks bit-text 12 "" "x'1E101'" "" (refuses 7) ∷
     asks bit-text 12 "" "b'0'" "= " (borrows 2 3 "0") ∷
     asks bit-text 12 "" "b''" "" (borrows 2 2 "") ∷
-    asks bit-text 12 "" "x'11194'" "\u{c3}\u{a9}" (refuses 7) ∷
-    asks bit-text 12 "\u{e3}\u{80}\u{80}" "b'' '111'\u{e1}\u{9a}\u{80} '1'" "'" (cramped "1111") ∷
-    asks bit-text 12 "\u{e3}\u{80}\u{80}" "B' 10001' " "\\" (refuses 7) ∷
+    asks bit-text 12 "" "x'11194'" "Ã©" (refuses 7) ∷
+    asks bit-text 12 "ã\u{80}\u{80}" "b'' '111'á\u{9a}\u{80} '1'" "'" (cramped "1111") ∷
+    asks bit-text 12 "ã\u{80}\u{80}" "B' 10001' " "\\" (refuses 7) ∷
     asks bit-text 12 "" "x'G1B000' " "" (refuses 7) ∷
-    asks bit-text 12 "" "X'10'\u{e2}\u{80}\u{8a}X'0'\u{c2}\u{a0}\u{e2}\u{81}\u{9f}'11'" "" (refuses 7) ∷
+    asks bit-text 12 "" "X'10'â\u{80}\u{8a}X'0'Â\u{a0}â\u{81}\u{9f}'11'" "" (refuses 7) ∷
     asks bit-text 12 "" "X'10'\n'' " "" (cramped "10") ∷
-    asks bit-text 12 "x" "b'1c'" "\u{c3}\u{a9}" (refuses 7) ∷
-    asks bit-text 12 "" "B'100119'\nX''\u{e1}\u{9a}\u{80}\u{c2}\u{a0}''" "" (refuses 7) ∷
+    asks bit-text 12 "x" "b'1c'" "Ã©" (refuses 7) ∷
+    asks bit-text 12 "" "B'100119'\nX''á\u{9a}\u{80}Â\u{a0}''" "" (refuses 7) ∷
     asks bit-text 12 "" "X'04'" "" (refuses 7) ∷
     asks bit-text 12 "" "X'101'" "" (borrows 2 5 "101") ∷
     asks bit-text 12 "" "B'010011'" "" (borrows 2 8 "010011") ∷
@@ -51,8 +51,8 @@ rows =
     asks bit-text 12 "" "X'1'" "" (borrows 2 3 "1") ∷
     asks bit-text 12 "" "B''  '0'" "" (cramped "0") ∷
     asks bit-text 12 "" "B'00' " "" (writes 5 "00") ∷
-    asks bit-text 12 "\u{e3}\u{80}\u{80}" "B'000'" "\u{c3}\u{a9}" (borrows 5 8 "000") ∷
-    asks bit-text 12 "" "B'0'\u{e2}\u{80}\u{a8}" "" (writes 0 "0") ∷
+    asks bit-text 12 "ã\u{80}\u{80}" "B'000'" "Ã©" (borrows 5 8 "000") ∷
+    asks bit-text 12 "" "B'0'â\u{80}¨" "" (writes 0 "0") ∷
     asks bit-text 12 "" "B''" "" (borrows 2 2 "") ∷
     asks bit-text 12 "" "B'100'" "" (borrows 2 5 "100") ∷
     asks bit-text 12 "" "x'1'" "" (borrows 2 3 "1") ∷
@@ -62,37 +62,37 @@ rows =
     asks bit-text 13 "$$" "X'110a0_'" "" (refuses 7) ∷
     asks bit-text 13 "" "B'1E081'" "" (borrows 2 7 "1E081") ∷
     asks bit-text 13 "" "X'1010'" "" (borrows 2 6 "1010") ∷
-    asks bit-text 13 "= " "X'6''' \"\"\"\"\t\u{c2}\u{85}'\"'" "\u{c3}\u{a9}" (refuses 7) ∷
+    asks bit-text 13 "= " "X'6''' \"\"\"\"\tÂ\u{85}'\"'" "Ã©" (refuses 7) ∷
     asks bit-text 13 "" "X'111'''\n''" "" (refuses 7) ∷
     asks bit-text 13 "" "x'e100'" "" (borrows 2 6 "e100") ∷
     asks bit-text 13 "" "b'D'" "" (borrows 2 3 "D") ∷
-    asks bit-text 13 "\u{c3}\u{a9}" "B'10C100'\u{e2}\u{80}\u{a9}''\u{8}'0d6' " "" (refuses 7) ∷
-    asks bit-text 13 "" "x'010'\u{1f}'0' ''\u{e2}\u{80}\u{a8}" "" (refuses 7) ∷
+    asks bit-text 13 "Ã©" "B'10C100'â\u{80}©''\u{8}'0d6' " "" (refuses 7) ∷
+    asks bit-text 13 "" "x'010'\u{1f}'0' ''â\u{80}¨" "" (refuses 7) ∷
     asks bit-text 13 "" "b'10A0'" "" (borrows 2 6 "10A0") ∷
-    asks bit-text 13 "'" "X'10'\u{c2}\u{a0}\u{e1}\u{9a}\u{80}''" "'" (writes 1 "10") ∷
+    asks bit-text 13 "'" "X'10'Â\u{a0}á\u{9a}\u{80}''" "'" (writes 1 "10") ∷
     asks bit-text 13 "" "B'00c11'" "" (borrows 2 7 "00c11") ∷
     asks bit-text 13 "" "x'1010a'" "" (borrows 2 7 "1010a") ∷
-    asks bit-text 13 "" "X'G' '11'\u{e3}\u{80}\u{80}''x" "" (refuses 7) ∷
+    asks bit-text 13 "" "X'G' '11'ã\u{80}\u{80}''x" "" (refuses 7) ∷
     asks bit-text 13 "" "b'010D90'" "" (borrows 2 8 "010D90") ∷
-    asks bit-text 13 "" "B'1131A1' '01'\u{e1}\u{9a}\u{80}'00'" "" (writes 1 "1131A10100") ∷
-    asks bit-text 13 "" "b'1\u{0}100'" "" (refuses 7) ∷
+    asks bit-text 13 "" "B'1131A1' '01'á\u{9a}\u{80}'00'" "" (writes 1 "1131A10100") ∷
+    asks bit-text 13 "" "b'1\0100'" "" (refuses 7) ∷
     asks bit-text 13 "" "b'0701\\1'" "" (refuses 7) ∷
-    asks bit-text 13 "$$" "b'400100'\u{e2}\u{80}\u{a8}" "" (writes 1 "400100") ∷
-    asks bit-text 13 "" "B'005'\u{e2}\u{80}\u{a8}'' '10'" "" (cramped "00510") ∷
+    asks bit-text 13 "$$" "b'400100'â\u{80}¨" "" (writes 1 "400100") ∷
+    asks bit-text 13 "" "B'005'â\u{80}¨'' '10'" "" (cramped "00510") ∷
     asks bit-text 13 "1" "x'1\"01\"0'" "\\" (refuses 7) ∷
-    asks bit-text 13 "x" "B'01f7A0'" "\u{c3}\u{a9}" (borrows 3 9 "01f7A0") ∷
+    asks bit-text 13 "x" "B'01f7A0'" "Ã©" (borrows 3 9 "01f7A0") ∷
     asks bit-text 13 "" "x'E31'" "" (borrows 2 5 "E31") ∷
-    asks bit-text 13 "" "X'1A'\u{e2}\u{80}\u{8a}'010' '' " "" (writes 5 "1A010") ∷
-    asks bit-text 13 "" "x'15'\u{e2}\u{80}\u{8a} '5' " "" (writes 1 "155") ∷
+    asks bit-text 13 "" "X'1A'â\u{80}\u{8a}'010' '' " "" (writes 5 "1A010") ∷
+    asks bit-text 13 "" "x'15'â\u{80}\u{8a} '5' " "" (writes 1 "155") ∷
     asks bit-text 13 "" "b'C001\"2'" "" (refuses 7) ∷
     asks bit-text 13 "" "B'013d1'" "" (borrows 2 7 "013d1") ∷
     asks bit-text 13 "" "x'061'" "" (borrows 2 5 "061") ∷
     asks bit-text 13 "" "x'1''' " "" (refuses 7) ∷
     asks bit-text 13 "" "x'610\"'" "" (refuses 7) ∷
     asks bit-text 13 "" "b'g07'" "" (refuses 7) ∷
-    asks bit-text 13 "" "b'\u{c3}\u{a9}0'" "" (refuses 7) ∷
+    asks bit-text 13 "" "b'Ã©0'" "" (refuses 7) ∷
     asks bit-text 13 "" "x'' \"\"" "" (refuses 7) ∷
-    asks bit-text 13 "'" "b'00101c''0C'\u{c}''''\u{e2}\u{80}\u{a8}" "" (refuses 7) ∷
+    asks bit-text 13 "'" "b'00101c''0C'\u{c}''''â\u{80}¨" "" (refuses 7) ∷
     asks bit-text 13 "" "B'10' '15' " "" (writes 1 "1015") ∷
     asks bit-text 13 "" "X'0010_'" "" (refuses 7) ∷
     asks bit-text 13 "" "x'0A'" "" (borrows 2 4 "0A") ∷
@@ -118,247 +118,247 @@ rows =
     asks bit-text 13 "" "b'0'x" "x" (refuses 7) ∷
     asks bit-text 13 "" "b'1C 01'\u{8}'''' " "" (refuses 7) ∷
     asks bit-text 13 "" "x'0000' '11'" "" (writes 1 "000011") ∷
-    asks bit-text 13 "" "X'010'\u{e3}\u{80}\u{81}'eD1'" "" (refuses 7) ∷
+    asks bit-text 13 "" "X'010'ã\u{80}\u{81}'eD1'" "" (refuses 7) ∷
     asks bit-text 13 "" "B'0a05'" "" (borrows 2 6 "0a05") ∷
     asks bit-text 13 "\\" "B'A31'" "" (borrows 3 6 "A31") ∷
     asks bit-text 13 "" "B'110d11'" "" (borrows 2 8 "110d11") ∷
     asks bit-text 13 "" "X'00100' \t''x" "" (refuses 7) ∷
     asks bit-text 13 "" "X'10b1'" "" (borrows 2 6 "10b1") ∷
-    asks bit-text 13 "" "B'10' '0''11'\u{e2}\u{80}\u{a8}" "" (refuses 7) ∷
-    asks bit-text 12 "" "b'0\"0c1'\u{e2}\u{80}\u{a8}'" "" (refuses 7) ∷
+    asks bit-text 13 "" "B'10' '0''11'â\u{80}¨" "" (refuses 7) ∷
+    asks bit-text 12 "" "b'0\"0c1'â\u{80}¨'" "" (refuses 7) ∷
     asks bit-text 12 "" "X' 00'" "" (refuses 7) ∷
     asks bit-text 12 "" "B'00" "" (refuses 7) ∷
-    asks bit-text 13 "\u{e3}\u{80}\u{80}" "B'101200'" "\u{c3}\u{a9}" (borrows 5 11 "101200") ∷
-    asks bit-text 12 "" "x'0'\u{e1}\u{9a}\u{80}'1' ''\u{e2}\u{80}\u{a8}a" "" (refuses 7) ∷
-    asks bit-text 12 "" "0\u{c3}\u{a9}b''" "" (refuses 7) ∷
+    asks bit-text 13 "ã\u{80}\u{80}" "B'101200'" "Ã©" (borrows 5 11 "101200") ∷
+    asks bit-text 12 "" "x'0'á\u{9a}\u{80}'1' ''â\u{80}¨a" "" (refuses 7) ∷
+    asks bit-text 12 "" "0Ã©b''" "" (refuses 7) ∷
     asks bit-text 13 "" "b'0'00'" "" (refuses 7) ∷
     asks bit-text 13 "" "'01Fb08'" "" (refuses 7) ∷
-    asks bit-text 12 "" "X'6E''\n'0'\u{e2}\u{80}\u{a8}" "" (refuses 7) ∷
+    asks bit-text 12 "" "X'6E''\n'0'â\u{80}¨" "" (refuses 7) ∷
     asks bit-text 12 "" "X'" "'" (refuses 7) ∷
     asks bit-text 12 "" "'' '' '1a1' " "" (refuses 7) ∷
     asks bit-text 13 "'" "x'8" "'" (refuses 7) ∷
-    asks bit-text 13 "" "X'f1'  '1'\u{8}\u{e3}\u{80}\u{80}''" "" (refuses 7) ∷
-    asks bit-text 13 "\u{c3}\u{a9}" "x'1001e11'" "\u{c3}\u{a9}" (borrows 4 11 "1001e11") ∷
-    asks bit-text 13 "" "B'F610' \u{e2}\u{80}\u{af}'e10'\n'110'" "" (writes 5 "F610e10110") ∷
-    asks bit-text 13 "" "X'0E011'" "\u{0}" (borrows 2 7 "0E011") ∷
+    asks bit-text 13 "" "X'f1'  '1'\u{8}ã\u{80}\u{80}''" "" (refuses 7) ∷
+    asks bit-text 13 "Ã©" "x'1001e11'" "Ã©" (borrows 4 11 "1001e11") ∷
+    asks bit-text 13 "" "B'F610' â\u{80}¯'e10'\n'110'" "" (writes 5 "F610e10110") ∷
+    asks bit-text 13 "" "X'0E011'" "\0" (borrows 2 7 "0E011") ∷
     asks bit-text 12 "" "B'100' " "" (writes 5 "100") ∷
-    asks bit-text 12 "" "b'' \u{e1}\u{9a}\u{80}''\u{c2}\u{a0}\u{b}'0'\u{e2}\u{80}\u{a8}" "" (writes 1 "0") ∷
+    asks bit-text 12 "" "b'' á\u{9a}\u{80}''Â\u{a0}\u{b}'0'â\u{80}¨" "" (writes 1 "0") ∷
     asks bit-text 13 "x" "x'0f'" "'" (borrows 3 5 "0f") ∷
-    asks bit-text 13 "x" "b'10100'\u{e2}\u{80}\u{8a}\u{e2}\u{80}\u{a8}'01' ''" "" (writes 0 "1010001") ∷
+    asks bit-text 13 "x" "b'10100'â\u{80}\u{8a}â\u{80}¨'01' ''" "" (writes 0 "1010001") ∷
     asks bit-text 13 "= " "x'110'\u{b}'' ''" "1" (writes 0 "110") ∷
     asks bit-text 12 "" "x'10'\n''\n''" "" (writes 0 "10") ∷
     asks bit-text 12 "" "b'111'" "" (borrows 2 5 "111") ∷
     asks bit-text 13 "" "X'0C0'" "" (borrows 2 5 "0C0") ∷
     asks money-text 14 "" "$90,0" "" (borrows 1 5 "90,0") ∷
     asks money-text 14 "" "0." "" (refuses 8) ∷
-    asks money-text 14 "" "$$.4\u{c3}\u{a9}" "" (borrows 1 6 "$.4\u{c3}\u{a9}") ∷
-    asks money-text 14 "" "$8,4\u{0}" "" (borrows 1 5 "8,4\u{0}") ∷
+    asks money-text 14 "" "$$.4Ã©" "" (borrows 1 6 "$.4Ã©") ∷
+    asks money-text 14 "" "$8,4\0" "" (borrows 1 5 "8,4\0") ∷
     asks money-text 14 "" "$2'3" "" (borrows 1 4 "2'3") ∷
     asks money-text 14 "" "$'" "" (borrows 1 2 "'") ∷
-    asks money-text 14 "= " "\u{0}71_" "= " (refuses 8) ∷
-    asks money-text 14 "" "$0\u{c3}\u{a9}" "" (borrows 1 4 "0\u{c3}\u{a9}") ∷
+    asks money-text 14 "= " "\071_" "= " (refuses 8) ∷
+    asks money-text 14 "" "$0Ã©" "" (borrows 1 4 "0Ã©") ∷
     asks money-text 14 "" " $,4" "" (refuses 8) ∷
     asks money-text 14 "" " $$" "" (refuses 8) ∷
-    asks money-text 14 "= " "$,\u{0}" "x" (borrows 3 5 ",\u{0}") ∷
-    asks money-text 14 "1" "$" "\u{e3}\u{80}\u{80}" (borrows 2 2 "") ∷
-    asks money-text 14 "" "\u{e2}\u{82}\u{ac}\u{c3}\u{a9}" "" (refuses 8) ∷
-    asks money-text 14 "\u{0}" " $9" "'" (refuses 8) ∷
+    asks money-text 14 "= " "$,\0" "x" (borrows 3 5 ",\0") ∷
+    asks money-text 14 "1" "$" "ã\u{80}\u{80}" (borrows 2 2 "") ∷
+    asks money-text 14 "" "â\u{82}¬Ã©" "" (refuses 8) ∷
+    asks money-text 14 "\0" " $9" "'" (refuses 8) ∷
     asks money-text 14 "" "$$240" "" (borrows 1 5 "$240") ∷
-    asks money-text 14 "" "$$\u{0}-" "" (borrows 1 4 "$\u{0}-") ∷
+    asks money-text 14 "" "$$\0-" "" (borrows 1 4 "$\0-") ∷
     asks money-text 14 "" "$$96948" "" (borrows 1 7 "$96948") ∷
     asks money-text 14 "" "$50" "" (borrows 1 3 "50") ∷
-    asks money-text 14 "" "\u{e2}\u{82}\u{ac}14" "" (refuses 8) ∷
+    asks money-text 14 "" "â\u{82}¬14" "" (refuses 8) ∷
     asks money-text 14 "" "$2," "" (borrows 1 3 "2,") ∷
-    asks money-text 14 "" "$$'8$3" "\u{e3}\u{80}\u{80}" (borrows 1 6 "$'8$3") ∷
+    asks money-text 14 "" "$$'8$3" "ã\u{80}\u{80}" (borrows 1 6 "$'8$3") ∷
     asks money-text 14 "" "$603-4" "" (borrows 1 6 "603-4") ∷
     asks money-text 14 "\\" "" "" (refuses 8) ∷
-    asks money-text 14 "" " $9\u{c3}\u{a9} " "" (refuses 8) ∷
+    asks money-text 14 "" " $9Ã© " "" (refuses 8) ∷
     asks money-text 14 "" "$$05-" "" (borrows 1 5 "$05-") ∷
     asks money-text 14 "" " $_51" "" (refuses 8) ∷
     asks money-text 14 "" "$$" "" (borrows 1 2 "$") ∷
     asks money-text 14 "" " $7'" "" (refuses 8) ∷
-    asks money-text 14 "" "$\u{0}" "= " (borrows 1 2 "\u{0}") ∷
-    asks money-text 14 "" " $\u{c3}\u{a9}$" "" (refuses 8) ∷
-    asks temporal-text 10 "" "INTERVAL $\u{c3}\u{a9}$$\u{c3}\u{a9}$ " "" (borrows 13 13 "") ∷
+    asks money-text 14 "" "$\0" "= " (borrows 1 2 "\0") ∷
+    asks money-text 14 "" " $Ã©$" "" (refuses 8) ∷
+    asks temporal-text 10 "" "INTERVAL $Ã©$$Ã©$ " "" (borrows 13 13 "") ∷
     asks temporal-text 10 "" "TIMESTAMP '#\"\\Z' 'x'" "" (writes 1 "#\"\\Zx") ∷
     asks temporal-text 10 "" "('\\n' YEAR TO MONTH" "" (borrows 2 4 "\\n") ∷
     asks temporal-text 9 "\\" "DATE $$''" "1" (refuses 6) ∷
     asks temporal-text 8 "" "TIME E'''9' $$" "" (writes 1 "'9") ∷
-    asks temporal-text 10 "" "_$a$'''\u{0}''" "" (refuses 6) ∷
-    asks temporal-text 10 "" "\"_a'c\\\u{f0}\u{9f}\u{98}\u{80}'\u{c2}\u{a0}\u{e2}\u{80}\u{a9}'\\r\n|'" "" (writes 5 "c\\\u{f0}\u{9f}\u{98}\u{80}\\r\n|") ∷
+    asks temporal-text 10 "" "_$a$'''\0''" "" (refuses 6) ∷
+    asks temporal-text 10 "" "\"_a'c\\ð\u{9f}\u{98}\u{80}'Â\u{a0}â\u{80}©'\\r\n|'" "" (writes 5 "c\\ð\u{9f}\u{98}\u{80}\\r\n|") ∷
     asks temporal-text 8 "" "0_e'\\'')' $$" "" (writes 0 "\\')") ∷
     asks temporal-text 8 "" "DATE$Z$'$Z$$Z$ " "" (borrows 7 8 "'") ∷
-    asks temporal-text 8 "" "INTERVAL(3) e'\\nE'\u{0}" "" (writes 0 "\nE") ∷
+    asks temporal-text 8 "" "INTERVAL(3) e'\\nE'\0" "" (writes 0 "\nE") ∷
     asks temporal-text 10 "" "'\u{7f}' 'x'" "" (writes 0 "\u{7f}x") ∷
     asks temporal-text 8 "" "($$'''" "" (refuses 6) ∷
     asks temporal-text 11 "" "X'\\''' DAY" "" (cramped "\\'") ∷
     asks temporal-text 9 "\\" "date\n''" "" (borrows 7 7 "") ∷
-    asks temporal-text 11 "\u{c3}\u{a9}" "''\u{0}" "" (borrows 3 3 "") ∷
+    asks temporal-text 11 "Ã©" "''\0" "" (borrows 3 3 "") ∷
     asks temporal-text 8 "" "TIME $1$'\\'''''" "" (refuses 6) ∷
     asks temporal-text 10 "" "DATE\"\u{7f}\"" "" (refuses 6) ∷
-    asks temporal-text 10 "" "date\n\"\"\u{0}" "\u{c3}\u{a9}" (refuses 6) ∷
-    asks temporal-text 11 "" "\u{c3}\u{a9}'12:30'\u{c3}\u{a9}" "" (borrows 3 8 "12:30") ∷
-    asks temporal-text 9 "" "\u{e3}\u{80}\u{80}E'' DAY" "" (borrows 5 5 "") ∷
+    asks temporal-text 10 "" "date\n\"\"\0" "Ã©" (refuses 6) ∷
+    asks temporal-text 11 "" "Ã©'12:30'Ã©" "" (borrows 3 8 "12:30") ∷
+    asks temporal-text 9 "" "ã\u{80}\u{80}E'' DAY" "" (borrows 5 5 "") ∷
     asks temporal-text 11 "\\" "$-$\\n$-$\n$x$-$ $$" "1" (refuses 6) ∷
-    asks temporal-text 10 "" "\u{e3}\u{80}\u{80}\"'\"\u{0}" "" (refuses 6) ∷
-    asks temporal-text 10 "" "INTERVAL(3) \"\u{0}'\\R\"\u{0}" "" (refuses 6) ∷
-    asks temporal-text 9 "x" "DATE ''''\u{0}" "\u{0}" (cramped "'") ∷
+    asks temporal-text 10 "" "ã\u{80}\u{80}\"'\"\0" "" (refuses 6) ∷
+    asks temporal-text 10 "" "INTERVAL(3) \"\0'\\R\"\0" "" (refuses 6) ∷
+    asks temporal-text 9 "x" "DATE ''''\0" "\0" (cramped "'") ∷
     asks temporal-text 11 "" "TIMESTAMP \"!\\'\"" "" (refuses 6) ∷
     asks temporal-text 10 "" "\"e'' 'x'" "" (cramped "x") ∷
-    asks temporal-text 8 "" "\u{c3}\u{a9}aE')Z'\u{0}" "" (borrows 5 7 ")Z") ∷
+    asks temporal-text 8 "" "Ã©aE')Z'\0" "" (borrows 5 7 ")Z") ∷
     asks temporal-text 11 "" "INTERVAL(3) 'Y\\fcc'" "'" (borrows 13 18 "Y\\fcc") ∷
     asks temporal-text 11 "" "X'\\''' 'x'" "" (writes 0 "\\'x") ∷
     asks temporal-text 9 "" "TIME e''" "" (borrows 7 7 "") ∷
-    asks temporal-text 10 "\\" "\u{0}\"\u{ef}\u{bc}\u{99}\"\" $$" "\u{c3}\u{a9}" (refuses 6) ∷
-    asks temporal-text 8 "" "_$'\u{0}-'\u{c3}\u{a9}" "" (refuses 6) ∷
+    asks temporal-text 10 "\\" "\0\"ï¼\u{99}\"\" $$" "Ã©" (refuses 6) ∷
+    asks temporal-text 8 "" "_$'\0-'Ã©" "" (refuses 6) ∷
     asks temporal-text 11 "" "TIMESTAMP WITH TIME ZONE '2001-02-03' 'x'" "" (writes 5 "2001-02-03x") ∷
     asks temporal-text 10 "" "TIME _Z'n'  ''\n " "" (writes 0 "n") ∷
-    asks temporal-text 10 "" "\u{e3}\u{80}\u{80}'12:30' DAY" "" (borrows 4 9 "12:30") ∷
+    asks temporal-text 10 "" "ã\u{80}\u{80}'12:30' DAY" "" (borrows 4 9 "12:30") ∷
     asks temporal-text 11 "= " "_$tag$$tag$x" "1" (borrows 8 8 "") ∷
-    asks temporal-text 11 "\u{0}" "_x'\u{ee}\u{80}\u{80}\u{1}\"' $$" "" (borrows 4 9 "\u{ee}\u{80}\u{80}\u{1}\"") ∷
-    asks temporal-text 8 "1" "\u{0}\"\" " "" (refuses 6) ∷
-    asks temporal-text 11 "" "DATE'$$'\u{0}" "" (borrows 5 7 "$$") ∷
-    asks temporal-text 9 "" "\u{0}_x''\u{c3}\u{a9}" "" (borrows 4 4 "") ∷
+    asks temporal-text 11 "\0" "_x'î\u{80}\u{80}\u{1}\"' $$" "" (borrows 4 9 "î\u{80}\u{80}\u{1}\"") ∷
+    asks temporal-text 8 "1" "\0\"\" " "" (refuses 6) ∷
+    asks temporal-text 11 "" "DATE'$$'\0" "" (borrows 5 7 "$$") ∷
+    asks temporal-text 9 "" "\0_x''Ã©" "" (borrows 4 4 "") ∷
     asks temporal-text 11 "" "DATE'''' $$" "" (writes 5 "'") ∷
     asks temporal-text 10 "" "_'''''" "" (refuses 6) ∷
-    asks temporal-text 10 "\u{c3}\u{a9}" "0)E';' DAY" "'" (borrows 6 7 ";") ∷
-    asks temporal-text 10 "" "\u{e3}\u{80}\u{80}''" "" (borrows 4 4 "") ∷
+    asks temporal-text 10 "Ã©" "0)E';' DAY" "'" (borrows 6 7 ";") ∷
+    asks temporal-text 10 "" "ã\u{80}\u{80}''" "" (borrows 4 4 "") ∷
     asks temporal-text 9 "" "0N'\\\"' 'x'" "" (writes 0 "\\\"x") ∷
     asks temporal-text 9 "" "INTERVAL(3) \"\"'" "" (refuses 6) ∷
     asks temporal-text 11 "" "DATEU&'$8''" "" (refuses 6) ∷
     asks temporal-text 10 "$$" "0E'' " "\\" (borrows 5 5 "") ∷
-    asks temporal-text 10 "$$" "\u{c3}\u{a9}n'\\\u{f0}\u{9f}\u{98}\u{80}'\u{8}'\u{f0}\u{9f}\u{98}\u{80}|'\n'" "\\" (refuses 6) ∷
+    asks temporal-text 10 "$$" "Ã©n'\\ð\u{9f}\u{98}\u{80}'\u{8}'ð\u{9f}\u{98}\u{80}|'\n'" "\\" (refuses 6) ∷
     asks temporal-text 8 "" "\"'\\n' 'x'" "" (writes 5 "\\nx") ∷
-    asks temporal-text 8 "" "(n'''\u{0}' '\"\\%\\0'\u{c3}\u{a9}" "" (refuses 6) ∷
+    asks temporal-text 8 "" "(n'''\0' '\"\\%\\0'Ã©" "" (refuses 6) ∷
     asks temporal-text 9 "" "INTERVAL $a$'' 'x'" "" (refuses 6) ∷
     asks temporal-text 9 "1" "_$z_9$$z_9$\u{b};0$z_91$ " "$$" (borrows 7 7 "") ∷
-    asks temporal-text 11 "" "TIME E''\u{c3}\u{a9}" "" (borrows 7 7 "") ∷
-    asks temporal-text 10 "" "\u{c3}\u{a9}';' " "" (borrows 3 4 ";") ∷
+    asks temporal-text 11 "" "TIME E''Ã©" "" (borrows 7 7 "") ∷
+    asks temporal-text 10 "" "Ã©';' " "" (borrows 3 4 ";") ∷
     asks temporal-text 10 "= " "DATE\"\\%/\\\"\"" "x" (refuses 6) ∷
-    asks temporal-text 8 "\u{0}" "(E''\\177'" "'" (refuses 6) ∷
+    asks temporal-text 8 "\0" "(E''\\177'" "'" (refuses 6) ∷
     asks temporal-text 11 "\\" "INTERVAL \"_\"\"\"'" "$$" (refuses 6) ∷
-    asks temporal-text 11 "" "TIME EE'\\tx\\0'\u{0}" "" (borrows 8 13 "\\tx\\0") ∷
-    asks temporal-text 10 "" "DATE'2001-02-03'\u{c3}\u{a9}" "" (borrows 5 15 "2001-02-03") ∷
+    asks temporal-text 11 "" "TIME EE'\\tx\\0'\0" "" (borrows 8 13 "\\tx\\0") ∷
+    asks temporal-text 10 "" "DATE'2001-02-03'Ã©" "" (borrows 5 15 "2001-02-03") ∷
     asks temporal-text 11 "1" "INTERVAL 'x\"y' $$" "\\" (borrows 11 14 "x\"y") ∷
-    asks temporal-text 11 "\\" "(\"\"\n'\\'Xg' e'\\x414'\u{c3}\u{a9}" "\u{e3}\u{80}\u{80}" (refuses 6) ∷
-    asks temporal-text 8 "" "\u{0}'\"\"' 'x'" "" (writes 0 "\"\"x") ∷
-    asks temporal-text 9 "" "\"_x'\"\u{e2}\u{80}\u{a9}' " "" (borrows 4 8 "\"\u{e2}\u{80}\u{a9}") ∷
+    asks temporal-text 11 "\\" "(\"\"\n'\\'Xg' e'\\x414'Ã©" "ã\u{80}\u{80}" (refuses 6) ∷
+    asks temporal-text 8 "" "\0'\"\"' 'x'" "" (writes 0 "\"\"x") ∷
+    asks temporal-text 9 "" "\"_x'\"â\u{80}©' " "" (borrows 4 8 "\"â\u{80}©") ∷
     asks temporal-text 10 "" "TIME '' DAY" "" (borrows 6 6 "") ∷
     asks temporal-text 9 "" "INTERVAL '''''" "" (refuses 6) ∷
-    asks temporal-text 10 "= " "\u{c3}\u{a9}'\" ''''" "$$" (refuses 6) ∷
+    asks temporal-text 10 "= " "Ã©'\" ''''" "$$" (refuses 6) ∷
     asks temporal-text 11 "x" "_'X\\n\"' $$" "" (borrows 3 7 "X\\n\"") ∷
     asks temporal-text 10 "" "\"E'\\9\\x0\\355\\237\\277'" "" (refuses 6) ∷
-    asks temporal-text 8 "" "\u{c3}\u{a9}$\u{c3}\u{a9}$$\u{c3}\u{a9}$\u{c3}\u{a9}" "" (borrows 6 6 "") ∷
-    asks temporal-text 9 "" "_$a$'\u{c5}\u{bf}' 'x'" "" (refuses 6) ∷
+    asks temporal-text 8 "" "Ã©$Ã©$$Ã©$Ã©" "" (borrows 6 6 "") ∷
+    asks temporal-text 9 "" "_$a$'Å¿' 'x'" "" (refuses 6) ∷
     asks temporal-text 11 "" "DATE '$$' " "" (borrows 6 8 "$$") ∷
     asks temporal-text 10 "" "\"'1-2' $$" "" (borrows 2 5 "1-2") ∷
-    asks temporal-text 10 "" "\u{c3}\u{a9}\"9\"" "" (refuses 6) ∷
+    asks temporal-text 10 "" "Ã©\"9\"" "" (refuses 6) ∷
     asks temporal-text 8 "" "date\nEE'X''" "" (refuses 6) ∷
     asks temporal-text 10 "" "TIME $ab1$X;)$ab1$" "" (borrows 10 13 "X;)") ∷
-    asks temporal-text 8 "\u{e3}\u{80}\u{80}" "\"$$$$ $$" "$$" (borrows 6 6 "") ∷
-    asks temporal-text 9 "= " "\u{0}\"\"c\" DAY" "$$" (refuses 6) ∷
-    asks temporal-text 8 "" "INTERVAL(3) X'\u{ef}\u{bc}\u{99}Z' $$" "" (borrows 14 18 "\u{ef}\u{bc}\u{99}Z") ∷
-    asks temporal-text 8 "$$" "INTERVAL(3) $_$0$_$\u{0}" "\u{c3}\u{a9}" (borrows 17 18 "0") ∷
-    asks temporal-text 11 "" "INTERVAL $'''\u{e2}\u{80}\u{a8}''" "" (refuses 6) ∷
-    asks temporal-text 10 "" "\u{c3}\u{a9}E''''" "" (writes 5 "'") ∷
-    asks temporal-text 11 "\u{0}" "DATE '''\\f\u{ef}\u{bc}\u{99}\\R'" "\u{c3}\u{a9}" (cramped "'\\f\u{ef}\u{bc}\u{99}\\R") ∷
-    asks temporal-text 9 "$$" "INTERVAL '\\Z\u{e2}\u{80}\u{8a}''\\t'\u{c3}\u{a9}" "x" (cramped "\\Z\u{e2}\u{80}\u{8a}'\\t") ∷
-    asks temporal-text 10 "" "\"'\u{0}''Y''" "" (refuses 6) ∷
-    asks temporal-text 10 "" "\u{0}\"\\T\\\"\"\" " "" (refuses 6) ∷
+    asks temporal-text 8 "ã\u{80}\u{80}" "\"$$$$ $$" "$$" (borrows 6 6 "") ∷
+    asks temporal-text 9 "= " "\0\"\"c\" DAY" "$$" (refuses 6) ∷
+    asks temporal-text 8 "" "INTERVAL(3) X'ï¼\u{99}Z' $$" "" (borrows 14 18 "ï¼\u{99}Z") ∷
+    asks temporal-text 8 "$$" "INTERVAL(3) $_$0$_$\0" "Ã©" (borrows 17 18 "0") ∷
+    asks temporal-text 11 "" "INTERVAL $'''â\u{80}¨''" "" (refuses 6) ∷
+    asks temporal-text 10 "" "Ã©E''''" "" (writes 5 "'") ∷
+    asks temporal-text 11 "\0" "DATE '''\\fï¼\u{99}\\R'" "Ã©" (cramped "'\\fï¼\u{99}\\R") ∷
+    asks temporal-text 9 "$$" "INTERVAL '\\Zâ\u{80}\u{8a}''\\t'Ã©" "x" (cramped "\\Zâ\u{80}\u{8a}'\\t") ∷
+    asks temporal-text 10 "" "\"'\0''Y''" "" (refuses 6) ∷
+    asks temporal-text 10 "" "\0\"\\T\\\"\"\" " "" (refuses 6) ∷
     asks temporal-text 9 "" "DATE '2001-02-03' " "" (borrows 6 16 "2001-02-03") ∷
-    asks temporal-text 11 "" "\u{c3}\u{a9}\"\"\u{0}" "" (refuses 6) ∷
+    asks temporal-text 11 "" "Ã©\"\"\0" "" (refuses 6) ∷
     asks temporal-text 11 "" "(E''" "" (borrows 3 3 "") ∷
-    asks temporal-text 11 "" "0u&'' ''\t\u{e2}\u{81}\u{9f}'Z\u{0}'''\u{e3}\u{80}\u{80}" "" (refuses 6) ∷
+    asks temporal-text 11 "" "0u&'' ''\tâ\u{81}\u{9f}'Z\0'''ã\u{80}\u{80}" "" (refuses 6) ∷
     asks temporal-text 11 "" "_e'''' " "" (writes 0 "'") ∷
     asks temporal-text 9 "" "_'90'" "" (borrows 2 4 "90") ∷
-    asks temporal-text 10 "" "0$''''''\u{0}" "" (refuses 6) ∷
+    asks temporal-text 10 "" "0$''''''\0" "" (refuses 6) ∷
     asks temporal-text 11 "" "TIME '%\\''' $$" "" (cramped "%\\'") ∷
     asks temporal-text 11 "" "date\n'$$''" "" (refuses 6) ∷
-    asks temporal-text 8 "\u{c3}\u{a9}" "0E'\\U00000001' DAY" "\u{e3}\u{80}\u{80}" (borrows 5 15 "\\U00000001") ∷
+    asks temporal-text 8 "Ã©" "0E'\\U00000001' DAY" "ã\u{80}\u{80}" (borrows 5 15 "\\U00000001") ∷
     asks temporal-text 9 "" "DATE $$'''\\x' " "" (refuses 6) ∷
     asks temporal-text 10 "" "_e'\"' 'x'" "" (cramped "\"x") ∷
     asks temporal-text 10 "= " "\"1e'\"u'" "$$" (borrows 6 8 "\"u") ∷
-    asks temporal-text 8 "" "\u{c3}\u{a9}$a$'\\R'" "" (refuses 6) ∷
-    asks temporal-text 8 "" "\u{c3}\u{a9}'\\R\\'''\u{c}'' \u{0}" "" (writes 0 "\\R\\'") ∷
+    asks temporal-text 8 "" "Ã©$a$'\\R'" "" (refuses 6) ∷
+    asks temporal-text 8 "" "Ã©'\\R\\'''\u{c}'' \0" "" (writes 0 "\\R\\'") ∷
     asks temporal-text 8 "" "_1e'\\'' DAY" "" (refuses 6) ∷
-    asks temporal-text 10 "" "0'0''\u{e2}\u{80}\u{8a}.'" "" (writes 0 "0'\u{e2}\u{80}\u{8a}.") ∷
+    asks temporal-text 10 "" "0'0''â\u{80}\u{8a}.'" "" (writes 0 "0'â\u{80}\u{8a}.") ∷
     asks temporal-text 8 "" "(_a''\n_latin1\"\"\"X\"\n" "" (borrows 4 4 "") ∷
-    asks temporal-text 10 "" "DATE'\u{f0}\u{9f}\u{98}\u{80}U\\N\\%'" "" (borrows 5 14 "\u{f0}\u{9f}\u{98}\u{80}U\\N\\%") ∷
-    asks temporal-text 11 "\\" "\u{c3}\u{a9}'+' YEAR TO MONTH" "x" (borrows 4 5 "+") ∷
+    asks temporal-text 10 "" "DATE'ð\u{9f}\u{98}\u{80}U\\N\\%'" "" (borrows 5 14 "ð\u{9f}\u{98}\u{80}U\\N\\%") ∷
+    asks temporal-text 11 "\\" "Ã©'+' YEAR TO MONTH" "x" (borrows 4 5 "+") ∷
     asks temporal-text 9 "" "date\n$1$';' DAY" "" (refuses 6) ∷
-    asks temporal-text 11 "" "DATE $a$'\u{f4}\u{8f}\u{bf}\u{bf}G' DAY" "" (refuses 6) ∷
-    asks temporal-text 11 "" "TIME $\u{c3}\u{a9}$\n$\u{c3}\u{a9}$ 'x'" "= " (borrows 9 10 "\n") ∷
-    asks temporal-text 11 "\\" "INTERVAL $a$\u{e0}\u{a0}\u{80}$a$ 'x'" "\\" (borrows 13 16 "\u{e0}\u{a0}\u{80}") ∷
+    asks temporal-text 11 "" "DATE $a$'ô\u{8f}¿¿G' DAY" "" (refuses 6) ∷
+    asks temporal-text 11 "" "TIME $Ã©$\n$Ã©$ 'x'" "= " (borrows 9 10 "\n") ∷
+    asks temporal-text 11 "\\" "INTERVAL $a$à\u{a0}\u{80}$a$ 'x'" "\\" (borrows 13 16 "à\u{a0}\u{80}") ∷
     asks temporal-text 11 "" "\"aE'|%\\z'" "" (borrows 4 8 "|%\\z") ∷
-    asks temporal-text 8 "" "\"''\u{0}" "" (borrows 2 2 "") ∷
+    asks temporal-text 8 "" "\"''\0" "" (borrows 2 2 "") ∷
     asks temporal-text 10 "" "date\n'' YEAR TO MONTH" "" (borrows 6 6 "") ∷
-    asks temporal-text 9 "" "\u{c3}\u{a9}'' YEAR TO MONTH" "" (borrows 3 3 "") ∷
+    asks temporal-text 9 "" "Ã©'' YEAR TO MONTH" "" (borrows 3 3 "") ∷
     asks temporal-text 11 "" "INTERVAL $$'' 'x'" "" (refuses 6) ∷
     asks temporal-text 9 "" "TIMESTAMP '90''" "" (refuses 6) ∷
     asks temporal-text 10 "" "($Z$'bZ$Z$'" "" (borrows 4 7 "'bZ") ∷
     asks temporal-text 9 "" "_'x\"y' YEAR TO MONTH" "" (borrows 2 5 "x\"y") ∷
     asks temporal-text 9 "" "('12:30' " "" (borrows 2 7 "12:30") ∷
-    asks temporal-text 9 "\\" "($_$\\n$_$" "\u{e3}\u{80}\u{80}" (borrows 5 7 "\\n") ∷
-    asks temporal-text 11 "\\" "\u{0}\"Y\\\"" "'" (refuses 6) ∷
-    asks temporal-text 9 "" "\u{e3}\u{80}\u{80}'x\"y'\u{0}" "" (borrows 4 7 "x\"y") ∷
+    asks temporal-text 9 "\\" "($_$\\n$_$" "ã\u{80}\u{80}" (borrows 5 7 "\\n") ∷
+    asks temporal-text 11 "\\" "\0\"Y\\\"" "'" (refuses 6) ∷
+    asks temporal-text 9 "" "ã\u{80}\u{80}'x\"y'\0" "" (borrows 4 7 "x\"y") ∷
     asks temporal-text 11 "" "__x'9' DAY" "\\" (borrows 4 5 "9") ∷
-    asks temporal-text 9 "" "date\ne''\u{0}" "" (borrows 7 7 "") ∷
-    asks temporal-text 8 "" "0\"\"" "\u{0}" (refuses 6) ∷
-    asks temporal-text 11 "" "INTERVAL 'ZN\u{0}'\u{0}" "" (refuses 6) ∷
-    asks temporal-text 8 "" "\u{e3}\u{80}\u{80}B'\u{f4}\u{8f}\u{bf}\u{bf}'" "" (borrows 5 9 "\u{f4}\u{8f}\u{bf}\u{bf}") ∷
+    asks temporal-text 9 "" "date\ne''\0" "" (borrows 7 7 "") ∷
+    asks temporal-text 8 "" "0\"\"" "\0" (refuses 6) ∷
+    asks temporal-text 11 "" "INTERVAL 'ZN\0'\0" "" (refuses 6) ∷
+    asks temporal-text 8 "" "ã\u{80}\u{80}B'ô\u{8f}¿¿'" "" (borrows 5 9 "ô\u{8f}¿¿") ∷
     asks temporal-text 9 "= " "\"E'\\7\\uD800n''" "" (refuses 6) ∷
     asks temporal-text 8 "" "TIMESTAMP $1$'''+'" "" (refuses 6) ∷
     asks temporal-text 10 "" "INTERVAL \"(\" " "" (refuses 6) ∷
-    asks temporal-text 9 "" "0\"\r/\"'\"N' ','\u{1c}\"+\"\n\u{0}" "" (writes 5 "\"N,") ∷
+    asks temporal-text 9 "" "0\"\r/\"'\"N' ','\u{1c}\"+\"\n\0" "" (writes 5 "\"N,") ∷
     asks temporal-text 10 "" "INTERVAL(3) '''''" "" (refuses 6) ∷
-    asks temporal-text 9 "" "\u{0}\"\u{f4}\u{8f}\u{bf}\u{bf}\"\u{0}" "= " (refuses 6) ∷
-    asks temporal-text 9 "" "date\n_e'\\\\'\u{0}" "" (borrows 8 10 "\\\\") ∷
+    asks temporal-text 9 "" "\0\"ô\u{8f}¿¿\"\0" "= " (refuses 6) ∷
+    asks temporal-text 9 "" "date\n_e'\\\\'\0" "" (borrows 8 10 "\\\\") ∷
     asks temporal-text 8 "" "E'\\9'" "" (writes 0 "9") ∷
-    asks temporal-text 8 "" "\u{c3}\u{a9}e'\\U00010000' 'x'" "" (writes 0 "\\U00010000x") ∷
+    asks temporal-text 8 "" "Ã©e'\\U00010000' 'x'" "" (writes 0 "\\U00010000x") ∷
     asks temporal-text 11 "" "'90' $$" "" (borrows 1 3 "90") ∷
     asks temporal-text 10 "" "TIMESTAMP $1$'''" "" (refuses 6) ∷
-    asks temporal-text 10 "x" "(N'\\f''''' N'_'\u{c3}\u{a9}" "1" (refuses 6) ∷
+    asks temporal-text 10 "x" "(N'\\f''''' N'_'Ã©" "1" (refuses 6) ∷
     asks temporal-text 10 "x" "0EE''" "" (borrows 5 5 "") ∷
-    asks temporal-text 8 "\u{e3}\u{80}\u{80}" "\u{e3}\u{80}\u{80}" "1" (refuses 6) ∷
+    asks temporal-text 8 "ã\u{80}\u{80}" "ã\u{80}\u{80}" "1" (refuses 6) ∷
     asks temporal-text 9 "" "0$1'$'\\\"' DAY" "" (refuses 6) ∷
-    asks temporal-text 8 "\u{c3}\u{a9}" "INTERVL(3) 'f'" "\u{e3}\u{80}\u{80}" (borrows 14 15 "f") ∷
-    asks temporal-text 10 "" "\u{0}'x0\")' EAR TO MONTH" "" (borrows 2 6 "x0\")") ∷
+    asks temporal-text 8 "Ã©" "INTERVL(3) 'f'" "ã\u{80}\u{80}" (borrows 14 15 "f") ∷
+    asks temporal-text 10 "" "\0'x0\")' EAR TO MONTH" "" (borrows 2 6 "x0\")") ∷
     asks temporal-text 8 "" "IaNTERVAL(3) \"(|\"" "" (refuses 6) ∷
     asks temporal-text 10 "" "INTER'VAL _e'' " "" (refuses 6) ∷
-    asks temporal-text 11 "" "'2001-02a03'\u{0}" "" (borrows 1 11 "2001-02a03") ∷
+    asks temporal-text 11 "" "'2001-02a03'\0" "" (borrows 1 11 "2001-02a03") ∷
     asks temporal-text 8 "" "$$'x\\' " "" (refuses 6) ∷
     asks temporal-text 11 "x" "DATEB$'' " "x" (refuses 6) ∷
     asks temporal-text 9 "" "\"e'\\uE8'" "" (refuses 6) ∷
-    asks temporal-text 9 "= " "a'x\"y'\u{0}" "'" (borrows 4 7 "x\"y") ∷
-    asks temporal-text 9 "$$" "INTERVAL(3) \u{c3}\u{a9}'-''1'" "x" (writes 0 "-'1") ∷
-    asks temporal-text 8 "" "TIM\u{c3}\u{a9}E e''" "" (borrows 9 9 "") ∷
-    asks temporal-text 9 "" "date\n$1$'(\\b'\u{0}" "$$" (refuses 6) ∷
-    asks temporal-text 10 "" "\u{c3}\u{a9}$\u{e3}\u{80}\u{80}_U\\$\u{e3}\u{80}\u{80}\"$\u{c3}\u{a9}" "" (refuses 6) ∷
+    asks temporal-text 9 "= " "a'x\"y'\0" "'" (borrows 4 7 "x\"y") ∷
+    asks temporal-text 9 "$$" "INTERVAL(3) Ã©'-''1'" "x" (writes 0 "-'1") ∷
+    asks temporal-text 8 "" "TIMÃ©E e''" "" (borrows 9 9 "") ∷
+    asks temporal-text 9 "" "date\n$1$'(\\b'\0" "$$" (refuses 6) ∷
+    asks temporal-text 10 "" "Ã©$ã\u{80}\u{80}_U\\$ã\u{80}\u{80}\"$Ã©" "" (refuses 6) ∷
     asks temporal-text 11 "x" "DATE $$ex$$$" "'" (borrows 8 10 "ex") ∷
-    asks temporal-text 8 "" "date\n'\\\"&'\n'''\u{ee}\u{80}\u{80}\"'xE" "" (cramped "\\\"&'\u{ee}\u{80}\u{80}\"") ∷
-    asks temporal-text 9 "" "\"A$\\$A$\u{c3}\u{a9}" "" (refuses 6) ∷
+    asks temporal-text 8 "" "date\n'\\\"&'\n'''î\u{80}\u{80}\"'xE" "" (cramped "\\\"&'î\u{80}\u{80}\"") ∷
+    asks temporal-text 9 "" "\"A$\\$A$Ã©" "" (refuses 6) ∷
     asks temporal-text 9 "" "DTE $$''" "" (refuses 6) ∷
     asks temporal-text 10 "1" "DATE'' DAY" "1" (borrows 6 6 "") ∷
     asks temporal-text 8 "" "'12:30" "" (refuses 6) ∷
     asks temporal-text 8 "" "ATE'$$" "" (refuses 6) ∷
-    asks temporal-text 8 "" "D'ATE $\u{c3}\u{a9}$0x" "" (refuses 6) ∷
-    asks temporal-text 9 "" "N'&\\\\z' \n'\u{c3}\u{a9}\\t' " "" (cramped "&\\\\z\u{c3}\u{a9}\\t") ∷
-    asks temporal-text 8 "'" "$$$\u{c3}\u{a9}a" "\u{e3}\u{80}\u{80}" (refuses 6) ∷
-    asks temporal-text 10 "" "($$$$+\u{1}$\u{0}$ " "" (borrows 3 3 "") ∷
-    asks temporal-text 9 "\u{c3}\u{a9}" "\u{e3}\u{80}\u{80}\"\u{7f}\u{f0}\u{9f}\u{98}\u{80}\"" "= " (refuses 6) ∷
-    asks temporal-text 9 "" "0$\u{c3}\u{a9}$$$$\\8$" "" (refuses 6) ∷
-    asks temporal-text 10 "" "DATE X\u{0}'$' $$" "" (borrows 8 9 "$") ∷
-    asks temporal-text 9 "x" "TIM" "\u{e3}\u{80}\u{80}" (refuses 6) ∷
-    asks temporal-text 8 "" "\u{e3}\u{80}\u{80}$_$X$''$$_$\u{c3}\u{a9}" "" (borrows 6 11 "X$''$") ∷
-    asks temporal-text 9 "" "DATE$\u{e3}\u{80}\u{80}$'/'" "" (refuses 6) ∷
+    asks temporal-text 8 "" "D'ATE $Ã©$0x" "" (refuses 6) ∷
+    asks temporal-text 9 "" "N'&\\\\z' \n'Ã©\\t' " "" (cramped "&\\\\zÃ©\\t") ∷
+    asks temporal-text 8 "'" "$$$Ã©a" "ã\u{80}\u{80}" (refuses 6) ∷
+    asks temporal-text 10 "" "($$$$+\u{1}$\0$ " "" (borrows 3 3 "") ∷
+    asks temporal-text 9 "Ã©" "ã\u{80}\u{80}\"\u{7f}ð\u{9f}\u{98}\u{80}\"" "= " (refuses 6) ∷
+    asks temporal-text 9 "" "0$Ã©$$$$\\8$" "" (refuses 6) ∷
+    asks temporal-text 10 "" "DATE X\0'$' $$" "" (borrows 8 9 "$") ∷
+    asks temporal-text 9 "x" "TIM" "ã\u{80}\u{80}" (refuses 6) ∷
+    asks temporal-text 8 "" "ã\u{80}\u{80}$_$X$''$$_$Ã©" "" (borrows 6 11 "X$''$") ∷
+    asks temporal-text 9 "" "DATE$ã\u{80}\u{80}$'/'" "" (refuses 6) ∷
     asks temporal-text 10 "" "date\n'\\'" "" (borrows 6 7 "\\") ∷
-    asks temporal-text 11 "" "DATE\"o'\t\" DA\u{c3}\u{a9}Y" "" (refuses 6) ∷
+    asks temporal-text 11 "" "DATE\"o'\t\" DAÃ©Y" "" (refuses 6) ∷
     asks temporal-text 9 "" "'U' " "" (borrows 1 2 "U") ∷
-    asks temporal-text 9 "" "\u{c3}\u{a9}\"N\"\"\u{c3}\u{a9}" "\u{c3}\u{a9}" (refuses 6) ∷
-    asks temporal-text 8 "" "\u{0}\"\u{e3}\u{80}\u{80}E\" 'x'0" "" (borrows 9 10 "x") ∷
-    asks temporal-text 11 "" "DATE$a$'\u{c2}\u{a0}' '\u{0}x'" "" (refuses 6) ∷
+    asks temporal-text 9 "" "Ã©\"N\"\"Ã©" "Ã©" (refuses 6) ∷
+    asks temporal-text 8 "" "\0\"ã\u{80}\u{80}E\" 'x'0" "" (borrows 9 10 "x") ∷
+    asks temporal-text 11 "" "DATE$a$'Â\u{a0}' '\0x'" "" (refuses 6) ∷
     asks temporal-text 8 "" " date\n'\n'''" "" (writes 1 "\n'") ∷
-    asks temporal-text 10 "\\" "TIMES\u{0}AM\u{c3}\u{a9}P '$$'\u{c3}\u{a9}" "" (borrows 14 16 "$$") ∷
+    asks temporal-text 10 "\\" "TIMES\0AMÃ©P '$$'Ã©" "" (borrows 14 16 "$$") ∷
     asks charset 4 "" "''" "" unnamed ∷
     asks charset 4 "" "_0''''" "" (borrows 1 2 "0") ∷
     asks charset 4 "" "_utf8mb4''" "" (borrows 1 8 "utf8mb4") ∷
@@ -370,27 +370,27 @@ rows =
     asks charset 4 "" "_z9\"\"" "" (borrows 1 3 "z9") ∷
     asks charset 4 "" "e''" "" unnamed ∷
     asks charset 4 "" "_z9''" "" (borrows 1 3 "z9") ∷
-    asks charset 4 "" "_\u{c3}\u{a9}''" "" unnamed ∷
-    asks charset 4 "\u{c3}\u{a9}" "N''" "\u{c3}\u{a9}" unnamed ∷
+    asks charset 4 "" "_Ã©''" "" unnamed ∷
+    asks charset 4 "Ã©" "N''" "Ã©" unnamed ∷
     asks charset 4 "" "n'-'''" "" unnamed ∷
     asks charset 4 "" "_binary'\"''" "" (borrows 1 7 "binary") ∷
     asks charset 4 "" "E''" "" unnamed ∷
     asks charset 4 "" "n''" "" unnamed ∷
     asks charset 4 "" "_a\"\"" "" (borrows 1 2 "a") ∷
-    asks charset 4 "" "n'''\u{c3}\u{a9}'" "" unnamed ∷
+    asks charset 4 "" "n'''Ã©'" "" unnamed ∷
     asks charset 4 "" "_0'\\''" "" (borrows 1 2 "0") ∷
-    asks charset 4 "" "n'\u{df}\u{bf}'" "" unnamed ∷
+    asks charset 4 "" "n'ß¿'" "" unnamed ∷
     asks charset 4 "" "_utf8mb4\";\"\"" "" (borrows 1 8 "utf8mb4") ∷
     asks charset 4 "" "_0'\"\"'" "" (borrows 1 2 "0") ∷
     asks charset 4 "" "_0'G'" "" (borrows 1 2 "0") ∷
     asks charset 4 "$$" "'\u{1}'" "$$" unnamed ∷
-    asks charset 4 "" "n'\"\\\u{c3}\u{a9}'" "" unnamed ∷
+    asks charset 4 "" "n'\"\\Ã©'" "" unnamed ∷
     asks charset 4 "" "_B_2'Z'" "" (borrows 1 4 "B_2") ∷
     asks charset 4 "" "_utf8mb4\"\"\"" "" (borrows 1 8 "utf8mb4") ∷
     asks charset 4 "" "_latin1'''f'" "" (borrows 1 7 "latin1") ∷
-    asks charset 4 "\u{e3}\u{80}\u{80}" "_Z'o\\T'" "\\" (borrows 4 5 "Z") ∷
+    asks charset 4 "ã\u{80}\u{80}" "_Z'o\\T'" "\\" (borrows 4 5 "Z") ∷
     asks charset 4 "" "n'F'" "" unnamed ∷
-    asks charset 4 "" "_\u{c3}\u{a9}\"'" "" unnamed ∷
+    asks charset 4 "" "_Ã©\"'" "" unnamed ∷
     asks charset 4 "" "_binary'\\R.'" "" (borrows 1 7 "binary") ∷
     asks charset 4 "" "_binary'\r\u{1}'" "" (borrows 1 7 "binary") ∷
     asks charset 4 "" "n'f'" "" unnamed ∷
@@ -404,7 +404,7 @@ rows =
     asks charset 4 "" "'\\0\n'" "" unnamed ∷
     asks charset 4 "" "e'\\360\\x8f\\xBf\\xbf\\251'" "" unnamed ∷
     asks charset 4 "" "_Z\"X" "" (borrows 1 2 "Z") ∷
-    asks charset 4 "" "_B_2\"\u{c2}\u{80}\"\"\"" "" (borrows 1 4 "B_2") ∷
+    asks charset 4 "" "_B_2\"Â\u{80}\"\"\"" "" (borrows 1 4 "B_2") ∷
     asks charset 4 "" "_latin1\"\\Z\"\"\"" "" (borrows 1 7 "latin1") ∷
     asks charset 4 "" "__''''" "" (borrows 1 2 "_") ∷
     asks charset 4 "" "_B_2'N'" "" (borrows 1 4 "B_2") ∷
@@ -413,17 +413,17 @@ rows =
     asks charset 4 "" "_0''" "" (borrows 1 2 "0") ∷
     asks charset 4 "" "_utf8mb4'\"'''" "" (borrows 1 8 "utf8mb4") ∷
     asks charset 4 "" "_'\\''" "" unnamed ∷
-    asks charset 4 "" "_A'\\'\u{ee}\u{80}\u{80}'" "" (borrows 1 2 "A") ∷
+    asks charset 4 "" "_A'\\'î\u{80}\u{80}'" "" (borrows 1 2 "A") ∷
     asks charset 4 "" "_utf8mb4\"\"$" "" (borrows 1 8 "utf8mb4") ∷
-    asks charset 4 "" "a\"c\u{e3}\u{80}\u{80}\u{c}\"" "" unnamed ∷
-    asks charset 4 "\u{e3}\u{80}\u{80}" "\"A\"\"\"\"" "" unnamed ∷
+    asks charset 4 "" "a\"cã\u{80}\u{80}\u{c}\"" "" unnamed ∷
+    asks charset 4 "ã\u{80}\u{80}" "\"A\"\"\"\"" "" unnamed ∷
     asks charset 4 "" "E'\\x4f'''$" "" unnamed ∷
     asks charset 4 "$$" "E\"'\\400\\xfFg'" "" unnamed ∷
-    asks charset 4 "\u{e3}\u{80}\u{80}" "0'\\\\z'" "$$" unnamed ∷
+    asks charset 4 "ã\u{80}\u{80}" "0'\\\\z'" "$$" unnamed ∷
     asks charset 4 "" "" "" unnamed ∷
     asks charset 4 "" "_Utf8\"b\\0'\"" "" (borrows 1 5 "Utf8") ∷
     asks charset 4 "" "_z9\"" "" (borrows 1 3 "z9") ∷
-    asks charset 4 "\u{0}" "_z9\\" "x" unnamed ∷
+    asks charset 4 "\0" "_z9\\" "x" unnamed ∷
     asks charset 4 "" "'\\B\n'" "$$" unnamed ∷
     asks charset 4 "" "_binary'''-0" "" (borrows 1 7 "binary") ∷
     asks charset 4 "" "_utf8mb4\"a\\\u{7f}\"" "" (borrows 1 8 "utf8mb4") ∷
@@ -433,129 +433,129 @@ rows =
     asks source-text 7 "" "('\\f;' $$" "" (borrows 0 9 "('\\f;' $$") ∷
     asks source-text 14 "" "E'' '9'" "" (borrows 0 7 "E'' '9'") ∷
     asks source-text 13 "" "U&'\\00\\+000800''X'" "" (borrows 0 18 "U&'\\00\\+000800''X'") ∷
-    asks source-text 6 "" "''\u{e3}\u{80}\u{80}\u{c2}\u{a0}\"\"\u{e3}\u{80}\u{80}" "" (borrows 0 12 "''\u{e3}\u{80}\u{80}\u{c2}\u{a0}\"\"\u{e3}\u{80}\u{80}") ∷
+    asks source-text 6 "" "''ã\u{80}\u{80}Â\u{a0}\"\"ã\u{80}\u{80}" "" (borrows 0 12 "''ã\u{80}\u{80}Â\u{a0}\"\"ã\u{80}\u{80}") ∷
     asks source-text 14 "" "U&''" "" (borrows 0 4 "U&''") ∷
     asks source-text 2 "" "X'00211'" "" (borrows 0 8 "X'00211'") ∷
     asks source-text 12 "" "$.479" "" (borrows 0 5 "$.479") ∷
-    asks source-text 14 "" "n'\\'e\u{e2}\u{80}\u{80}'" "" (borrows 0 9 "n'\\'e\u{e2}\u{80}\u{80}'") ∷
+    asks source-text 14 "" "n'\\'eâ\u{80}\u{80}'" "" (borrows 0 9 "n'\\'eâ\u{80}\u{80}'") ∷
     asks source-text 9 "" "e'''\\1770'" "" (borrows 0 10 "e'''\\1770'") ∷
     asks source-text 9 "x" "$$.',6." "'" (borrows 1 8 "$$.',6.") ∷
     asks source-text 4 "" "$$\\n|\\n$$u$$" "" (borrows 0 12 "$$\\n|\\n$$u$$") ∷
     asks source-text 10 "" "$ab1$$ab1$" "" (borrows 0 10 "$ab1$$ab1$") ∷
     asks source-text 11 "" " $8_1" "" (borrows 0 5 " $8_1") ∷
     asks source-text 7 "" "n'\"'" "" (borrows 0 4 "n'\"'") ∷
-    asks source-text 10 "1" "'\"\\\u{c3}\u{a9}\\t\\r'" "" (borrows 1 11 "'\"\\\u{c3}\u{a9}\\t\\r'") ∷
-    asks source-text 7 "" "$\u{e3}\u{80}\u{80}$-\t$\u{e3}\u{80}\u{80}$" "" (borrows 0 12 "$\u{e3}\u{80}\u{80}$-\t$\u{e3}\u{80}\u{80}$") ∷
-    asks source-text 8 "" "'\\N\\\u{c3}\u{a9}'" "" (borrows 0 7 "'\\N\\\u{c3}\u{a9}'") ∷
-    asks source-text 7 "" "\"\\'\u{f0}\u{90}\u{80}\u{80}'\u{7f}\u{1}\"" "" (borrows 0 11 "\"\\'\u{f0}\u{90}\u{80}\u{80}'\u{7f}\u{1}\"") ∷
-    asks source-text 14 "" "X'e0'\u{e2}\u{80}\u{a8}" "'" (borrows 0 8 "X'e0'\u{e2}\u{80}\u{a8}") ∷
+    asks source-text 10 "1" "'\"\\Ã©\\t\\r'" "" (borrows 1 11 "'\"\\Ã©\\t\\r'") ∷
+    asks source-text 7 "" "$ã\u{80}\u{80}$-\t$ã\u{80}\u{80}$" "" (borrows 0 12 "$ã\u{80}\u{80}$-\t$ã\u{80}\u{80}$") ∷
+    asks source-text 8 "" "'\\N\\Ã©'" "" (borrows 0 7 "'\\N\\Ã©'") ∷
+    asks source-text 7 "" "\"\\'ð\u{90}\u{80}\u{80}'\u{7f}\u{1}\"" "" (borrows 0 11 "\"\\'ð\u{90}\u{80}\u{80}'\u{7f}\u{1}\"") ∷
+    asks source-text 14 "" "X'e0'â\u{80}¨" "'" (borrows 0 8 "X'e0'â\u{80}¨") ∷
     names "U&\"\\007Fu\"" (cramped "\u{7f}u") ∷
     names "u&\"aY\"\"\"\"\"" (writes 0 "aY\"\"") ∷
-    names "u&\"\\0001\u{0}\"" (writes 5 "\u{1}\u{0}") ∷
+    names "u&\"\\0001\0\"" (writes 5 "\u{1}\0") ∷
     names "U&\"\\D83D \\+00dfff\"" (refuses 6) ∷
     names "u&\"\"\\'\\x\"" (refuses 6) ∷
     names "U&\"\\005Cg\"" (writes 0 "\\g") ∷
     names "U&\"\\00\"" (refuses 6) ∷
     names "u&\"\"\"\"\"\\08001\\d800g\"" (refuses 6) ∷
-    names "u&\"\\07FF\\+0007fFg\"" (cramped "\u{df}\u{bf}\u{df}\u{bf}g") ∷
-    names "U&\"\\D7ffY\"" (writes 5 "\u{ed}\u{9f}\u{bf}Y") ∷
+    names "u&\"\\07FF\\+0007fFg\"" (cramped "ß¿ß¿g") ∷
+    names "U&\"\\D7ffY\"" (writes 5 "í\u{9f}¿Y") ∷
     names "U&\"\"" (borrows 3 3 "") ∷
-    names "U&\"\\\\x\\D800\\0041\u{ef}\u{bf}\u{bf}\"" (refuses 6) ∷
+    names "U&\"\\\\x\\D800\\0041ï¿¿\"" (refuses 6) ∷
     names "U&\"\\007fg'\\00001\"" (refuses 6) ∷
-    names "u&\"\u{c2}\u{a0}\"\u{e1}\u{9a}\u{80}" (borrows 3 5 "\u{c2}\u{a0}") ∷
+    names "u&\"Â\u{a0}\"á\u{9a}\u{80}" (borrows 3 5 "Â\u{a0}") ∷
     names "u&\"\"" (borrows 3 3 "") ∷
-    names "u&\"\\+00004\u{ed}\u{9f}\u{bf}\\\\\"" (refuses 6) ∷
+    names "u&\"\\+00004í\u{9f}¿\\\\\"" (refuses 6) ∷
     names "u&\"\\007Fg\"" (writes 0 "\u{7f}g") ∷
     names "u&\"\\+00005c\\+00dBfFgU\"" (refuses 6) ∷
     names "u&\"\\+00d800g\"" (refuses 6) ∷
-    names "U&\"\"\"\" \u{e2}\u{81}\u{9f}" (writes 1 "\"") ∷
+    names "U&\"\"\"\" â\u{81}\u{9f}" (writes 1 "\"") ∷
     names "u&\"\"\"\"\t" (writes 0 "\"") ∷
     names "u&\"'\\005C1\"" (cramped "'\\1") ∷
-    names "u&\"\u{c2}\u{80}\\o\"\u{e2}\u{80}\u{af}" (refuses 6) ∷
-    names "U&\"\\d83D\\+00dE00\u{ef}\u{bf}\u{bf}\"\"" (refuses 6) ∷
+    names "u&\"Â\u{80}\\o\"â\u{80}¯" (refuses 6) ∷
+    names "U&\"\\d83D\\+00dE00ï¿¿\"\"" (refuses 6) ∷
     names "u&\"\\0000g\\\\\\005CN\"" (refuses 6) ∷
     names "u&\"\\d800\\e000XNg\"" (refuses 6) ∷
     names "U&\"\\007f1\"" (writes 0 "\u{7f}1") ∷
     names "u&\"'\"" (borrows 3 4 "'") ∷
-    names "u&\"\"\"\\\\\\Dbff\\de00\"" (writes 1 "\"\\\u{f4}\u{8f}\u{b8}\u{80}") ∷
+    names "u&\"\"\"\\\\\\Dbff\\de00\"" (writes 1 "\"\\ô\u{8f}¸\u{80}") ∷
     names "U&\"G\\+0041\"" (refuses 6) ∷
     names "U&\"\\\\\"" (cramped "\\") ∷
     names "U&\"%\"" (borrows 3 4 "%") ∷
     names "u&\"\\D800 \\d800'\"" (refuses 6) ∷
-    names "u&\"\u{c2}\u{80}\"" (borrows 3 5 "\u{c2}\u{80}") ∷
-    names "U&\"\\DBFF\\dfFF\\\\$%\"" (writes 0 "\u{f4}\u{8f}\u{bf}\u{bf}\\$%") ∷
-    names "u&\",\\e000\\\\0027g\"" (writes 1 ",\u{ee}\u{80}\u{80}\\0027g") ∷
+    names "u&\"Â\u{80}\"" (borrows 3 5 "Â\u{80}") ∷
+    names "U&\"\\DBFF\\dfFF\\\\$%\"" (writes 0 "ô\u{8f}¿¿\\$%") ∷
+    names "u&\",\\e000\\\\0027g\"" (writes 1 ",î\u{80}\u{80}\\0027g") ∷
     names "u&\"\\+00dFFF\\d7FF1f\\005C\"" (refuses 6) ∷
     names "u&\"\\005cg\"" (writes 5 "\\g") ∷
-    names "u&\"1X\\+10FffF\u{f0}\u{9f}\u{98}\u{80}\"" (writes 5 "1X\u{f4}\u{8f}\u{bf}\u{bf}\u{f0}\u{9f}\u{98}\u{80}") ∷
+    names "u&\"1X\\+10FffFð\u{9f}\u{98}\u{80}\"" (writes 5 "1Xô\u{8f}¿¿ð\u{9f}\u{98}\u{80}") ∷
     names "U&\"E\"" (borrows 3 4 "E") ∷
-    names "U&\"\" \u{c2}\u{85}" (borrows 3 3 "") ∷
-    names "U&\"\\0080\"" (cramped "\u{c2}\u{80}") ∷
+    names "U&\"\" Â\u{85}" (borrows 3 3 "") ∷
+    names "U&\"\\0080\"" (cramped "Â\u{80}") ∷
     names "u&\"\\D800\\+000041\"" (refuses 6) ∷
     names "U&\"\\0800\"f\\\\\"" (refuses 6) ∷
-    names "u&\"\u{f0}\u{9f}\u{98}\u{80}\\\\bb\"" (writes 0 "\u{f0}\u{9f}\u{98}\u{80}\\bb") ∷
+    names "u&\"ð\u{9f}\u{98}\u{80}\\\\bb\"" (writes 0 "ð\u{9f}\u{98}\u{80}\\bb") ∷
     names "u&\"\"\"\\004gn\"" (refuses 6) ∷
     names "u&\"\"\\+0041\"\"\"" (refuses 6) ∷
-    names "U&\"\\00011\"\u{c2}\u{85}" (writes 0 "\u{1}1") ∷
+    names "U&\"\\00011\"Â\u{85}" (writes 0 "\u{1}1") ∷
     names "U&\"\"\"\"" (writes 0 "\"") ∷
     names "u&\"$x\"" (borrows 3 5 "$x") ∷
-    names "U&\"\\0041\\dBff\\DC00\"" (cramped "A\u{f4}\u{8f}\u{b0}\u{80}") ∷
+    names "U&\"\\0041\\dBff\\DC00\"" (cramped "Aô\u{8f}°\u{80}") ∷
     names "U&\"\\+00dBfFg\"" (refuses 6) ∷
     names "u&\"b\"\\+\"" (refuses 6) ∷
     names "U&\"'\\DBff1\"" (refuses 6) ∷
     names "u&\"\"\"\\\\dBfF \\D800\"" (refuses 6) ∷
-    names "U&\"\"UESCAPEE'\u{c3}\u{a9}'" (refuses 6) ∷
-    names "U&\"\"\"\"\"\"\u{e2}\u{81}\u{9f} uEsCaPE'\"'" (refuses 6) ∷
-    names "U&\"'\"\u{c2}\u{a0} UesCapE'\\'" (borrows 3 4 "'") ∷
+    names "U&\"\"UESCAPEE'Ã©'" (refuses 6) ∷
+    names "U&\"\"\"\"\"\"â\u{81}\u{9f} uEsCaPE'\"'" (refuses 6) ∷
+    names "U&\"'\"Â\u{a0} UesCapE'\\'" (borrows 3 4 "'") ∷
     names "u&\"\"uesCapE\u{c} 'x'" (borrows 3 3 "") ∷
-    names "U&\"\nx004\"UEscape\u{e2}\u{80}\u{8a}'x'" (refuses 6) ∷
-    names "u&\"\"UesCaPe'\u{e2}\u{80}\u{8b}'" (borrows 3 3 "") ∷
-    names "u&\"\"uEsCApE\u{e2}\u{80}\u{af}'\u{e2}\u{80}\u{8b}'" (borrows 3 3 "") ∷
-    names "U&\"$DBFF\"\u{c2}\u{a0}UeSCAPe'$'" (refuses 6) ∷
+    names "U&\"\nx004\"UEscapeâ\u{80}\u{8a}'x'" (refuses 6) ∷
+    names "u&\"\"UesCaPe'â\u{80}\u{8b}'" (borrows 3 3 "") ∷
+    names "u&\"\"uEsCApEâ\u{80}¯'â\u{80}\u{8b}'" (borrows 3 3 "") ∷
+    names "U&\"$DBFF\"Â\u{a0}UeSCAPe'$'" (refuses 6) ∷
     names "U&\"\"ueScAPE\r\u{c}'!'" (borrows 3 3 "") ∷
-    names "U&\"\" \u{e2}\u{80}\u{a8}ueScApE\u{c2}\u{85} 'x'" (borrows 3 3 "") ∷
+    names "U&\"\" â\u{80}¨ueScApEÂ\u{85} 'x'" (borrows 3 3 "") ∷
     names "u&\"UK\"  UEscApE''''" (refuses 6) ∷
-    names "U&\",(\\\"\u{c}UESCAPEE'\u{c3}\u{a9}'" (refuses 6) ∷
+    names "U&\",(\\\"\u{c}UESCAPEE'Ã©'" (refuses 6) ∷
     names "U&\"\"UEScAPe '_'" (borrows 3 3 "") ∷
-    names "U&\"\u{e3}\u{80}\u{80}\"uescAPe '\u{f0}\u{9f}\u{98}\u{80}'" (borrows 3 6 "\u{e3}\u{80}\u{80}") ∷
+    names "U&\"ã\u{80}\u{80}\"uescAPe 'ð\u{9f}\u{98}\u{80}'" (borrows 3 6 "ã\u{80}\u{80}") ∷
     names "u&\"G\"uEsCApE''" (refuses 6) ∷
-    names "U&\"!\"\u{c} ueScApE\u{c2}\u{85} '\\'" (borrows 3 4 "!") ∷
+    names "U&\"!\"\u{c} ueScApEÂ\u{85} '\\'" (borrows 3 4 "!") ∷
     names "u&\"\" uEscAPe'$'" (borrows 3 3 "") ∷
-    names "U&\"\n\"\"\"uESCaPe\u{e3}\u{80}\u{80}'\u{c3}\u{a9}'" (cramped "\n\"") ∷
-    names "U&\"\"\u{e2}\u{80}\u{a9}UEscaPE\t\u{b}'\u{c3}\u{a9}'" (borrows 3 3 "") ∷
-    names "U&\"\"UE\u{c5}\u{bf}CAPE'+'" (refuses 6) ∷
-    names "u&\"gx\"\u{e2}\u{80}\u{a9}UeSCape\u{e2}\u{80}\u{8a}" (refuses 6) ∷
-    names "U&\"\u{e1}\u{9a}\u{80}an\"\n uesCaPE '$'" (borrows 3 8 "\u{e1}\u{9a}\u{80}an") ∷
+    names "U&\"\n\"\"\"uESCaPeã\u{80}\u{80}'Ã©'" (cramped "\n\"") ∷
+    names "U&\"\"â\u{80}©UEscaPE\t\u{b}'Ã©'" (borrows 3 3 "") ∷
+    names "U&\"\"UEÅ¿CAPE'+'" (refuses 6) ∷
+    names "u&\"gx\"â\u{80}©UeSCapeâ\u{80}\u{8a}" (refuses 6) ∷
+    names "U&\"á\u{9a}\u{80}an\"\n uesCaPE '$'" (borrows 3 8 "á\u{9a}\u{80}an") ∷
     names "U&\"'|\"\"\"  UEscAPe'$'" (writes 1 "'|\"") ∷
-    names "U&\"'\"\u{c}\u{c2}\u{a0}UESCApe  ' '" (refuses 6) ∷
-    names "u&\"\"UEscapE\u{c2}\u{85}\u{e2}\u{81}\u{9f}'\u{e2}\u{80}\u{8b}'" (borrows 3 3 "") ∷
-    names "u&\"!+\"\u{e2}\u{80}\u{a8}uESCapE\u{c}'!'" (refuses 6) ∷
-    names "U&\"\"\u{e}UEScaPE\u{e3}\u{80}\u{80}\u{c2}\u{85}'\\'" (refuses 6) ∷
-    names "U&\"\"\"gx\"uEsCAPe \u{e1}\u{9a}\u{80}'g'" (refuses 6) ∷
-    names "U&\"\"\u{e2}\u{80}\u{af}UesCApe\u{e2}\u{80}\u{a8}'+'" (refuses 6) ∷
-    names "U&\"\"UEscAPe\u{e3}\u{80}\u{81}'\\'" (refuses 6) ∷
+    names "U&\"'\"\u{c}Â\u{a0}UESCApe  ' '" (refuses 6) ∷
+    names "u&\"\"UEscapEÂ\u{85}â\u{81}\u{9f}'â\u{80}\u{8b}'" (borrows 3 3 "") ∷
+    names "u&\"!+\"â\u{80}¨uESCapE\u{c}'!'" (refuses 6) ∷
+    names "U&\"\"\u{e}UEScaPEã\u{80}\u{80}Â\u{85}'\\'" (refuses 6) ∷
+    names "U&\"\"\"gx\"uEsCAPe á\u{9a}\u{80}'g'" (refuses 6) ∷
+    names "U&\"\"â\u{80}¯UesCApeâ\u{80}¨'+'" (refuses 6) ∷
+    names "U&\"\"UEscAPeã\u{80}\u{81}'\\'" (refuses 6) ∷
     names "U&\"\"ueScaPe'+'" (refuses 6) ∷
-    names "u&\"%\"\u{b} UEsCape\u{e2}\u{80}\u{8a}'\"'" (refuses 6) ∷
-    names "U&\"\t\"\u{e1}\u{9a}\u{80}UEscapE\t'!' " (refuses 6) ∷
-    names "u&\"\" \u{c}UeScApe\u{e2}\u{80}\u{a9}'x'" (borrows 3 3 "") ∷
+    names "u&\"%\"\u{b} UEsCapeâ\u{80}\u{8a}'\"'" (refuses 6) ∷
+    names "U&\"\t\"á\u{9a}\u{80}UEscapE\t'!' " (refuses 6) ∷
+    names "u&\"\" \u{c}UeScApeâ\u{80}©'x'" (borrows 3 3 "") ∷
     names "U&\"\"uescApE'$'" (borrows 3 3 "") ∷
-    names "U&\"\" \u{e2}\u{80}\u{a8}UEscaPe\u{c2}\u{a0}'&'" (borrows 3 3 "") ∷
-    names "U&\"\" \u{e2}\u{80}\u{a9}UesCApE \u{c2}\u{85}' '" (refuses 6) ∷
+    names "U&\"\" â\u{80}¨UEscaPeÂ\u{a0}'&'" (borrows 3 3 "") ∷
+    names "U&\"\" â\u{80}©UesCApE Â\u{85}' '" (refuses 6) ∷
     names "u&\"'\"\t UesCapE\n''''" (refuses 6) ∷
     names "u&\"$$\"ueSCaPe \n'$' " (refuses 6) ∷
-    names "U&\"\"\"'\"UESCAPE\u{c2}\u{a0}'\u{ef}\u{bc}\u{99}'" (writes 0 "\"'") ∷
-    names "u&\"\"\u{c2}\u{a0}\tuEScAPe\u{e}'x'" (refuses 6) ∷
+    names "U&\"\"\"'\"UESCAPEÂ\u{a0}'ï¼\u{99}'" (writes 0 "\"'") ∷
+    names "u&\"\"Â\u{a0}\tuEScAPe\u{e}'x'" (refuses 6) ∷
     names "u&\"'\\xx\"uESCaPe'x'" (writes 0 "'\\x") ∷
     names "U&\"\"\r UEScApe\u{b} '\\'" (borrows 3 3 "") ∷
     names "u&\"a'\" \tuesCapE'g'" (borrows 3 5 "a'") ∷
-    names "U&\"\" uEscaPE\r'\u{e3}\u{80}\u{80}'" (refuses 6) ∷
-    names "U&\"Fg005c\"\"\"UESCAPEE \u{e1}\u{9a}\u{80}'g'" (refuses 6) ∷
+    names "U&\"\" uEscaPE\r'ã\u{80}\u{80}'" (refuses 6) ∷
+    names "U&\"Fg005c\"\"\"UESCAPEE á\u{9a}\u{80}'g'" (refuses 6) ∷
     names "U&\"\" \rUESCAPE 'x" (refuses 6) ∷
-    names "u&\"\"\u{e2}\u{81}\u{a0}uEScape\u{8}\"!\"" (refuses 6) ∷
+    names "u&\"\"â\u{81}\u{a0}uEScape\u{8}\"!\"" (refuses 6) ∷
     names "U&\"\"\tuescap'ab'" (refuses 6) ∷
     names "U&\"\"uESCApe\t'!'" (borrows 3 3 "") ∷
     names "u&\"\"uEScaPe '\\'" (borrows 3 3 "") ∷
-    names "u&\"\u{c2}\u{85}+0000271\u{c2}\u{85}dC00F\"\u{e1}\u{a0}\u{8e}uEScaPE\u{e2}\u{80}\u{af}\u{e2}\u{80}\u{80}'\u{c2}\u{85}'" (refuses 6) ∷ []
+    names "u&\"Â\u{85}+0000271Â\u{85}dC00F\"á\u{a0}\u{8e}uEScaPEâ\u{80}¯â\u{80}\u{80}'Â\u{85}'" (refuses 6) ∷ []
 
 pub rows-right : T (all rows)
 unfolding within isMark isLetter isDecimal inName startsTag inTag digit allDigits lead utf8 more encode isScalar isSpace doubled oneByte mayEscape scalarBy pair lowHalf uescaped named segment segmentStep cut continues encloses argument upper isUnicode unicodeSpelling delimiter spelling answer one read signLength isMinus baseBy radixPrefix parsed separated radixValue i64Of digitsBy digitsOf decimalOf bitBody bits money tokenStart quoteToken temporalToken temporal charsetEnd uescapeLegal escapeValid unicodeValid ident partShown filled cutsCharacter badSpan sourceText tested stringQuestion decimalQuestion bitsQuestion temporalQuestion sourceQuestion moneyQuestion charsetQuestion i64Question identifierQuestion

@@ -18,38 +18,38 @@ use Rattle.meaning.proofs.Rows.{Row, asks, spans, detached, helps, name
 
 abbrev pub rows : List Row
 rows =
-    names "U&\"'\"\"G\"\u{e2}\u{81}\u{9f}uEScape'\u{c3}\u{a9}'" (cramped "'\"G") ∷
+    names "U&\"'\"\"G\"â\u{81}\u{9f}uEScape'Ã©'" (cramped "'\"G") ∷
     names "u&\"\"uesCape  '_'" (borrows 3 3 "") ∷
-    names "U&\"\"uESCaPE\u{e2}\u{81}\u{9f}'$'" (borrows 3 3 "") ∷
-    names "U\u{e3}\u{80}\u{80}&\"\"" (refuses 6) ∷
+    names "U&\"\"uESCaPEâ\u{81}\u{9f}'$'" (borrows 3 3 "") ∷
+    names "Uã\u{80}\u{80}&\"\"" (refuses 6) ∷
     names "U&\"\\DBFf \\+00De00" (refuses 6) ∷
-    names "u&\"\\\\'\u{e3}\u{80}\u{80}n\"" (cramped "\\'\u{e3}\u{80}\u{80}n") ∷
+    names "u&\"\\\\'ã\u{80}\u{80}n\"" (cramped "\\'ã\u{80}\u{80}n") ∷
     names "u\"\"" (refuses 6) ∷
     names "U&\"\\07ff1\\'x\"" (refuses 6) ∷
     names "U&\"" (refuses 6) ∷
-    names "U&\"\"\n\u{c2}\u{85}uEsCApE'\u{e3}\u{80}\u{80}'" (refuses 6) ∷
-    names "\u{c3}\u{a9}&\"" (refuses 6) ∷
+    names "U&\"\"\nÂ\u{85}uEsCApE'ã\u{80}\u{80}'" (refuses 6) ∷
+    names "Ã©&\"" (refuses 6) ∷
     names "u\"" (refuses 6) ∷
     names "u&\"\\Dbf\"" (refuses 6) ∷
-    names "U&\"\\00D7ff\\\\\"" (writes 0 "\u{c3}\u{97}ff\\") ∷
-    names "U&\"$\u{e2}\u{80}\u{8b}DBfF\" ueScaPe '\u{e2}\u{80}\u{8b}'" (refuses 6) ∷
-    names "U&\"\\05c1Z\"" (writes 0 "\u{d7}\u{81}Z") ∷
-    names "U&\"\"\\0\u{c3}\u{a9}07F1\\ffFfg\"" (refuses 6) ∷
+    names "U&\"\\00D7ff\\\\\"" (writes 0 "Ã\u{97}ff\\") ∷
+    names "U&\"$â\u{80}\u{8b}DBfF\" ueScaPe 'â\u{80}\u{8b}'" (refuses 6) ∷
+    names "U&\"\\05c1Z\"" (writes 0 "×\u{81}Z") ∷
+    names "U&\"\"\\0Ã©07F1\\ffFfg\"" (refuses 6) ∷
     names "U&\"\u{b}\\\\0041\" " (writes 5 "\u{b}\\0041") ∷
-    names "U&\"\\d83d\\dC00\\DfFFg\u{0}" (refuses 6) ∷
+    names "U&\"\\d83d\\dC00\\DfFFg\0" (refuses 6) ∷
     names "u&\"\"\"\"\"" (refuses 6) ∷
     names "U&\"\n\" " (borrows 3 4 "\n") ∷
     names "U&\"$\\\\\"" (writes 0 "$\\") ∷
     names "U&\"\u{1}\"\tUEScApe  '&'" (borrows 3 4 "\u{1}") ∷
-    names "U&\"\"\"\\0800g\"" (cramped "\"\u{e0}\u{a0}\u{80}g") ∷
-    names "u&\"\"\"\u{e3}\u{80}\u{80}\"" (writes 5 "\"\u{e3}\u{80}\u{80}") ∷
-    names "u&\"\\\\\u{ed}\u{9f}\u{bf}$b\"" (writes 1 "\\\u{ed}\u{9f}\u{bf}$b") ∷
-    names "u&\"\\0027\\0a41g\"" (writes 5 "'\u{e0}\u{a9}\u{81}g") ∷
-    names "u&\" NK\u{0}\"" (borrows 3 7 " NK\u{0}") ∷
+    names "U&\"\"\"\\0800g\"" (cramped "\"à\u{a0}\u{80}g") ∷
+    names "u&\"\"\"ã\u{80}\u{80}\"" (writes 5 "\"ã\u{80}\u{80}") ∷
+    names "u&\"\\\\í\u{9f}¿$b\"" (writes 1 "\\í\u{9f}¿$b") ∷
+    names "u&\"\\0027\\0a41g\"" (writes 5 "'à©\u{81}g") ∷
+    names "u&\" NK\0\"" (borrows 3 7 " NK\0") ∷
     helps is-ident "U&\"\\007fg\"" true ∷
     helps is-ident "u&\"\\\\" true ∷
     helps is-ident "u\"\\\"" false ∷
-    helps is-ident "U&\"\\dc0\" \u{c2}\u{85}" true ∷
+    helps is-ident "U&\"\\dc0\" Â\u{85}" true ∷
     helps is-ident "U&'" false ∷
     helps is-ident "u\"'\"" false ∷
     helps is-ident "u&\"" true ∷
@@ -58,7 +58,7 @@ rows =
     helps is-ident "&'\\00' " false ∷
     helps is-ident "u&\"\\+01 000\"" true ∷
     helps is-ident "u&'" false ∷
-    helps is-ident "&\"c\"\u{c2}\u{84}E" false ∷
+    helps is-ident "&\"c\"Â\u{84}E" false ∷
     helps is-ident "ua''" false ∷
     helps is-ident "$&\"+\"" false ∷
     helps is-ident "u&_\\007f\" " false ∷
@@ -69,7 +69,7 @@ rows =
     helps is-ident "U&\"" true ∷
     helps is-ident "u&\"\\+007fF\"" true ∷
     helps is-ident "u&\"dbff\\+00dc00\"" true ∷
-    helps is-ident "U&\"\"\u{0}" true ∷
+    helps is-ident "U&\"\"\0" true ∷
     helps is-ident "u&\"\\0001\"" true ∷
     helps escape-valid "e';\\xFF\\x00f\"'" false ∷
     helps escape-valid "E'#\\x01f'" true ∷
@@ -89,12 +89,12 @@ rows =
     helps escape-valid "E'''\\xff\\x4f'''" false ∷
     helps escape-valid "E'\\x7Ff\\xc3g\\X\\x04g'" false ∷
     helps escape-valid "E'\\000\\xa9f'" false ∷
-    helps escape-valid "e'\u{c2}\u{80}\\U0000007f\\1778'" true ∷
+    helps escape-valid "e'Â\u{80}\\U0000007f\\1778'" true ∷
     helps escape-valid "e'''F\\U00\\X'" false ∷
-    helps escape-valid "E'-\u{0}\\xA94'" false ∷
+    helps escape-valid "E'-\0\\xA94'" false ∷
     helps escape-valid "e'\\477g\\x(\\001'" true ∷
     helps escape-valid "E',\\uDc0'" false ∷
-    helps escape-valid "e'_\\\u{e3}\u{80}\u{80}E\\N'" true ∷
+    helps escape-valid "e'_\\ã\u{80}\u{80}E\\N'" true ∷
     helps escape-valid "e'\\xC3'" false ∷
     helps escape-valid "e'\\000g'" false ∷
     helps escape-valid "E'\\8'" true ∷
@@ -112,11 +112,11 @@ rows =
     helps escape-valid "e'\\x01gc\\U0000dC00'" false ∷
     helps escape-valid "E'\\x0'" false ∷
     helps escape-valid "e'\\%''X'" true ∷
-    helps escape-valid "E'\\\u{e3}\u{80}\u{80}\\0018\\Z\\377'" false ∷
+    helps escape-valid "E'\\ã\u{80}\u{80}\\0018\\Z\\377'" false ∷
     helps escape-valid "e'\\uf600''\\4778'" true ∷
     helps escape-valid "e'#'''" true ∷
     helps escape-valid "E'\\U\\364\\x8F\\xBf\\277'" false ∷
-    helps escape-valid "E'\\u0027\\\u{e3}\u{80}\u{80}\\U'" false ∷
+    helps escape-valid "E'\\u0027\\ã\u{80}\u{80}\\U'" false ∷
     helps escape-valid "E'\\r'''" true ∷
     helps escape-valid "e'\\U00000001\\u'" false ∷
     helps escape-valid "e'\\xfF4'" false ∷
@@ -124,46 +124,46 @@ rows =
     helps escape-valid "E'\\\"\\t\\u0800\\x00'" false ∷
     helps escape-valid "E'\\477'" true ∷
     helps escape-valid "e'\\xC3\\101'" false ∷
-    helps escape-valid "e'\\12g;\u{e2}\u{80}\u{8a}'" true ∷
+    helps escape-valid "e'\\12g;â\u{80}\u{8a}'" true ∷
     helps escape-valid "e'\\355\\237\\xBF\\u'" false ∷
     helps escape-valid "e'\\x0'" false ∷
     helps escape-valid "e'\\1018'" true ∷
-    helps escape-valid "E'\u{f0}\u{90}\u{80}\u{80}%\\U0000dBFF'" false ∷
+    helps escape-valid "E'ð\u{90}\u{80}\u{80}%\\U0000dBFF'" false ∷
     helps escape-valid "e'\\101\\U00000000'" false ∷
     helps escape-valid "E'\\001'" true ∷
     helps escape-valid "e'\\u'" false ∷
     helps escape-valid "e'''\\78\\u'" false ∷
     helps escape-valid "E'\\Z\\x80\\t'" false ∷
-    helps escape-valid "E'\\4018\u{f0}\u{90}\u{80}\u{80}\\00101'" true ∷
+    helps escape-valid "E'\\4018ð\u{90}\u{80}\u{80}\\00101'" true ∷
     helps escape-valid "e'\\9\\300\\x80'" false ∷
     helps escape-valid "e'\\9''&'" true ∷
     helps escape-valid "e'\\N\\ud7fF'" true ∷
     helps escape-valid "e'/\\U0000D800'" false ∷
-    helps escape-valid "e'\\4000\\ud80g\u{ef}\u{bc}\u{99}\\x414'" false ∷
+    helps escape-valid "e'\\4000\\ud80gï¼\u{99}\\x414'" false ∷
     helps escape-valid "e'\\U0000007F'" true ∷
-    helps escape-valid "e\u{0}''" true ∷
+    helps escape-valid "e\0''" true ∷
     helps escape-valid "" true ∷
-    helps escape-valid "E'\\303\\xc3\\xA9\u{0}" true ∷
-    helps escape-valid "\u{e3}\u{80}\u{80}'\\x04'" true ∷
-    helps escape-valid "'' ''''0'' \u{c2}\u{85}'1'" true ∷
-    helps escape-valid "';'  \tn''\u{c2}\u{85}\"b9\"\"\"" true ∷
+    helps escape-valid "E'\\303\\xc3\\xA9\0" true ∷
+    helps escape-valid "ã\u{80}\u{80}'\\x04'" true ∷
+    helps escape-valid "'' ''''0'' Â\u{85}'1'" true ∷
+    helps escape-valid "';'  \tn''Â\u{85}\"b9\"\"\"" true ∷
     helps escape-valid "u&\\n'\u{b}  ''\n'\"\\'\"'" true ∷
     helps escape-valid "'" true ∷
-    helps escape-valid "e'n''\\uD800''\u{0}" true ∷
+    helps escape-valid "e'n''\\uD800''\0" true ∷
     helps escape-valid "E'\\xc3\\xE0\\x9F\\_xf\\8'" false ∷
-    helps escape-valid "E'\\1\u{e3}\u{80}\u{80}'" true ∷
-    helps escape-valid "E''\u{e3}\u{80}\u{80}''" false ∷
+    helps escape-valid "E'\\1ã\u{80}\u{80}'" true ∷
+    helps escape-valid "E''ã\u{80}\u{80}''" false ∷
     helps escape-valid "e'\\\\\\101\\uDbFf'" false ∷
     helps escape-valid "e'\\x \"'" true ∷
-    helps escape-valid "\"'\u{c2}\u{85}\\\u{e2}\u{80}\u{8a}\"\"\"\"" true ∷
+    helps escape-valid "\"'Â\u{85}\\â\u{80}\u{8a}\"\"\"\"" true ∷
     helps escape-valid "N'|" true ∷
     helps escape-valid "E\\a'" true ∷
-    helps escape-valid "E'\u{e3}\u{80}\u{80}'" true ∷
+    helps escape-valid "E'ã\u{80}\u{80}'" true ∷
     helps escape-valid "E'udc00\"'\n''x" true ∷
     helps escape-valid "e'\"'' '/''$''b' \"\"\n" true ∷
-    helps escape-valid "E'\\uF600\\0000\u{0}'" false ∷
+    helps escape-valid "E'\\uF600\\0000\0'" false ∷
     helps escape-valid "''''\u{c}$ 'b\\r\\\\' '\\'\"\\x'" true ∷
-    helps escape-valid "'X\"\"'\n' '\t\u{c}_Z'\u{0}" true ∷
+    helps escape-valid "'X\"\"'\n' '\t\u{c}_Z'\0" true ∷
     helps escape-valid "'\\x01f'" true ∷
     helps escape-valid "'_('\n'\\R'\\N'" true ∷
     helps unicode-valid "u&''UESCAPEE\t'\\'" true ∷
@@ -173,92 +173,92 @@ rows =
     helps unicode-valid "U&'\\D800 \\e000\"'" false ∷
     helps unicode-valid "U&''uEscapE'''" true ∷
     helps unicode-valid "U&'\\'" false ∷
-    helps unicode-valid "U&''\u{e2}\u{80}\u{8a}UeScApe '+'" true ∷
-    helps unicode-valid "u&''  UeSCApE\u{e2}\u{80}\u{80} 'g'" true ∷
+    helps unicode-valid "U&''â\u{80}\u{8a}UeScApe '+'" true ∷
+    helps unicode-valid "u&''  UeSCApEâ\u{80}\u{80} 'g'" true ∷
     helps unicode-valid "u&'\\\\\\\\'" true ∷
     helps unicode-valid "U&''  ueSCaPE  \"$\"" true ∷
     helps unicode-valid "u&'\\n'\r" false ∷
     helps unicode-valid "u&'\\DC00g'" false ∷
     helps unicode-valid "U&''UEScaPE'ab'" true ∷
-    helps unicode-valid "u&'x' UeScApE \u{e2}\u{81}\u{9f}'\"'" true ∷
+    helps unicode-valid "u&'x' UeScApE â\u{81}\u{9f}'\"'" true ∷
     helps unicode-valid "U&''  " true ∷
-    helps unicode-valid "u&'\u{df}\u{bf}'UeSCApe\u{e2}\u{80}\u{a9}'&'" true ∷
+    helps unicode-valid "u&'ß¿'UeSCApeâ\u{80}©'&'" true ∷
     helps unicode-valid "u&'\\d83D\\\\DC00'" false ∷
     helps unicode-valid "u&'xY|'\u{1f}UESCApE 'x'" true ∷
-    helps unicode-valid "u&''\u{e2}\u{80}\u{80}" true ∷
+    helps unicode-valid "u&''â\u{80}\u{80}" true ∷
     helps unicode-valid "u&'Y&'" true ∷
-    helps unicode-valid "u&'!Dc00'\u{e1}\u{9a}\u{80}uEScApE'!'" false ∷
+    helps unicode-valid "u&'!Dc00'á\u{9a}\u{80}uEScApE'!'" false ∷
     helps unicode-valid "U&'\\004g'" false ∷
-    helps unicode-valid "U&'.'\u{e3}\u{80}\u{81}uEscapE\u{e}'F'" true ∷
+    helps unicode-valid "U&'.'ã\u{80}\u{81}uEscapE\u{e}'F'" true ∷
     helps unicode-valid "u&'' \tUEsCApe \u{b}'x'" true ∷
-    helps unicode-valid "U&''''\u{e3}\u{80}\u{80}" true ∷
-    helps unicode-valid "U&'\"'UeSCApe\u{e3}\u{80}\u{81}'&'" true ∷
-    helps unicode-valid "U&'\u{ef}\u{bc}\u{99}E000' uEsCapE''" true ∷
+    helps unicode-valid "U&''''ã\u{80}\u{80}" true ∷
+    helps unicode-valid "U&'\"'UeSCApeã\u{80}\u{81}'&'" true ∷
+    helps unicode-valid "U&'ï¼\u{99}E000' uEsCapE''" true ∷
     helps unicode-valid "u&'\\00411_('" true ∷
-    helps unicode-valid "u&''\u{b}ueSCAPE\u{e3}\u{80}\u{80}'x'" true ∷
+    helps unicode-valid "u&''\u{b}ueSCAPEã\u{80}\u{80}'x'" true ∷
     helps unicode-valid "u&''''" true ∷
     helps unicode-valid "U&'FF' uEsCApE'F'" true ∷
     helps unicode-valid "U&'\\+00d7FF\\07Ff\\d800'" false ∷
     helps unicode-valid "u&'\\+0041\\D800\\de00'" false ∷
-    helps unicode-valid "U&'&D800&&'\u{e2}\u{80}\u{80} UEScApe'&&'" true ∷
+    helps unicode-valid "U&'&D800&&'â\u{80}\u{80} UEScApe'&&'" true ∷
     helps unicode-valid "U&'\\\\\\+0007FF1'" true ∷
-    helps unicode-valid "U&''uEScapE\u{c2}\u{85} 'g'" true ∷
-    helps unicode-valid "u&''\u{c2}\u{85}\u{c2}\u{85}UesCAPe\u{c}'\u{c3}\u{a9}'" true ∷
-    helps unicode-valid "u&''\u{e1}\u{9a}\u{80}uescaPe'F" true ∷
+    helps unicode-valid "U&''uEScapEÂ\u{85} 'g'" true ∷
+    helps unicode-valid "u&''Â\u{85}Â\u{85}UesCAPe\u{c}'Ã©'" true ∷
+    helps unicode-valid "u&''á\u{9a}\u{80}uescaPe'F" true ∷
     helps unicode-valid "U&'%\\'" false ∷
-    helps unicode-valid "U&''\u{c2}\u{85}UEscapE\t\u{c}'\u{e2}\u{80}\u{8b}'" true ∷
+    helps unicode-valid "U&''Â\u{85}UEscapE\t\u{c}'â\u{80}\u{8b}'" true ∷
     helps unicode-valid "U&'\"\"'''" true ∷
-    helps unicode-valid "U&''  uEScaPe\u{e2}\u{80}\u{a8}'\u{e2}\u{80}\u{8b}'" true ∷
-    helps unicode-valid "U&''\u{e2}\u{80}\u{a8}\nuEscAPe\u{e3}\u{80}\u{80} 'g'" true ∷
+    helps unicode-valid "U&''  uEScaPeâ\u{80}¨'â\u{80}\u{8b}'" true ∷
+    helps unicode-valid "U&''â\u{80}¨\nuEscAPeã\u{80}\u{80} 'g'" true ∷
     helps unicode-valid "U&'\\D7FFg\\0080x' " true ∷
     helps unicode-valid "U&' !\"'" true ∷
-    helps unicode-valid "U&'' \u{c2}\u{85}uescaPE \u{b}''" true ∷
+    helps unicode-valid "U&'' Â\u{85}uescaPE \u{b}''" true ∷
     helps unicode-valid "U&''UescapE'_'" true ∷
-    helps unicode-valid "U&''''UesCape\u{e2}\u{81}\u{9f}\u{b}'$'" true ∷
-    helps unicode-valid "U&'\u{ef}\u{bc}\u{99}\\'" false ∷
+    helps unicode-valid "U&''''UesCapeâ\u{81}\u{9f}\u{b}'$'" true ∷
+    helps unicode-valid "U&'ï¼\u{99}\\'" false ∷
     helps unicode-valid "u&'\\+00E000g'''" true ∷
-    helps unicode-valid "u&'''' uEsCaPe\u{e2}\u{80}\u{8a} '$'" true ∷
-    helps unicode-valid "U&'\\+000027\u{c2}\u{85}'" true ∷
+    helps unicode-valid "u&'''' uEsCaPeâ\u{80}\u{8a} '$'" true ∷
+    helps unicode-valid "U&'\\+000027Â\u{85}'" true ∷
     helps unicode-valid "u&'''\"'UEsCaPe'_'" true ∷
     helps unicode-valid "u&'U'" true ∷
     helps unicode-valid "U&'&dfffg&0041\"'uescApE '&'" false ∷
     helps unicode-valid "U&'\\D800\\dFFF''" true ∷
     helps unicode-valid "U&'\"&&'UEsCapE  '&'" true ∷
     helps unicode-valid "U&'\\DFFf'" false ∷
-    helps unicode-valid "u&''''uESCaPe\u{e2}\u{80}\u{8a}'\u{c3}\u{a9}'" true ∷
-    helps unicode-valid "u&'!!!!'\u{e3}\u{80}\u{80}ueSCaPe'!' " true ∷
+    helps unicode-valid "u&''''uESCaPeâ\u{80}\u{8a}'Ã©'" true ∷
+    helps unicode-valid "u&'!!!!'ã\u{80}\u{80}ueSCaPe'!' " true ∷
     helps unicode-valid "u&'\\DbFf\\\\D800\\00'" false ∷
     helps unicode-valid "u&'' ueScapE\u{c}'9'" true ∷
     helps unicode-valid "U&'\\DFFfg\\d800\\DE00\\\\'" false ∷
-    helps unicode-valid "U&'__ '\u{e2}\u{81}\u{9f} UeScAPe'_'" true ∷
-    helps unicode-valid "U&'''!'''UESCAP\u{c3}\u{a9}'+'" true ∷
+    helps unicode-valid "U&'__ 'â\u{81}\u{9f} UeScAPe'_'" true ∷
+    helps unicode-valid "U&'''!'''UESCAPÃ©'+'" true ∷
     helps unicode-valid "U&'\\d800 \\dc00'" false ∷
     helps unicode-valid "U&'\\0027!\\00001'" false ∷
     helps unicode-valid "U&'\\+000080\\004g'" false ∷
-    helps unicode-valid "U&''\u{e3}\u{80}\u{81}uEscApe'\u{c3}\u{a9}'" true ∷
-    helps unicode-valid "\"\\\"XN\"\u{b} \u{c3}\u{a9}'" true ∷
-    helps unicode-valid "\u{0}&''\u{b}uescap  '" true ∷
-    helps unicode-valid "'o\\b''\u{e2}\u{80}\u{a8}\u{e1}\u{9a}\u{80}'\"' \"\"x" true ∷
-    helps unicode-valid "$'\\_\\0\\\\'\u{e2}\u{80}\u{80}\u{e2}\u{80}\u{a9}''\n" true ∷
+    helps unicode-valid "U&''ã\u{80}\u{81}uEscApe'Ã©'" true ∷
+    helps unicode-valid "\"\\\"XN\"\u{b} Ã©'" true ∷
+    helps unicode-valid "\0&''\u{b}uescap  '" true ∷
+    helps unicode-valid "'o\\b''â\u{80}¨á\u{9a}\u{80}'\"' \"\"x" true ∷
+    helps unicode-valid "$'\\_\\0\\\\'â\u{80}\u{80}â\u{80}©''\n" true ∷
     helps unicode-valid "&" true ∷
-    helps unicode-valid "\"\"\u{e1}\u{9a}\u{80}' \u{e2}\u{80}\u{8a}'x" true ∷
+    helps unicode-valid "\"\"á\u{9a}\u{80}' â\u{80}\u{8a}'x" true ∷
     helps unicode-valid "u&'\\+00D7ff$\\Dc001'" false ∷
     helps unicode-valid "_a \"" true ∷
-    helps unicode-valid "&\u{e3}\u{80}\u{80}''" true ∷
-    helps unicode-valid "E'f\\%\\\u{0}' ''\u{0}''" true ∷
-    helps unicode-valid "U&''uEs_CaPe\u{e2}\u{80}\u{af}\t'x'" true ∷
-    helps unicode-valid "u&'\"1!\u{c3}\u{9f}'" true ∷
-    helps unicode-valid "u&'UeSCaPE\u{e1}\u{9a}\u{80}'!'" true ∷
-    helps unicode-valid "''\u{1}0''\u{e2}\u{80}\u{80} '''\n '\\'\\N'" true ∷
-    helps unicode-valid "'\\\\x1'\u{e2}\u{80}\u{a8}\u{c2}\u{a0}'c\\z'" true ∷
+    helps unicode-valid "&ã\u{80}\u{80}''" true ∷
+    helps unicode-valid "E'f\\%\\\0' ''\0''" true ∷
+    helps unicode-valid "U&''uEs_CaPeâ\u{80}¯\t'x'" true ∷
+    helps unicode-valid "u&'\"1!Ã\u{9f}'" true ∷
+    helps unicode-valid "u&'UeSCaPEá\u{9a}\u{80}'!'" true ∷
+    helps unicode-valid "''\u{1}0''â\u{80}\u{80} '''\n '\\'\\N'" true ∷
+    helps unicode-valid "'\\\\x1'â\u{80}¨Â\u{a0}'c\\z'" true ∷
     helps unicode-valid "e''   ''" true ∷
-    helps unicode-valid "\\\u{c3}\u{a9}'\u{c2}\u{a0}\u{c2}\u{85}'''0'\n'\u{0}\\b\u{0}'" true ∷
+    helps unicode-valid "\\Ã©'Â\u{a0}Â\u{85}'''0'\n'\0\\b\0'" true ∷
     helps unicode-valid "U0''" true ∷
     helps unicode-valid "&'\\+00007f'" true ∷
-    helps unicode-valid "U&''''UesApe'\u{ef}\u{bc}\u{99}'" true ∷
+    helps unicode-valid "U&''''UesApe'ï¼\u{99}'" true ∷
     helps unicode-valid "U&'\\x\\D8'_3d\\dc00'" true ∷
-    helps unicode-valid "u'\u{ed}\u{9f}\u{bf}'UESCAPEE'''" true ∷
-    helps unicode-valid "\"\\\"\"\\\\\u{7f}\"\u{e2}\u{80}\u{8a} \"" true ∷
+    helps unicode-valid "u'í\u{9f}¿'UESCAPEE'''" true ∷
+    helps unicode-valid "\"\\\"\"\\\\\u{7f}\"â\u{80}\u{8a} \"" true ∷
     helps unicode-valid "U&'" true ∷
     helps unicode-valid "u&'\"D7fF\"'" true ∷
     helps uescape-legal "'9'" false ∷
@@ -267,22 +267,22 @@ rows =
     helps uescape-legal "'_'" true ∷
     helps uescape-legal "'\u{1f}'" true ∷
     helps uescape-legal "','" true ∷
-    helps uescape-legal "'\u{e1}\u{9a}\u{80}'" false ∷
-    helps uescape-legal "'\u{c2}\u{a1}'" true ∷
-    helps uescape-legal "'\u{ef}\u{bb}\u{bf}'" true ∷
+    helps uescape-legal "'á\u{9a}\u{80}'" false ∷
+    helps uescape-legal "'Â¡'" true ∷
+    helps uescape-legal "'ï»¿'" true ∷
     helps uescape-legal "'\"'" false ∷
     helps uescape-legal "'\u{e}'" true ∷
     helps uescape-legal "'h'" true ∷
     helps uescape-legal "'&'" true ∷
     helps uescape-legal "'c'" false ∷
-    helps uescape-legal "'\u{c3}\u{a9}'" true ∷
+    helps uescape-legal "'Ã©'" true ∷
     helps uescape-legal "'P'" true ∷
-    helps uescape-legal "'\u{e0}\u{a0}\u{80}'" true ∷
+    helps uescape-legal "'à\u{a0}\u{80}'" true ∷
     helps uescape-legal "'+'" false ∷
     helps uescape-legal "'F'" false ∷
     helps uescape-legal "'\\'" true ∷
     helps uescape-legal "'}'" true ∷
-    helps uescape-legal "'\u{e2}\u{80}\u{8b}'" true ∷
+    helps uescape-legal "'â\u{80}\u{8b}'" true ∷
     helps uescape-legal "'`'" true ∷
     helps uescape-legal "'L'" true ∷
     helps uescape-legal "' '" false ∷
@@ -291,61 +291,61 @@ rows =
     helps uescape-legal "'v'" true ∷
     helps uescape-legal "'m'" true ∷
     helps uescape-legal "'\t'" false ∷
-    helps uescape-legal "'\u{e3}\u{80}\u{81}'" true ∷
-    helps uescape-legal "'\u{f0}\u{9f}\u{98}\u{80}'" true ∷
+    helps uescape-legal "'ã\u{80}\u{81}'" true ∷
+    helps uescape-legal "'ð\u{9f}\u{98}\u{80}'" true ∷
     helps uescape-legal "'='" true ∷
-    helps uescape-legal "'\u{ed}\u{9f}\u{bf}'" true ∷
+    helps uescape-legal "'í\u{9f}¿'" true ∷
     helps uescape-legal "'0'" false ∷
-    helps uescape-legal "'\u{c3}\u{9f}'" true ∷
+    helps uescape-legal "'Ã\u{9f}'" true ∷
     helps uescape-legal "'z'" true ∷
     helps uescape-legal "'O'" true ∷
     helps uescape-legal "'Q'" true ∷
-    helps uescape-legal "'\u{c2}\u{a0}'" false ∷
+    helps uescape-legal "'Â\u{a0}'" false ∷
     helps uescape-legal "'ab'" false ∷
     helps uescape-legal "''" false ∷
     helps uescape-legal "'\u{1d}'" true ∷
     helps uescape-legal "'?'" true ∷
     helps uescape-legal "'q'" true ∷
     helps uescape-legal "'\n'" false ∷
-    helps uescape-legal "'\u{e2}\u{81}\u{a0}'" true ∷
+    helps uescape-legal "'â\u{81}\u{a0}'" true ∷
     helps uescape-legal "'x'" true ∷
     helps uescape-legal "'\u{c}'" false ∷
-    helps uescape-legal "'\u{e2}\u{80}\u{af}'" false ∷
+    helps uescape-legal "'â\u{80}¯'" false ∷
     helps uescape-legal "'K'" true ∷
-    helps uescape-legal "'\u{e2}\u{81}\u{9f}'" false ∷
+    helps uescape-legal "'â\u{81}\u{9f}'" false ∷
     helps uescape-legal "'\u{8}'" true ∷
-    helps uescape-legal "'\u{e2}\u{80}\u{80}'" false ∷
-    helps uescape-legal "'\u{c2}\u{85}'" false ∷
+    helps uescape-legal "'â\u{80}\u{80}'" false ∷
+    helps uescape-legal "'Â\u{85}'" false ∷
     helps uescape-legal "'R'" true ∷
     helps uescape-legal "'\"\"'" false ∷
-    helps uescape-legal "'\u{df}\u{bf}'" true ∷
+    helps uescape-legal "'ß¿'" true ∷
     helps uescape-legal "'-'" true ∷
     helps uescape-legal "'Z'" true ∷
     helps uescape-legal "\"_\"" false ∷
     helps uescape-legal "'\u{7}'" true ∷
-    helps uescape-legal "'\u{c2}\u{84}'" true ∷
+    helps uescape-legal "'Â\u{84}'" true ∷
     helps uescape-legal "'s'" true ∷
-    helps uescape-legal "'\u{ef}\u{bf}\u{bf}'" true ∷
+    helps uescape-legal "'ï¿¿'" true ∷
     helps embeds-nul "t\"" false ∷
-    helps embeds-nul "0)XN\u{c}\"\u{c3}\u{a9}\"" false ∷
+    helps embeds-nul "0)XN\u{c}\"Ã©\"" false ∷
     helps embeds-nul "'10''0' " false ∷
     helps embeds-nul "''\n'10c'x" false ∷
-    helps embeds-nul "E'\\U\\x7f4\u{c3}\u{a9}'" false ∷
+    helps embeds-nul "E'\\U\\x7f4Ã©'" false ∷
     helps embeds-nul "N'\\\\b'" false ∷
     helps embeds-nul "INTERV" false ∷
     helps embeds-nul "$96" false ∷
     helps embeds-nul "B'0B20'" false ∷
     helps embeds-nul "DAT0E \"+\u{7f}\" " false ∷
     helps embeds-nul "_banary''" false ∷
-    helps embeds-nul "INTERVAL(3) '12:3\u{0}'\u{c3}\u{a9}" true ∷
-    helps embeds-nul " n'8\\x\u{0}#-'" true ∷
-    helps embeds-nul "53_8\u{0}" true ∷
-    helps embeds-nul "-0O74\u{0}7" true ∷
-    helps embeds-nul "n'\\N#\u{0}\"'" true ∷
-    helps embeds-nul "95\u{0}0.e+865" true ∷
-    helps embeds-nul "T\u{0}ME ''" true ∷
-    helps embeds-nul "\u{0}INTERVAL $''" true ∷
-    helps embeds-nul "'''\u{0} " true ∷
+    helps embeds-nul "INTERVAL(3) '12:3\0'Ã©" true ∷
+    helps embeds-nul " n'8\\x\0#-'" true ∷
+    helps embeds-nul "53_8\0" true ∷
+    helps embeds-nul "-0O74\07" true ∷
+    helps embeds-nul "n'\\N#\0\"'" true ∷
+    helps embeds-nul "95\00.e+865" true ∷
+    helps embeds-nul "T\0ME ''" true ∷
+    helps embeds-nul "\0INTERVAL $''" true ∷
+    helps embeds-nul "'''\0 " true ∷
     prefixed "0bE_e" 2 2 ∷
     prefixed "0z7B65" 10 0 ∷
     prefixed "0zC1_8" 10 0 ∷
@@ -360,7 +360,7 @@ rows =
     prefixed "00x4_11" 10 0 ∷
     prefixed "0z" 10 0 ∷
     prefixed "x52df" 10 0 ∷
-    prefixed "0\u{c3}\u{a9}4" 10 0 ∷
+    prefixed "0Ã©4" 10 0 ∷
     prefixed " 0x18_72" 10 0 ∷
     prefixed "0xE_ef" 16 2 ∷
     prefixed "00xE59" 10 0 ∷
@@ -369,10 +369,10 @@ rows =
     prefixed "0o04A" 8 2 ∷
     prefixed " 0x" 10 0 ∷
     prefixed "06" 10 0 ∷
-    prefixed "0\u{c3}\u{a9}45c" 10 0 ∷
+    prefixed "0Ã©45c" 10 0 ∷
     prefixed "0x93d_0" 16 2 ∷
     prefixed " 0x9bD" 10 0 ∷
-    prefixed "0\u{c3}\u{a9}d_750" 10 0 ∷
+    prefixed "0Ã©d_750" 10 0 ∷
     prefixed "x" 10 0 ∷
     prefixed "1xae" 10 0 ∷
     prefixed "0x" 16 2 ∷
@@ -494,66 +494,66 @@ rows =
     asks null 12 "" "''" "" (unfit 5) ∷
     asks null 13 "" "''" "" (unfit 5) ∷
     asks null 14 "" "''" "" (unfit 5) ∷
-    spans source-text 4 1 9 "a\u{c3}\u{a9}'b'\u{f0}\u{9f}\u{98}\u{80}" (refuses 3) ∷
-    spans charset 4 8 7 "a\u{c3}\u{a9}'b'\u{f0}\u{9f}\u{98}\u{80}" (refuses 3) ∷
-    spans source-text 4 9 5 "a\u{c3}\u{a9}'b'\u{f0}\u{9f}\u{98}\u{80}" (refuses 3) ∷
-    asks source-text 4 "a\u{c3}\u{a9}'" "b" "'\u{f0}\u{9f}\u{98}\u{80}" (borrows 4 5 "b") ∷
-    asks source-text 4 "" "a\u{c3}\u{a9}'b'" "\u{f0}\u{9f}\u{98}\u{80}" (borrows 0 6 "a\u{c3}\u{a9}'b'") ∷
-    spans source-text 4 6 11 "a\u{c3}\u{a9}'b'\u{f0}\u{9f}\u{98}\u{80}" (refuses 3) ∷
+    spans source-text 4 1 9 "aÃ©'b'ð\u{9f}\u{98}\u{80}" (refuses 3) ∷
+    spans charset 4 8 7 "aÃ©'b'ð\u{9f}\u{98}\u{80}" (refuses 3) ∷
+    spans source-text 4 9 5 "aÃ©'b'ð\u{9f}\u{98}\u{80}" (refuses 3) ∷
+    asks source-text 4 "aÃ©'" "b" "'ð\u{9f}\u{98}\u{80}" (borrows 4 5 "b") ∷
+    asks source-text 4 "" "aÃ©'b'" "ð\u{9f}\u{98}\u{80}" (borrows 0 6 "aÃ©'b'") ∷
+    spans source-text 4 6 11 "aÃ©'b'ð\u{9f}\u{98}\u{80}" (refuses 3) ∷
     spans charset 4 4 1 "'a'" (refuses 3) ∷
     spans charset 4 2 2 "a" (refuses 3) ∷
-    spans source-text 4 3 8 "a\u{c3}\u{a9}'b'\u{f0}\u{9f}\u{98}\u{80}" (refuses 3) ∷
-    asks charset 4 "a\u{c3}\u{a9}'" "b'" "\u{f0}\u{9f}\u{98}\u{80}" unnamed ∷
-    spans (string false) 4 3 0 "\u{c3}\u{a9}" (refuses 3) ∷
-    spans (string false) 4 4 11 "a\u{c3}\u{a9}'b'\u{f0}\u{9f}\u{98}\u{80}" (refuses 3) ∷
-    spans source-text 4 3 2 "a\u{c3}\u{a9}'b'\u{f0}\u{9f}\u{98}\u{80}" (refuses 3) ∷
+    spans source-text 4 3 8 "aÃ©'b'ð\u{9f}\u{98}\u{80}" (refuses 3) ∷
+    asks charset 4 "aÃ©'" "b'" "ð\u{9f}\u{98}\u{80}" unnamed ∷
+    spans (string false) 4 3 0 "Ã©" (refuses 3) ∷
+    spans (string false) 4 4 11 "aÃ©'b'ð\u{9f}\u{98}\u{80}" (refuses 3) ∷
+    spans source-text 4 3 2 "aÃ©'b'ð\u{9f}\u{98}\u{80}" (refuses 3) ∷
     asks source-text 4 "" "'a'" "" (borrows 0 3 "'a'") ∷
-    spans source-text 4 0 11 "a\u{c3}\u{a9}'b'\u{f0}\u{9f}\u{98}\u{80}" (refuses 3) ∷
+    spans source-text 4 0 11 "aÃ©'b'ð\u{9f}\u{98}\u{80}" (refuses 3) ∷
     spans charset 4 1 2 "a" (refuses 3) ∷
-    spans charset 4 8 3 "a\u{c3}\u{a9}'b'\u{f0}\u{9f}\u{98}\u{80}" (refuses 3) ∷
-    spans source-text 4 5 4 "a\u{c3}\u{a9}'b'\u{f0}\u{9f}\u{98}\u{80}" (refuses 3) ∷
-    spans charset 4 10 0 "a\u{c3}\u{a9}'b'\u{f0}\u{9f}\u{98}\u{80}" (refuses 3) ∷
-    asks charset 4 "a\u{c3}\u{a9}'b" "" "'\u{f0}\u{9f}\u{98}\u{80}" unnamed ∷
-    spans source-text 4 7 9 "a\u{c3}\u{a9}'b'\u{f0}\u{9f}\u{98}\u{80}" (refuses 3) ∷
-    spans (string false) 4 11 3 "a\u{c3}\u{a9}'b'\u{f0}\u{9f}\u{98}\u{80}" (refuses 3) ∷
-    spans charset 4 7 10 "a\u{c3}\u{a9}'b'\u{f0}\u{9f}\u{98}\u{80}" (refuses 3) ∷
-    spans charset 4 2 3 "\u{e3}\u{80}\u{80}" (refuses 3) ∷
-    spans source-text 4 8 4 "a\u{c3}\u{a9}'b'\u{f0}\u{9f}\u{98}\u{80}" (refuses 3) ∷
-    asks (string false) 4 "a\u{c3}\u{a9}" "'b" "'\u{f0}\u{9f}\u{98}\u{80}" (refuses 6) ∷
-    spans (string false) 4 2 4 "a\u{c3}\u{a9}'b'\u{f0}\u{9f}\u{98}\u{80}" (refuses 3) ∷
-    spans source-text 4 11 5 "a\u{c3}\u{a9}'b'\u{f0}\u{9f}\u{98}\u{80}" (refuses 3) ∷
-    spans source-text 4 8 9 "a\u{c3}\u{a9}'b'\u{f0}\u{9f}\u{98}\u{80}" (refuses 3) ∷
-    spans source-text 4 7 5 "a\u{c3}\u{a9}'b'\u{f0}\u{9f}\u{98}\u{80}" (refuses 3) ∷
-    spans source-text 4 9 3 "a\u{c3}\u{a9}'b'\u{f0}\u{9f}\u{98}\u{80}" (refuses 3) ∷
-    spans charset 4 2 3 "\u{c3}\u{a9}" (refuses 3) ∷
-    spans charset 4 0 3 "\u{c3}\u{a9}" (refuses 3) ∷
-    asks (string false) 4 "a" "\u{c3}\u{a9}'" "b'\u{f0}\u{9f}\u{98}\u{80}" (refuses 6) ∷
-    spans source-text 4 4 7 "a\u{c3}\u{a9}'b'\u{f0}\u{9f}\u{98}\u{80}" (refuses 3) ∷
-    asks source-text 4 "" "a" "\u{c3}\u{a9}'b'\u{f0}\u{9f}\u{98}\u{80}" (borrows 0 1 "a") ∷
-    asks source-text 4 "a\u{c3}\u{a9}'b'" "\u{f0}\u{9f}\u{98}\u{80}" "" (borrows 6 10 "\u{f0}\u{9f}\u{98}\u{80}") ∷
-    spans charset 4 1 3 "\u{c3}\u{a9}" (refuses 3) ∷
-    spans source-text 4 1 8 "a\u{c3}\u{a9}'b'\u{f0}\u{9f}\u{98}\u{80}" (refuses 3) ∷
+    spans charset 4 8 3 "aÃ©'b'ð\u{9f}\u{98}\u{80}" (refuses 3) ∷
+    spans source-text 4 5 4 "aÃ©'b'ð\u{9f}\u{98}\u{80}" (refuses 3) ∷
+    spans charset 4 10 0 "aÃ©'b'ð\u{9f}\u{98}\u{80}" (refuses 3) ∷
+    asks charset 4 "aÃ©'b" "" "'ð\u{9f}\u{98}\u{80}" unnamed ∷
+    spans source-text 4 7 9 "aÃ©'b'ð\u{9f}\u{98}\u{80}" (refuses 3) ∷
+    spans (string false) 4 11 3 "aÃ©'b'ð\u{9f}\u{98}\u{80}" (refuses 3) ∷
+    spans charset 4 7 10 "aÃ©'b'ð\u{9f}\u{98}\u{80}" (refuses 3) ∷
+    spans charset 4 2 3 "ã\u{80}\u{80}" (refuses 3) ∷
+    spans source-text 4 8 4 "aÃ©'b'ð\u{9f}\u{98}\u{80}" (refuses 3) ∷
+    asks (string false) 4 "aÃ©" "'b" "'ð\u{9f}\u{98}\u{80}" (refuses 6) ∷
+    spans (string false) 4 2 4 "aÃ©'b'ð\u{9f}\u{98}\u{80}" (refuses 3) ∷
+    spans source-text 4 11 5 "aÃ©'b'ð\u{9f}\u{98}\u{80}" (refuses 3) ∷
+    spans source-text 4 8 9 "aÃ©'b'ð\u{9f}\u{98}\u{80}" (refuses 3) ∷
+    spans source-text 4 7 5 "aÃ©'b'ð\u{9f}\u{98}\u{80}" (refuses 3) ∷
+    spans source-text 4 9 3 "aÃ©'b'ð\u{9f}\u{98}\u{80}" (refuses 3) ∷
+    spans charset 4 2 3 "Ã©" (refuses 3) ∷
+    spans charset 4 0 3 "Ã©" (refuses 3) ∷
+    asks (string false) 4 "a" "Ã©'" "b'ð\u{9f}\u{98}\u{80}" (refuses 6) ∷
+    spans source-text 4 4 7 "aÃ©'b'ð\u{9f}\u{98}\u{80}" (refuses 3) ∷
+    asks source-text 4 "" "a" "Ã©'b'ð\u{9f}\u{98}\u{80}" (borrows 0 1 "a") ∷
+    asks source-text 4 "aÃ©'b'" "ð\u{9f}\u{98}\u{80}" "" (borrows 6 10 "ð\u{9f}\u{98}\u{80}") ∷
+    spans charset 4 1 3 "Ã©" (refuses 3) ∷
+    spans source-text 4 1 8 "aÃ©'b'ð\u{9f}\u{98}\u{80}" (refuses 3) ∷
     asks (string false) 4 "" "a" "" (refuses 6) ∷
     asks charset 4 "'a'" "" "" unnamed ∷
-    spans charset 4 7 6 "a\u{c3}\u{a9}'b'\u{f0}\u{9f}\u{98}\u{80}" (refuses 3) ∷
-    spans source-text 4 2 9 "a\u{c3}\u{a9}'b'\u{f0}\u{9f}\u{98}\u{80}" (refuses 3) ∷
-    asks source-text 4 "a" "\u{c3}\u{a9}'b" "'\u{f0}\u{9f}\u{98}\u{80}" (borrows 1 5 "\u{c3}\u{a9}'b") ∷
-    spans (string false) 4 8 11 "a\u{c3}\u{a9}'b'\u{f0}\u{9f}\u{98}\u{80}" (refuses 3) ∷
-    spans (string false) 4 2 11 "a\u{c3}\u{a9}'b'\u{f0}\u{9f}\u{98}\u{80}" (refuses 3) ∷
-    asks source-text 4 "a\u{c3}\u{a9}'b" "'" "\u{f0}\u{9f}\u{98}\u{80}" (borrows 5 6 "'") ∷
-    spans charset 4 9 7 "a\u{c3}\u{a9}'b'\u{f0}\u{9f}\u{98}\u{80}" (refuses 3) ∷
-    spans charset 4 10 9 "a\u{c3}\u{a9}'b'\u{f0}\u{9f}\u{98}\u{80}" (refuses 3) ∷
-    spans (string false) 4 4 4 "\u{e3}\u{80}\u{80}" (refuses 3) ∷
-    spans (string false) 4 6 0 "a\u{c3}\u{a9}'b'\u{f0}\u{9f}\u{98}\u{80}" (refuses 3) ∷
-    spans (string false) 4 4 0 "a\u{c3}\u{a9}'b'\u{f0}\u{9f}\u{98}\u{80}" (refuses 3) ∷
-    spans (string false) 4 0 2 "a\u{c3}\u{a9}'b'\u{f0}\u{9f}\u{98}\u{80}" (refuses 3) ∷
-    spans source-text 4 6 7 "a\u{c3}\u{a9}'b'\u{f0}\u{9f}\u{98}\u{80}" (refuses 3) ∷
-    spans charset 4 1 1 "\u{c3}\u{a9}" (refuses 3) ∷
+    spans charset 4 7 6 "aÃ©'b'ð\u{9f}\u{98}\u{80}" (refuses 3) ∷
+    spans source-text 4 2 9 "aÃ©'b'ð\u{9f}\u{98}\u{80}" (refuses 3) ∷
+    asks source-text 4 "a" "Ã©'b" "'ð\u{9f}\u{98}\u{80}" (borrows 1 5 "Ã©'b") ∷
+    spans (string false) 4 8 11 "aÃ©'b'ð\u{9f}\u{98}\u{80}" (refuses 3) ∷
+    spans (string false) 4 2 11 "aÃ©'b'ð\u{9f}\u{98}\u{80}" (refuses 3) ∷
+    asks source-text 4 "aÃ©'b" "'" "ð\u{9f}\u{98}\u{80}" (borrows 5 6 "'") ∷
+    spans charset 4 9 7 "aÃ©'b'ð\u{9f}\u{98}\u{80}" (refuses 3) ∷
+    spans charset 4 10 9 "aÃ©'b'ð\u{9f}\u{98}\u{80}" (refuses 3) ∷
+    spans (string false) 4 4 4 "ã\u{80}\u{80}" (refuses 3) ∷
+    spans (string false) 4 6 0 "aÃ©'b'ð\u{9f}\u{98}\u{80}" (refuses 3) ∷
+    spans (string false) 4 4 0 "aÃ©'b'ð\u{9f}\u{98}\u{80}" (refuses 3) ∷
+    spans (string false) 4 0 2 "aÃ©'b'ð\u{9f}\u{98}\u{80}" (refuses 3) ∷
+    spans source-text 4 6 7 "aÃ©'b'ð\u{9f}\u{98}\u{80}" (refuses 3) ∷
+    spans charset 4 1 1 "Ã©" (refuses 3) ∷
     asks charset 4 "a" "" "" unnamed ∷
-    spans source-text 4 4 3 "a\u{c3}\u{a9}'b'\u{f0}\u{9f}\u{98}\u{80}" (refuses 3) ∷
-    spans source-text 4 3 1 "\u{c3}\u{a9}" (refuses 3) ∷
-    spans source-text 4 11 7 "a\u{c3}\u{a9}'b'\u{f0}\u{9f}\u{98}\u{80}" (refuses 3) ∷
-    asks source-text 4 "a\u{c3}\u{a9}" "'b'" "\u{f0}\u{9f}\u{98}\u{80}" (borrows 3 6 "'b'") ∷
+    spans source-text 4 4 3 "aÃ©'b'ð\u{9f}\u{98}\u{80}" (refuses 3) ∷
+    spans source-text 4 3 1 "Ã©" (refuses 3) ∷
+    spans source-text 4 11 7 "aÃ©'b'ð\u{9f}\u{98}\u{80}" (refuses 3) ∷
+    asks source-text 4 "aÃ©" "'b'" "ð\u{9f}\u{98}\u{80}" (borrows 3 6 "'b'") ∷
     spans source-text 4 4294967295 4294967295 "a" (refuses 3) ∷
     spans (string true) 4 0 4294967295 "''" (refuses 3) ∷ []
 

@@ -31,7 +31,7 @@ use Rattle.meaning.specs.Numbers.{radixPrefix}
 use Rattle.meaning.specs.Helpers.{uescapeLegal, escapeValid, unicodeValid, embedsNul, isUnicodeIdent}
 use Rattle.meaning.specs.Questions.{stringQuestion, plainQuestion, decimalQuestion, bitsQuestion, temporalQuestion, sourceQuestion, moneyQuestion, charsetQuestion, i64Question, boolQuestion, nullQuestion, isNull, identifierQuestion}
 use Rattle.meaning.specs.Writer.{writeQuestion}
-use Rattle.meaning.specs.Records.{kindOf, recordLine, output}
+use Rattle.meaning.specs.Records.{kindOf, output}
 
 -- Texts stand in quotes, one character for each byte: `ascii` turns a character into the byte of its code, also from 80 to FF
 
@@ -166,8 +166,30 @@ abbrev pub identifierSeen : List ℕ → Outcome Identifier → Seen
 identifierSeen t o =
     record { values = identifierNumber (o .answer) ∷ identifierValues (o .answer); bytes = identifierShown t (o .buffer) (o .answer); buffer = o .buffer }
 
+-- THE WRITER: the literal that is written; the length that is needed; a refusal by its number
+pub data Wrote : Type 0 where
+  wrote : String → Wrote
+  needs refused : ℕ → Wrote
+
+abbrev pub wroteDue : ℕ → Wrote → Seen
+wroteDue n (wrote t) = record { values = 0 ∷ length (ascii t) ∷ []; bytes = ascii t; buffer = ascii t ++ fill (n - length (ascii t)) }
+wroteDue n (needs k) = record { values = 9 ∷ k ∷ []; bytes = []; buffer = fill n }
+wroteDue n (refused k) = record { values = k ∷ []; bytes = []; buffer = fill n }
+
+abbrev pub wroteShown : List ℕ → Writing → List ℕ
+wroteShown out (Writing′.Written n) = partShown 0 n out
+wroteShown out Writing′.OverLimit = []
+wroteShown out Writing′.NotUtf8 = []
+wroteShown out Writing′.HoldsNul = []
+wroteShown out (Writing′.NoRoom n) = []
+
+abbrev pub wroteSeen : Outcome Writing → Seen
+wroteSeen o =
+    record { values = writingNumber (o .answer) ∷ writingValues (o .answer); bytes = wroteShown (o .buffer) (o .answer); buffer = o .buffer }
+
 -- THE ROWS. A literal by its kind's code, the bytes of the source before it, its text, and the bytes behind it; a literal by a span
--- of a source; one without a source; a helper; an identifier; a radix prefix
+-- of a source; one without a source; a helper; an identifier; a radix prefix; a value that the writer is given, with a setting, a part
+-- size and a buffer's length; what the record program is given, with zero bytes between a head and a tail, and the lines it prints
 pub data Row : Type 0 where
   asks : Question → ℕ → String → String → String → Told → Row
   spans : Question → ℕ → ℕ → ℕ → String → Told → Row
@@ -175,6 +197,8 @@ pub data Row : Type 0 where
   helps : Helper → String → Bool → Row
   names : String → Told → Row
   prefixed : String → ℕ → ℕ → Row
+  spells : Bool → PartSize → String → ℕ → Wrote → Row
+  prints : String → ℕ → String → String → Row
 
 abbrev pub sameSeen : Seen → Seen → Bool
 sameSeen a b = same (a .values) (b .values) && same (a .bytes) (b .bytes) && same (a .buffer) (b .buffer)
@@ -200,6 +224,8 @@ right (detached q k f u t w) = asked q (literalOf k true f u) (ascii t) w
 right (helps h t b) = equal (helperSays h (ascii t)) b
 right (names t w) = sameSeen (identifierSeen (ascii t) (identifierQuestion (ascii t) (lent w))) (identifierDue w)
 right (prefixed t β n) = samePrefix (radixPrefix (ascii t)) β n
+right (spells b size v n w) = sameSeen (wroteSeen (writeQuestion (record { backslash = b }) size (ascii v) (fill n))) (wroteDue n w)
+right (prints head n tail lines) = same (output (ascii head ++ (replicate n 0 ++ ascii tail))) (ascii lines)
 
 abbrev pub all : List Row → Bool
 all [] = true
