@@ -14,8 +14,6 @@ import sys
 from oracle import ROOT, ask
 from texts import Texts
 
-SEED = int(sys.argv[1]) if len(sys.argv) > 1 else 20260
-
 # question, kinds, rows, texts
 STRATA = [
     ('string', [4], 130, lambda t: t.single()),
@@ -74,7 +72,8 @@ def written(answer):
 
 
 def main():
-    rng = random.Random(SEED)
+    seed = int(sys.argv[1]) if len(sys.argv) > 1 else 20260
+    rng = random.Random(seed)
     texts = Texts(rng)
     rows, seen = [], set()
 
@@ -127,7 +126,7 @@ def main():
 
     path = os.path.join(ROOT, 'vectors', 'oracle.tsv')
     with open(path, 'w') as f:
-        f.write(f'# The Rust\'s own answers. Made by tools/oracle/choose.py with seed {SEED}; docs/VECTORS.md says how to read a row.\n')
+        f.write(f'# The Rust\'s own answers. Made by tools/oracle/choose.py with seed {seed}; docs/VECTORS.md says how to read a row.\n')
         f.write('# id\tquestion\tkind\tsetting\tstart\tend\tsource\troom\tanswer\n')
         for i, (question, kind, setting, start, end, source, room, answer) in enumerate(rows, 1):
             f.write(f'{i}\t{question}\t{kind}\t{setting}\t{start}\t{end}\t{source.hex().upper() or "-"}\t{room}\t{answer}\n')
