@@ -37,3 +37,4 @@ pub mod WriterParts
 pub mod WrittenParts
 pub mod WriterText
 pub mod RoundTrip
+pub mod Starred
