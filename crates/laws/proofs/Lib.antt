@@ -12,6 +12,7 @@ pub mod Gaps
 pub mod Openings
 pub mod Alone
 pub mod Joining
+pub mod WhiteUtf8
 pub mod BodyStops
 pub mod EscapeStops
 pub mod WholeRefused
