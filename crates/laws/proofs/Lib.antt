@@ -8,10 +8,12 @@ pub mod Halves
 pub mod Walks
 pub mod Courses
 pub mod Enclosed
+pub mod Arguments
 pub mod Gaps
 pub mod Openings
 pub mod Alone
 pub mod Joining
+pub mod Joins
 pub mod WhiteUtf8
 pub mod BodyStops
 pub mod EscapeStops
