@@ -24,9 +24,11 @@ quoteless (b ∷ t) h = go (eqb b quote) refl (or-left (eqb quote b) (has quote 
     or-left : (x y : Bool) → (x || y) ≡ false → x ≡ false
     or-left true y e = e
     or-left false y e = refl
+
     or-right : (x y : Bool) → (x || y) ≡ false → y ≡ false
     or-right true y e = absurd (false≢true (sym e))
     or-right false y e = e
+
     go : (x : Bool) → eqb b quote ≡ x → eqb quote b ≡ false
         → (value (walk (standardStep false quote) 0 t) ≡ t) × (stops (walk (standardStep false quote) 0 t) ≡ false)
         → (value (walk (standardStep false quote) 0 (b ∷ t)) ≡ b ∷ t) × (stops (walk (standardStep false quote) 0 (b ∷ t)) ≡ false)
@@ -43,6 +45,7 @@ quoted (b ∷ t) h = go (eqb b quote) (eqb (t ! 0) quote) refl refl h (quoted t)
     or-in : (x y : Bool) → y ≡ true → (x || y) ≡ true
     or-in true y e = refl
     or-in false y e = e
+
     go : (x y : Bool) → eqb b quote ≡ x → eqb (t ! 0) quote ≡ y → (eqb quote b || has quote t) ≡ true
         → (has quote t ≡ true → (stops (walk (standardStep false quote) 0 t) ≡ true) ⊎ (has quote (value (walk (standardStep false quote) 0 t)) ≡ true))
         → (stops (walk (standardStep false quote) 0 (b ∷ t)) ≡ true) ⊎ (has quote (value (walk (standardStep false quote) 0 (b ∷ t))) ≡ true)
@@ -75,6 +78,7 @@ legal-quoteless (b ∷ t) h =
     one : (d : Due) → isOne d t ≡ true → has quote t ≡ false
     one broken e = absurd (false≢true e)
     one (due n lo hi) e = laters-quoteless n t e
+
     go : (x : Bool) → eqb quote b ≡ x → not (has b (ascii "+'\"")) ≡ true → has quote t ≡ false → (x || has quote t) ≡ false
     go true e n r = absurd (false≢true (subst (λ (c : ℕ). not (has c (ascii "+'\"")) ≡ true) (sym (eqb-true quote b e)) n))
     go false e n r = r

@@ -30,6 +30,7 @@ module _ (f : List ℕ → Value) where
       go : (a b : List ℕ) (y : Value) → both (means a) (onward (suc n) (both (means b) (onward (size p) y))) ≡ both (means (a ++ b)) (onward (suc (n + size p)) y)
       go a b (means w) = ap means (sym (append-assoc a b w))
       go a b (fails r) = ap fails (omega arith)
+
       with-parts : (a b : List ℕ) → f s ≡ means a → v ≡ a ++ b → each f (graft p q) ≡ both (means b) (onward (size p) (each f q))
           → both (f s) (onward (suc n) (each f (graft p q))) ≡ both (means v) (onward (suc (n + size p)) (each f q))
       with-parts a b x z ih = rw (x, ih, z) (go a b (each f q))
@@ -57,7 +58,7 @@ module _ (f : List ℕ → Value) where
           each-graft (j .so-far .course) (gave k s ended) (j .got) (j .reads)
           ∙ ap (λ (x : Value). both (means (j .got)) (onward (size (j .so-far .course)) (both x (onward (suc k) (means []))))) r
           ∙ ap (λ (x : List ℕ). means (j .got ++ x)) (append-nil w);
-      count = length-append (j .got) w ∙ ap (λ (x : ℕ). x + length w) (j .count) ∙ b
+      count = length-append (j .got) w ∙ ap (λ (x : ℕ). x + length w) (j .count) ∙ b;
     }
 
     -- the ways out: nothing is left; a segment is refused; what is left is no segment
