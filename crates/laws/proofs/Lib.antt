@@ -6,6 +6,7 @@ pub mod Sequences
 pub mod Digits
 pub mod Halves
 pub mod Walks
+pub mod StepBounds
 pub mod Courses
 pub mod Enclosed
 pub mod Gaps
