@@ -8,6 +8,7 @@ pub mod Halves
 pub mod Walks
 pub mod StepBounds
 pub mod Courses
+pub mod Passes
 pub mod Enclosed
 pub mod Gaps
 pub mod Openings
