@@ -230,11 +230,11 @@ module _ {step : List ℕ → Step} {l d out : List ℕ} {at n : ℕ} (w : Writi
         let tail : take (length out - n) (drop n out) ≡ drop n out = take-all (length out - n) (drop n out) (le-of-eq k) in
         let g : last ≡ v ++ drop (length v) (drop n out) = el ∙ ap (filled v) tail ∙ rw (le-leb (length v) (length (drop n out)) r) in
         let z : last ++ drop (length out - n) (drop n out) ≡ v ++ drop (length v) (drop n out) =
-              ap (last ++_) (drop-of-length-le (drop n out) (le-of-eq k)) ∙ append-nil last ∙ g in
+        ap (last ++_) (drop-of-length-le (drop n out) (le-of-eq k)) ∙ append-nil last ∙ g in
         let put : take n out ++ (last ++ drop (length out - n) (drop n out)) ≡ (c ++ v) ++ drop n′ d =
-              ap (take n out ++_) z
-              ∙ ap (λ (o : List ℕ). take n o ++ (v ++ drop (length v) (drop n o))) (w .put)
-              ∙ put-part c v d n (w .counted) ∙ ap (λ (i : ℕ). (c ++ v) ++ drop i d) en in
+        ap (take n out ++_) z
+        ∙ ap (λ (o : List ℕ). take n o ++ (v ++ drop (length v) (drop n o))) (w .put)
+        ∙ put-part c v d n (w .counted) ∙ ap (λ (i : ℕ). (c ++ v) ++ drop i d) en in
         let m : value (f .next .course) ≡ c ++ v = f .means ∙ ap (c ++_) ev in
         let len : length (c ++ v) ≡ n′ = length-append c v ∙ omega (arith, w .counted, en) in
         subst (λ (a : ℕ). Writing step l d (take n out ++ (last ++ drop (length out - n) (drop n out))) a n′) ea
