@@ -1,7 +1,7 @@
 -- Where a loop stands that walks a text: the course so far, and that the whole walk goes on from there. A loop's invariant holds one of these;
 -- each turn and each way out has its law here, over every step. Assumes nothing.
 use mathlib.Core.Path.{_≡_, refl, ap, sym, _∙_, subst}
-use mathlib.Core.Bool.{Bool, true, false, false≢true}
+use mathlib.Core.Bool.{Bool, true, false, _&&_, false≢true}
 use mathlib.Core.List.{List, [], _∷_, _++_, append-assoc, append-nil}
 use Prim.Native.Nat.{ℕ, zero, suc, _+_, _-_, _≤_, _<_}
 use native.Mathlib.Nat.{zero-add, add-zero}
@@ -10,6 +10,7 @@ use native.Mathlib.Omega.{arith}
 use lib.Dec.{T}
 use lib.ListN.{length, getD, take, drop, length-drop, length-append, drop-of-length-le}
 use lib.Seq.{drop-cons, drop-drop}
+use Rattle.meaning.specs.Bytes.{if_then_else_}
 use Rattle.meaning.specs.Chars.{Due, due, broken, fresh, push, pushes, whole}
 use Rattle.meaning.specs.Walk.{Step, keep, give, stop, Trace, ended, stopped, kept, gave, after, walk, size, stops, plain, value}
 use Rattle.meaning.specs.Steps.{checked, unlessBroken}
@@ -47,6 +48,12 @@ plain-graft-not ended q h = absurd (false≢true (sym h))
 plain-graft-not stopped q h = refl
 plain-graft-not (kept b p) q h = plain-graft-not p q h
 plain-graft-not (gave n out p) q h = refl
+
+pub plain-both : (p q : Trace) → plain (graft p q) ≡ (plain p && plain q)
+plain-both ended q = refl
+plain-both stopped q = refl
+plain-both (kept b p) q = plain-both p q
+plain-both (gave n out p) q = refl
 
 -- THE COURSE SO FAR: the first `at` bytes are walked
 pub record SoFar (step : List ℕ → Step) (l : List ℕ) (at : ℕ) : Type 0 where
@@ -127,7 +134,76 @@ module _ {step : List ℕ → Step} {l : List ℕ} {at : ℕ} (s : SoFar step l 
   pub stops-over : (k : ℕ) (out : List ℕ) → at < length l → length l < at + suc k → step (drop at l) ≡ give k out → stops (walk step 0 l) ≡ false
   stops-over k out h o e = ap stops (so-far-over k out h o e) ∙ stops-graft (s .course) (gave k out ended) (s .goes)
 
--- CHECKED COURSES: as long as the bytes so far break nothing, the check goes on behind them
+-- A UNIT, whatever it is: how many bytes it takes; those that it stands for, b its first; whether it is that byte
+abbrev pub taken : Step → ℕ
+taken keep = 1
+taken (give k out) = suc k
+taken stop = 0
+
+abbrev pub stands : Step → ℕ → List ℕ
+stands keep b = b ∷ []
+stands (give k out) b = out
+stands stop b = []
+
+abbrev pub isKept : Step → Bool
+isKept keep = true
+isKept (give k out) = false
+isKept stop = false
+
+abbrev pub Goes : Step → Type 0
+Goes keep = Unit {0}
+Goes (give k out) = Unit {0}
+Goes stop = ⊥
+
+-- the course so far, and behind it the unit u
+pub record Further {step : List ℕ → Step} {l : List ℕ} {at : ℕ} (s : SoFar step l at) (u : Step) (at′ : ℕ) : Type 0 where
+  pub next : SoFar step l at′
+  pub means : value (next .course) ≡ value (s .course) ++ stands u (getD l at 0)
+  pub plainly : plain (next .course) ≡ (plain (s .course) && isKept u)
+
+pub so-far-unit : {step : List ℕ → Step} {l : List ℕ} {at : ℕ} (s : SoFar step l at) (u : Step) (at′ : ℕ) → at < length l → step (drop at l) ≡ u → Goes u
+    → at + taken u ≤ length l → at + taken u ≡ at′ → Further s u at′
+unfolding so-far-keep so-far-give
+so-far-unit {step} {l} {at} s keep at′ h e g i a =
+    subst (λ (n : ℕ). Further s keep n) a
+    record {
+      next = so-far-keep s h e;
+      means = value-graft (s .course) (kept (getD l at 0) ended) (s .goes);
+      plainly = plain-both (s .course) (kept (getD l at 0) ended);
+    }
+so-far-unit {step} {l} {at} s (give k out) at′ h e g i a = record {
+  next = so-far-give s k out at′ i e a;
+  means = value-graft (s .course) (gave k out ended) (s .goes) ∙ ap (value (s .course) ++_) (append-nil out);
+  plainly = plain-both (s .course) (gave k out ended);
+}
+so-far-unit s stop at′ h e g i a = absurd g
+
+-- CHECKED COURSES: a check that goes to the end changes nothing
+pub checked-same : (d : Due) (r : Trace) → stops (checked d r) ≡ false → checked d r ≡ r
+checked-same d ended h = go (whole d) h
+  where
+    go : (x : Bool) → stops (if x then ended else stopped) ≡ false → (if x then ended else stopped) ≡ ended
+    go true k = refl
+    go false k = absurd (false≢true (sym k))
+checked-same d stopped h = refl
+checked-same d (kept b r) h = go (push d b) h (λ d′. checked-same d′ r)
+  where
+    go : (x : Due) → stops (unlessBroken x (λ d′. kept b (checked d′ r))) ≡ false
+        → ((d′ : Due) → stops (checked d′ r) ≡ false → checked d′ r ≡ r) → unlessBroken x (λ d′. kept b (checked d′ r)) ≡ kept b r
+    go broken k ih = absurd (false≢true (sym k))
+    go (due n lo hi) k ih = ap (kept b) (ih (due n lo hi) k)
+checked-same d (gave m out r) h = go (pushes d out) h (λ d′. checked-same d′ r)
+  where
+    go : (x : Due) → stops (unlessBroken x (λ d′. gave m out (checked d′ r))) ≡ false
+        → ((d′ : Due) → stops (checked d′ r) ≡ false → checked d′ r ≡ r) → unlessBroken x (λ d′. gave m out (checked d′ r)) ≡ gave m out r
+    go broken k ih = absurd (false≢true (sym k))
+    go (due n lo hi) k ih = ap (gave m out) (ih (due n lo hi) k)
+
+pub checked-value : (d : Due) (r : Trace) → stops (checked d r) ≡ false
+    → (value (checked d r) ≡ value r) × (plain (checked d r) ≡ plain r) × (size (checked d r) ≡ size r)
+checked-value d r h = let e = checked-same d r h in (ap value e, ap plain e, ap size e)
+
+-- as long as the bytes so far break nothing, the check goes on behind them
 pub checked-graft : (d : Due) (p q : Trace) (n lo hi : ℕ) → stops p ≡ false → pushes d (value p) ≡ due n lo hi
     → checked d (graft p q) ≡ graft p (checked (due n lo hi) q)
 checked-graft d ended q n lo hi h e = ap (λ (x : Due). checked x q) e

@@ -6,7 +6,9 @@ pub mod Sequences
 pub mod Digits
 pub mod Halves
 pub mod Walks
+pub mod StepBounds
 pub mod Courses
+pub mod Passes
 pub mod Enclosed
 pub mod Arguments
 pub mod Gaps
