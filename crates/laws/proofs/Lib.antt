@@ -43,3 +43,4 @@ pub mod WrittenParts
 pub mod WriterText
 pub mod RoundTrip
 pub mod Starred
+pub mod Short
