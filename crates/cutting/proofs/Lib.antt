@@ -1,0 +1,4 @@
+pub mod Closes
+pub mod Names
+pub mod Prefixes
+pub mod Cuts
