@@ -1,3 +1,4 @@
 pub mod Leads
 pub mod Pushing
 pub mod Encoding
+pub mod Gathering
