@@ -38,7 +38,8 @@ course-unclosed r e = go (stops r) refl e
     go true s f = let z : _≡_ {A = ℕ} 0 1 = cc in absurd (omega arith)
     go false s f = s
 
-part-tail : (l : List ℕ) (k : ℕ) → take (length l - k) (drop k l) ≡ drop k l
+-- the part from a place to the end
+pub part-tail : (l : List ℕ) (k : ℕ) → take (length l - k) (drop k l) ≡ drop k l
 part-tail l k = take-all (length l - k) (drop k l) (omega (arith, length-drop k l))
 
 -- no opening, no segment

@@ -2,3 +2,4 @@ pub mod Closes
 pub mod Names
 pub mod Prefixes
 pub mod Cuts
+pub mod Follows
