@@ -1,5 +1,5 @@
--- A segment's value is never longer than the segment: so no length that a pass counts exceeds the text's. And what a body that reads to its end
--- means, borrowed or written. Assumes nothing.
+-- A segment's value is never longer than the segment, and the place of a refusal lies inside it: so no number that a pass counts exceeds the text's
+-- length. And what a body that reads to its end means, borrowed or written. Assumes nothing.
 use mathlib.Core.Path.{_≡_, refl, ap, sym, _∙_, subst}
 use mathlib.Core.Bool.{Bool, true, false, _&&_, false≢true}
 use mathlib.Core.List.{List, [], _∷_, _++_}
@@ -11,16 +11,15 @@ use lib.ListN.{length, take, drop, length-append, length-take, length-drop}
 use borrow.Author.Tests.{ltb-true}
 use Rattle.meaning.specs.declared.Settings.{Settings}
 use Rattle.meaning.specs.Bytes.{if_then_else_, _!_, part, ascii, has, same, quote, dquote, isMark}
-use Rattle.meaning.specs.Chars.{fresh}
+use Rattle.meaning.specs.Chars.{Due, due, broken, fresh, push, pushes, whole}
 use Rattle.meaning.specs.Walk.{Step, keep, give, stop, Trace, ended, stopped, kept, gave, after, walk, size, stops, plain, value}
-use Rattle.meaning.specs.Steps.{standardStep, escapeStep, unicodeStep, checked, closingStep, trim}
+use Rattle.meaning.specs.Steps.{standardStep, escapeStep, unicodeStep, checked, unlessBroken, closingStep, trim}
 use Rattle.meaning.specs.Cutting.{opening}
 use Rattle.meaning.specs.Spelling.{Spelling, standard, escape, unicode, dollar, unspelt, encloses, isUnicode, unicodeSpelling, unicodeBy, chosen, closedUnicode, delimiter, dollarBy, spelling}
 use Rattle.meaning.specs.Reading.{Answer, borrowed, written, refused, Value, means, fails, valueOf, answer, read-as, one, alone}
 use Rattle.laws.proofs.Tests.{T→true, true→T, and-left, and-right}
-use Rattle.laws.proofs.Walks.{walk-plain}
+use Rattle.laws.proofs.Walks.{walk-plain, FitsIn, fits-size}
 use Rattle.laws.proofs.Openings.{opening-mark, apart-of-mark, mark-0}
-use Rattle.laws.proofs.Joining.{fails≢means}
 use Rattle.laws.proofs.BodyStops.{stops-fails}
 use Rattle.laws.proofs.Ranges.{Bounds, BodyIn, spelling-body}
 use Rattle.laws.proofs.StepBounds.{Bounded, Steady, standard-steady, escape-steady, unicode-steady}
@@ -38,6 +37,42 @@ walk-short step ok zero (b ∷ t) h = go (step (b ∷ t)) (ok b t) (λ n. walk-s
     go keep g ih = let r = ih 0 (omega arith) in omega arith
     go (give n out) g ih = let r = ih n (g .0) in omega (arith, length-append out (value (walk step n t)))
     go stop g ih = omega arith
+
+-- nor does it stop behind its end, checked or not
+walk-size : (step : List ℕ → Step) → Steady step → (k : ℕ) (t : List ℕ) → k ≤ length t → k + size (walk step k t) ≤ length t
+walk-size step ok k t h = fits-size step (λ b u. fit (step (b ∷ u)) (length u) (ok b u)) k t h
+  where
+    fit : (s : Step) (n : ℕ) → Bounded s n → FitsIn s n
+    fit keep n g = tt
+    fit (give k out) n g = g .0
+    fit stop n g = tt
+
+checked-size : (d : Due) (r : Trace) → size (checked d r) ≤ size r
+checked-size d ended = go (whole d)
+  where
+    go : (x : Bool) → size (if x then ended else stopped) ≤ 0
+    go true = omega arith
+    go false = omega arith
+checked-size d stopped = omega arith
+checked-size d (kept b r) = go (push d b) (λ e. checked-size e r)
+  where
+    go : (e : Due) → ((e : Due) → size (checked e r) ≤ size r) → size (unlessBroken e (λ e′. kept b (checked e′ r))) ≤ suc (size r)
+    go broken ih = omega arith
+    go (due n lo hi) ih = omega (arith, ih (due n lo hi))
+checked-size d (gave k out r) = go (pushes d out) (λ e. checked-size e r)
+  where
+    go : (e : Due) → ((e : Due) → size (checked e r) ≤ size r) → size (unlessBroken e (λ e′. gave k out (checked e′ r))) ≤ suc (k + size r)
+    go broken ih = omega arith
+    go (due n lo hi) ih = omega (arith, ih (due n lo hi))
+
+pub course-size : (x : Bool) (step : List ℕ → Step) → Steady step → (t : List ℕ) → size (courseBy x (walk step 0 t)) ≤ length t
+course-size false step ok t = omega (arith, walk-size step ok 0 t (omega arith))
+course-size true step ok t = omega (arith, walk-size step ok 0 t (omega arith), checked-size fresh (walk step 0 t))
+
+-- of a value in a text of n bytes
+abbrev pub Bound : Value → ℕ → Type 0
+Bound (means v) n = length v ≤ n
+Bound (fails p) n = p ≤ n
 
 -- A BODY that reads to its end means its course's value
 module _ (x : Bool) (step : List ℕ → Step) (t : List ℕ) (f u : ℕ) where
@@ -64,13 +99,18 @@ module _ (x : Bool) (step : List ℕ → Step) (t : List ℕ) (f u : ℕ) where
       go true h = absurd (stops-fails t f u course v (true→T (stops course) h) e)
       go false h = refl
 
-  body-short : Steady step → Bounds (length t) f u → (v : List ℕ) → valueOf t (answer f u course) ≡ means v → length v ≤ length t
-  body-short ok b v e =
-      let h = body-goes v e in
-      let m : means v ≡ means (value course) = sym e ∙ body-means h in
-      let z : v ≡ value course = cc in
-      let s = walk-short step ok 0 (part f u t) (omega arith) in
-      omega (arith, ap length z, ap (λ (r : Trace). length (value r)) (course-same x (walk step 0 (part f u t)) h), length-take (u - f) (drop f t), length-drop f t, b .ordered, b .inside)
+  -- its numbers lie inside the text
+  body-bound : Steady step → Bounds (length t) f u → Bound (valueOf t (answer f u course)) (length t)
+  unfolding answer
+  body-bound ok b = go (plain course) (stops course) refl
+    where
+      room : length (part f u t) + f ≤ length t
+      room = omega (arith, length-take (u - f) (drop f t), length-drop f t, b .ordered, b .inside)
+      go : (y z : Bool) → stops course ≡ z → Bound (valueOf t (if y then borrowed f u else if z then refused (f + size course) else written (value course))) (length t)
+      go true z h = omega (arith, room)
+      go false true h = omega (arith, room, course-size x step ok (part f u t))
+      go false false h =
+          omega (arith, room, walk-short step ok 0 (part f u t) (omega arith), ap (λ (r : Trace). length (value r)) (course-same x (walk step 0 (part f u t)) h))
 
 -- THE MARK of a standard spelling is no zero
 abbrev MarkIn : Spelling → Type 0
@@ -135,19 +175,17 @@ spelling-mark t =
     go false false false false false true h = unicode-mark quote t
     go false false false false false false h = dollar-mark t (delimiter t)
 
-as-short : (σ : Settings) (t : List ℕ) (s : Spelling) → BodyIn (length t) s → MarkIn s → (v : List ℕ) → valueOf t (read-as σ t s) ≡ means v → length v ≤ length t
-as-short σ t (standard q f u) b m v e = body-short false (standardStep (σ .backslash) q) t f u (standard-steady (σ .backslash) q m) b v e
-as-short σ t (escape f u) b m v e = body-short true escapeStep t f u escape-steady b v e
-as-short σ t (unicode e′ f u) b m v e = body-short false (unicodeStep e′ quote) t f u (unicode-steady e′ quote refl) b v e
-as-short σ t (dollar f u) b m v e =
-    let z : v ≡ part f u t = cc in
-    omega (arith, ap length z, length-take (u - f) (drop f t), length-drop f t, b .ordered, b .inside)
-as-short σ t unspelt b m v e = absurd (fails≢means 0 v e)
+as-bound : (σ : Settings) (t : List ℕ) (s : Spelling) → BodyIn (length t) s → MarkIn s → Bound (valueOf t (read-as σ t s)) (length t)
+as-bound σ t (standard q f u) b m = body-bound false (standardStep (σ .backslash) q) t f u (standard-steady (σ .backslash) q m) b
+as-bound σ t (escape f u) b m = body-bound true escapeStep t f u escape-steady b
+as-bound σ t (unicode e f u) b m = body-bound false (unicodeStep e quote) t f u (unicode-steady e quote refl) b
+as-bound σ t (dollar f u) b m = omega (arith, length-take (u - f) (drop f t), length-drop f t, b .ordered, b .inside)
+as-bound σ t unspelt b m = omega arith
 
-pub alone-short : (σ : Settings) (t v : List ℕ) → alone σ t ≡ means v → length v ≤ length t
+pub alone-bound : (σ : Settings) (t : List ℕ) → Bound (alone σ t) (length t)
 unfolding one
-alone-short σ t v e = go (has 0 t) e
+alone-bound σ t = go (has 0 t)
   where
-    go : (x : Bool) → valueOf t (if x then refused 0 else read-as σ t (spelling t)) ≡ means v → length v ≤ length t
-    go true h = absurd (fails≢means 0 v h)
-    go false h = as-short σ t (spelling t) (spelling-body t) (spelling-mark t) v h
+    go : (x : Bool) → Bound (valueOf t (if x then refused 0 else read-as σ t (spelling t))) (length t)
+    go true = omega arith
+    go false = as-bound σ t (spelling t) (spelling-body t) (spelling-mark t)
