@@ -182,7 +182,7 @@ within-room {step} {l} {at} {m} r s =
     omega (arith, r .fits, v)
 
 -- a part of a buffer from n on: p stood before it, and v now stands at its start
-put-part : (p v d : List ℕ) (n : ℕ) → length p ≡ n
+pub put-part : (p v d : List ℕ) (n : ℕ) → length p ≡ n
     → take n (p ++ drop n d) ++ (v ++ drop (length v) (drop n (p ++ drop n d))) ≡ (p ++ v) ++ drop (n + length v) d
 put-part p v d n e =
     ap₂ (λ (a b : List ℕ). a ++ (v ++ drop (length v) b)) (take-at p (drop n d) n e) (drop-at p (drop n d) n e)
