@@ -1,4 +1,5 @@
-// The leaves of reading: digits, name and tag bytes, white space, UTF-8. Each answers for every input; none asks its caller for anything.
+// The leaves of reading: bytes, digits, name and tag bytes, white space, UTF-8. Each answers for every input; none asks its caller for anything.
+pub mod bytes;
 pub mod digits;
 pub mod names;
 pub mod utf8;
