@@ -21,6 +21,7 @@ use Rattle.laws.proofs.Tests.{T→true}
 use Rattle.laws.proofs.Utf8.{utf8-join}
 use Rattle.laws.proofs.Asked.{Spans, stringQuestion-reads}
 use Rattle.laws.proofs.Joining.{White}
+use Rattle.laws.proofs.WhiteUtf8.{white-utf8}
 use Rattle.laws.proofs.Ready.{joining-off}
 use Rattle.laws.proofs.ClauseRefused.{joining-on-whole}
 
@@ -36,7 +37,6 @@ pub record Complete (σ : Settings) (t v : List ℕ) : Type 0 where
 
 -- white space, at least one character of it
 pub record Gap (g : List ℕ) : Type 0 where
-  pub valid : utf8 g ≡ true
   pub white : White g
   pub some : 0 < length g
 
@@ -63,5 +63,5 @@ pub joining-law : (σ : Settings) (A G B v w : List ℕ) → Complete σ A v →
     → (l : Literal) (S out : List ℕ) → isString (l .kind) ≡ true → Spans l S (A ++ (G ++ B)) → length (v ++ w) ≤ length out
     → stringQuestion l S σ out ≡ record { answer = Written (length (v ++ w)); buffer = (v ++ w) ++ drop (length (v ++ w)) out }
 joining-law σ A G B v w a g b m l S out k h r =
-    told-written l S (A ++ (G ++ B)) (v ++ w) σ out k h (utf8-join A G B (a .accepts .valid) (g .valid) (b .accepts .valid))
+    told-written l S (A ++ (G ++ B)) (v ++ w) σ out k h (utf8-join A G B (a .accepts .valid) (white-utf8 G (g .white)) (b .accepts .valid))
     (join-read σ A G B v w a g b m) r

@@ -10,10 +10,13 @@ pub mod StepBounds
 pub mod Courses
 pub mod Passes
 pub mod Enclosed
+pub mod Arguments
 pub mod Gaps
 pub mod Openings
 pub mod Alone
 pub mod Joining
+pub mod Joins
+pub mod WhiteUtf8
 pub mod BodyStops
 pub mod EscapeStops
 pub mod WholeRefused
@@ -39,3 +42,5 @@ pub mod WriterParts
 pub mod WrittenParts
 pub mod WriterText
 pub mod RoundTrip
+pub mod Starred
+pub mod Short

@@ -25,6 +25,7 @@ use Rattle.meaning.specs.Questions.{sourceText, tested, isString, toldAs, strin
 use Rattle.meaning.specs.Reading.{written, Value, means, fails, valueOf, each, alone, joined, asWritten, read, meaning}
 use Rattle.meaning.specs.Steps.{gap, trim}
 use Rattle.meaning.specs.Walk.{Trace, ended, stopped, kept, gave, walk}
+use Rattle.laws.proofs.WhiteUtf8.{white-utf8}
 use Rattle.laws.proofs.Alone.{segment-alone}
 use Rattle.laws.proofs.Asked.{Spans, stringQuestion-reads}
 use Rattle.laws.proofs.Gaps.{gap-append}
@@ -230,19 +231,19 @@ module _ (σ : Settings) where
     where
       at : (g : List ℕ) → Gap g → within 0x80 0xBF ((g ++ (p .text ++ behind ps)) ! 0) ≡ false
       at [] w = absurd (omega arith)
-      at (b ∷ g) w = utf8-begins (b ∷ g) (w .valid)
+      at (b ∷ g) w = utf8-begins (b ∷ g) (white-utf8 (b ∷ g) (w .white))
 
   utf8-from : (s : List ℕ) (ps : List (Further σ)) → Each (λ t. utf8 t ≡ true) (segments s ps) → utf8 (strung s ps) ≡ true
   unfolding utf8
   utf8-from s [] h = utf8-append s [] (h .0)
   utf8-from s (p ∷ ps) h =
-      utf8-append s (behind (p ∷ ps)) (h .0) ∙ utf8-append (p .gap) (strung (p .text) ps) (p .white .valid) ∙ utf8-from (p .text) ps (h .1)
+      utf8-append s (behind (p ∷ ps)) (h .0) ∙ utf8-append (p .gap) (strung (p .text) ps) (white-utf8 (p .gap) (p .white .white)) ∙ utf8-from (p .text) ps (h .1)
 
   utf8-to : (s : List ℕ) (ps : List (Further σ)) → utf8 (strung s ps) ≡ true → Each (λ t. utf8 t ≡ true) (segments s ps)
   utf8-to s [] h = (utf8-split s [] (no-later []) h .0, tt)
   utf8-to s (p ∷ ps) h =
       let r = utf8-split s (behind (p ∷ ps)) (no-later (p ∷ ps)) h in
-      (r .0, utf8-to (p .text) ps (sym (utf8-append (p .gap) (strung (p .text) ps) (p .white .valid)) ∙ r .1))
+      (r .0, utf8-to (p .text) ps (sym (utf8-append (p .gap) (strung (p .text) ps) (white-utf8 (p .gap) (p .white .white))) ∙ r .1))
 
   pub segments-utf8 : (s : List ℕ) (ps : List (Further σ)) → (utf8 (strung s ps) ≡ true) ↔ Each (λ t. utf8 t ≡ true) (segments s ps)
   segments-utf8 s ps = (utf8-to s ps, utf8-from s ps)

@@ -26,6 +26,12 @@ dueOf Broken = broken
 abbrev pub dueNext : ℕ → ℕ → Utf8Tail → ℕ → Utf8Tail
 dueNext lo hi next b = if within lo hi b then next else Broken
 
+-- a later byte is due
+abbrev pub pending : Due → Bool
+pending broken = false
+pending (due zero lo hi) = false
+pending (due (suc n) lo hi) = true
+
 -- what a first byte adds to its character's number; 0 for a byte that begins none
 abbrev pub bitsBy : Due → ℕ → ℕ
 bitsBy broken b = 0

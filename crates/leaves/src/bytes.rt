@@ -7,9 +7,5 @@ ghost use lib.ListN.{getD};
 pub fn byte_at(text: &[u8], at: usize) -> u8
     ensures { λ r. ⌜ r ≡ getD (now (text .entry)) at 0 ⌝ }
 {
-    if at < text.len() {
-        text[at]
-    } else {
-        0
-    }
+    if at < text.len() { text[at] } else { 0 }
 }

@@ -2,4 +2,5 @@
 pub mod bytes;
 pub mod digits;
 pub mod names;
+pub mod spaces;
 pub mod utf8;

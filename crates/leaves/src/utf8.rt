@@ -2,7 +2,7 @@
 ghost use mathlib.Core.Path.{_≡_};
 ghost use lib.ListN.{length, drop};
 ghost use Rattle.meaning.specs.Chars.{push, pushes, whole, utf8, width, encode, isScalar};
-ghost use Rattle.leaves.specs.Utf8.{dueOf, dueNext, leadBits, scalarOf, Encodes};
+ghost use Rattle.leaves.specs.Utf8.{dueOf, dueNext, pending, leadBits, scalarOf, Encodes};
 
 // What is due: nothing; some later bytes; some of which the first has a narrower range; or the text is broken. The eight states that
 // `utf8_tail_push` can reach, and the refusal.
@@ -161,6 +161,49 @@ fn lead_bits(byte: u8) -> u32
     }
     if byte < 0xF5 {
         return (byte - 0xF0) as u32;
+    }
+    0
+}
+
+// Whether a later byte is due.
+fn is_due(tail: Utf8Tail) -> bool
+    ensures { λ r. ⌜ r ≡ pending (dueOf tail) ⌝ }
+{
+    match tail {
+        Utf8Tail::Start => false,
+        Utf8Tail::One => true,
+        Utf8Tail::Two => true,
+        Utf8Tail::TwoFromA0 => true,
+        Utf8Tail::TwoUpTo9F => true,
+        Utf8Tail::Three => true,
+        Utf8Tail::ThreeFrom90 => true,
+        Utf8Tail::ThreeUpTo8F => true,
+        Utf8Tail::Broken => false,
+    }
+}
+
+// The number that the bytes of the character at a place make; 0 where none begins there, or one of its bytes is missing or not as due.
+pub fn scalar_at(text: &[u8], at: usize) -> u32
+    ensures { λ r. ⌜ r ≡ scalarOf (drop at (now (text .entry))) ⌝ }
+{
+    if text.len() <= at {
+        return 0;
+    }
+    let first = text[at];
+    let mut tail = utf8_lead(first);
+    let mut number = lead_bits(first);
+    let mut i = at + 1;
+    while is_due(tail) {
+        if text.len() <= i {
+            return 0;
+        }
+        let byte = text[i];
+        tail = utf8_tail_push(tail, byte);
+        number = number * 64 + ((byte % 64) as u32);
+        i += 1;
+    }
+    if is_whole(tail) {
+        return number;
     }
     0
 }

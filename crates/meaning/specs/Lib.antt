@@ -11,6 +11,7 @@ pub mod Halves
 pub mod Kinds
 pub mod Helpers
 pub mod Answers
+pub mod Reads
 pub mod Questions
 pub mod Writer
 pub mod Records

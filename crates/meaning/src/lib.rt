@@ -113,6 +113,15 @@ pub enum Refusal {
     NoRoom { needed: usize },
 }
 
+// A text that was read, before any span or kind is known: a part of it, the first bytes of the buffer, the place where reading stops, or the
+// length for which there is no room.
+pub enum Read {
+    Borrowed { from: usize, until: usize },
+    Written { len: usize },
+    Refused { place: usize },
+    NoRoom { needed: usize },
+}
+
 // A text: a part of the source, or the first bytes of the buffer.
 pub enum Text {
     Borrowed { start: usize, end: usize },

@@ -1,0 +1,5 @@
+pub mod Closes
+pub mod Names
+pub mod Prefixes
+pub mod Cuts
+pub mod Follows

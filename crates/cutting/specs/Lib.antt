@@ -1,0 +1,3 @@
+pub mod Marks
+pub mod Openings
+pub mod Segments

@@ -1,0 +1,57 @@
+// The two quote marks, and where a body closes.
+use leaves::bytes::byte_at;
+ghost use mathlib.Core.Path.{_≡_};
+ghost use Rattle.meaning.specs.Walk.{walk};
+ghost use Rattle.meaning.specs.Steps.{closingStep};
+ghost use Rattle.cutting.specs.Marks.{markOf, closedOf};
+
+// ' or ".
+pub enum Mark {
+    Quote,
+    DoubleQuote,
+}
+
+// A mark's byte.
+// Rules out: one mark taken for the other; ` taken for a mark (must-fail: quote_is_double, backtick_for_double).
+pub fn mark_byte(mark: Mark) -> u8
+    ensures { λ r. ⌜ r ≡ markOf mark ⌝ }
+{
+    match mark {
+        Mark::Quote => 39,
+        Mark::DoubleQuote => 34,
+    }
+}
+
+// Where a body closes.
+pub enum Closing {
+    // the place of the closing mark
+    At(usize),
+    Unclosed,
+}
+
+// The first mark of a body that is not doubled; with `hides` a backslash hides the byte behind it.
+// Rules out: a mark doubled by another byte than the next; a hidden mark taken for the closing one; a byte passed over; a byte hidden past the end
+// (must-fail: doubled_by_the_byte_after, hidden_mark_closes, one_byte_taken_for_two, hidden_past_the_end).
+pub fn closing_mark(body: &[u8], mark: Mark, hides: bool) -> Closing
+    ensures { λ r. ⌜ r ≡ closedOf (walk (closingStep hides (markOf mark)) 0 (now (body .entry))) ⌝ }
+{
+    let quote = mark_byte(mark);
+    let mut at: usize = 0;
+    while at < body.len() {
+        let byte = body[at];
+        if hides & (byte == 92) {
+            if body.len() - at < 2 {
+                return Closing::Unclosed;
+            }
+            at += 2;
+        } else if byte == quote {
+            if byte_at(body, at + 1) != quote {
+                return Closing::At(at);
+            }
+            at += 2;
+        } else {
+            at += 1;
+        }
+    }
+    Closing::Unclosed
+}

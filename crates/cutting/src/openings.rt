@@ -1,0 +1,87 @@
+// What opens a segment.
+use leaves::bytes::byte_at;
+use leaves::names::is_charset_name_byte;
+use leaves::names::is_mark;
+ghost use mathlib.Core.Path.{_≡_};
+ghost use lib.ListN.{drop};
+ghost use Rattle.meaning.specs.Bytes.{span, inName};
+ghost use Rattle.meaning.specs.Cutting.{named, opening};
+ghost use Rattle.cutting.specs.Openings.{isLetterPrefix};
+
+// How many bytes of a charset name stand at a place.
+// Rules out: bytes passed over; bytes counted past the end (must-fail: name_by_pairs, name_past_the_end).
+pub fn name_len(text: &[u8], at: usize) -> usize
+    ensures { λ r. ⌜ r ≡ span inName (drop at (now (text .entry))) ⌝ }
+{
+    let mut n: usize = 0;
+    if text.len() <= at {
+        return 0;
+    }
+    let left = text.len() - at;
+    while n < left {
+        if !is_charset_name_byte(text[at + n]) {
+            return n;
+        }
+        n += 1;
+    }
+    n
+}
+
+// E, N, B or X, in either case.
+fn is_letter_prefix(byte: u8) -> bool
+    ensures { λ r. ⌜ r ≡ isLetterPrefix byte ⌝ }
+{
+    (byte == 69)
+        | (byte == 101)
+        | (byte == 78)
+        | (byte == 110)
+        | (byte == 66)
+        | (byte == 98)
+        | (byte == 88)
+        | (byte == 120)
+}
+
+// The bytes of a name and a mark behind an introducer's _, with the _; 0 if they do not stand there.
+fn introducer_len(text: &[u8], at: usize) -> usize
+    ensures { λ r. ⌜ r ≡ named (drop at (now (text .entry))) ⌝ }
+{
+    let n = name_len(text, at);
+    if n == 0 {
+        return 0;
+    }
+    if is_mark(byte_at(text, at + n)) {
+        return n + 2;
+    }
+    0
+}
+
+// The bytes of the opening at a text's front, with its mark; 0 if no segment opens there.
+// Rules out: a prefix before "; a name of no byte; Y taken for a prefix; U without & (must-fail: prefix_before_double_quote, empty_name_opens,
+// y_is_a_prefix, no_ampersand).
+pub fn opening_len(text: &[u8]) -> usize
+    ensures { λ r. ⌜ r ≡ opening (now (text .entry)) ⌝ }
+{
+    if text.len() == 0 {
+        return 0;
+    }
+    let first = text[0];
+    if is_mark(first) {
+        return 1;
+    }
+    if is_letter_prefix(first) {
+        if byte_at(text, 1) == 39 {
+            return 2;
+        }
+        return 0;
+    }
+    if (first == 85) | (first == 117) {
+        if (byte_at(text, 1) == 38) & (byte_at(text, 2) == 39) {
+            return 3;
+        }
+        return 0;
+    }
+    if first == 95 {
+        return introducer_len(text, 1);
+    }
+    0
+}

@@ -1,0 +1,232 @@
+-- The rows of the tables of this folder: a question, what it is asked of, and the answer that must come out. Each table is one
+-- computation, `T (all rows)`. Assumes nothing.
+use mathlib.Core.Bool.{Bool, true, false, _&&_, _||_, not}
+use mathlib.Core.List.{List, [], _∷_, _++_}
+use Prim.Native.Nat.{ℕ, zero, suc, _+_, _-_}
+use Prim.Native.String.{String}
+use lib.Dec.{eqb}
+use lib.ListN.{length, replicate}
+use lib.IntN.{ℤ, pos, negsuc}
+use Rattle.meaning.specs.declared.Settings.{Settings}
+use Rattle.meaning.specs.declared.PartSize.{PartSize}
+use Rattle.meaning.specs.declared.RadixPrefix.{RadixPrefix}
+use Rattle.meaning.specs.declared.LiteralKind.{LiteralKind}
+use Rattle.meaning.specs.declared.Literal.{Literal}
+use Rattle.meaning.specs.declared.Text.{Text}
+use Rattle.meaning.specs.declared.Range.{Range}
+use Rattle.meaning.specs.declared.Charset.{Charset}
+use Rattle.meaning.specs.declared.Integer.{Integer}
+use Rattle.meaning.specs.declared.Integer.the-variants as Integer′
+use Rattle.meaning.specs.declared.Truth.{Truth}
+use Rattle.meaning.specs.declared.Truth.the-variants as Truth′
+use Rattle.meaning.specs.declared.Nullness.{Nullness}
+use Rattle.meaning.specs.declared.Nullness.the-variants as Nullness′
+use Rattle.meaning.specs.declared.Identifier.{Identifier}
+use Rattle.meaning.specs.declared.Identifier.the-variants as Identifier′
+use Rattle.meaning.specs.declared.Writing.{Writing}
+use Rattle.meaning.specs.declared.Writing.the-variants as Writing′
+use Rattle.meaning.specs.Bytes.{if_then_else_, ascii, same}
+use Rattle.meaning.specs.Answers.{Outcome, kindCode, payload, refusalNumber, refusalValues, textNumber, textValues, rangeNumber, rangeValues, charsetNumber, charsetValues, identifierNumber, identifierValues, writingNumber, writingValues, partShown, shown, rangeShown, charsetShown}
+use Rattle.meaning.specs.Numbers.{radixPrefix}
+use Rattle.meaning.specs.Helpers.{uescapeLegal, escapeValid, unicodeValid, embedsNul, isUnicodeIdent}
+use Rattle.meaning.specs.Questions.{stringQuestion, plainQuestion, decimalQuestion, bitsQuestion, temporalQuestion, sourceQuestion, moneyQuestion, charsetQuestion, i64Question, boolQuestion, nullQuestion, isNull, identifierQuestion}
+use Rattle.meaning.specs.Writer.{writeQuestion}
+use Rattle.meaning.specs.Records.{kindOf, output}
+
+-- Texts stand in quotes, one character for each byte: `ascii` turns a character into the byte of its code, also from 80 to FF
+
+-- WHAT IS ASKED of a literal; the Bool is the backslash setting
+pub data Question : Type 0 where
+  string : Bool → Question
+  plain decimal-text bit-text temporal-text money-text source-text charset i64 bool null : Question
+
+-- of a bare text
+pub data Helper : Type 0 where
+  uescape-legal escape-valid unicode-valid embeds-nul is-ident : Helper
+
+-- WHAT IS ANSWERED. A part of the source, from .. to .., and its bytes; bytes that are written, with some bytes of room left over;
+-- the same bytes, where the room is one byte short; an integer, and its negative; no charset name; yes or no; a refusal by its number,
+-- which gives back the span; a wrong kind, where the question expects another family
+pub data Told : Type 0 where
+  borrows : ℕ → ℕ → String → Told
+  writes : ℕ → String → Told
+  cramped : String → Told
+  plus minus : ℕ → Told
+  unnamed : Told
+  says : Bool → Told
+  refuses : ℕ → Told
+  unfit : ℕ → Told
+
+-- what a row compares: the number and the values, the bytes shown, and the buffer behind the call
+pub record Seen : Type 0 where
+  pub values : List ℕ
+  pub bytes : List ℕ
+  pub buffer : List ℕ
+
+-- BUFFERS are lent full of one byte
+abbrev pub fill : ℕ → List ℕ
+fill n = replicate n 0xA5
+
+-- the room that a row lends: what its answer needs and some bytes more, or one byte too few; three bytes where nothing is written
+abbrev pub lent : Told → List ℕ
+lent (borrows f u t) = fill 3
+lent (writes n t) = fill (length (ascii t) + n)
+lent (cramped t) = fill (length (ascii t) - 1)
+lent (plus n) = fill 3
+lent (minus n) = fill 3
+lent unnamed = fill 3
+lent (says b) = fill 3
+lent (refuses n) = fill 3
+lent (unfit e) = fill 3
+
+abbrev pub yes-no : Bool → ℕ
+yes-no true = 1
+yes-no false = 0
+
+-- what must be seen on a literal
+abbrev pub due : Literal → Told → Seen
+due l (borrows f u t) = record { values = 0 ∷ f ∷ u ∷ []; bytes = ascii t; buffer = fill 3 }
+due l (writes n t) = record { values = 0 ∷ length (ascii t) ∷ []; bytes = ascii t; buffer = ascii t ++ fill n }
+due l (cramped t) = record { values = 9 ∷ length (ascii t) ∷ []; bytes = []; buffer = fill (length (ascii t) - 1) }
+due l (plus n) = record { values = 0 ∷ 0 ∷ n ∷ []; bytes = []; buffer = fill 3 }
+due l (minus n) = record { values = 0 ∷ 1 ∷ n ∷ []; bytes = []; buffer = fill 3 }
+due l unnamed = record { values = 0 ∷ []; bytes = []; buffer = fill 3 }
+due l (says b) = record { values = 0 ∷ yes-no b ∷ []; bytes = []; buffer = fill 3 }
+due l (refuses n) = record { values = n ∷ l .span .start ∷ l .span .end ∷ []; bytes = []; buffer = fill 3 }
+due l (unfit e) = record { values = 1 ∷ e ∷ kindCode (l .kind) ∷ payload (l .kind); bytes = []; buffer = fill 3 }
+
+-- what is seen of each kind of answer
+abbrev pub textSeen : List ℕ → Outcome Text → Seen
+textSeen source o =
+    record { values = textNumber (o .answer) ∷ textValues (o .answer); bytes = shown source (o .buffer) (o .answer); buffer = o .buffer }
+
+abbrev pub rangeSeen : List ℕ → List ℕ → Range → Seen
+rangeSeen source out a = record { values = rangeNumber a ∷ rangeValues a; bytes = rangeShown source a; buffer = out }
+
+abbrev pub charsetSeen : List ℕ → List ℕ → Charset → Seen
+charsetSeen source out a = record { values = charsetNumber a ∷ charsetValues a; bytes = charsetShown source a; buffer = out }
+
+abbrev pub integerValues : Integer → List ℕ
+integerValues (Integer′.Value (pos n)) = 0 ∷ 0 ∷ n ∷ []
+integerValues (Integer′.Value (negsuc n)) = 0 ∷ 1 ∷ suc n ∷ []
+integerValues (Integer′.Refused r) = refusalNumber r ∷ refusalValues r
+
+abbrev pub truthValues : Truth → List ℕ
+truthValues (Truth′.Value b) = 0 ∷ yes-no b ∷ []
+truthValues (Truth′.Refused r) = refusalNumber r ∷ refusalValues r
+
+abbrev pub nullnessValues : Nullness → List ℕ
+nullnessValues Nullness′.IsNull = 0 ∷ 1 ∷ []
+nullnessValues (Nullness′.Refused r) = refusalNumber r ∷ refusalValues r
+
+abbrev pub valuesSeen : List ℕ → List ℕ → Seen
+valuesSeen out vs = record { values = vs; bytes = []; buffer = out }
+
+-- a question on a literal of a source, with a buffer
+abbrev pub seen : Question → Literal → List ℕ → List ℕ → Seen
+seen (string b) l t out = textSeen t (stringQuestion l t (record { backslash = b }) out)
+seen plain l t out = textSeen t (plainQuestion l t out)
+seen decimal-text l t out = textSeen t (decimalQuestion l t out)
+seen bit-text l t out = textSeen t (bitsQuestion l t out)
+seen temporal-text l t out = textSeen t (temporalQuestion l t out)
+seen money-text l t out = rangeSeen t out (moneyQuestion l t)
+seen source-text l t out = rangeSeen t out (sourceQuestion l t)
+seen charset l t out = charsetSeen t out (charsetQuestion l t)
+seen i64 l t out = valuesSeen out (integerValues (i64Question l t))
+seen bool l t out = valuesSeen out (truthValues (boolQuestion (l .kind)))
+seen null l t out = valuesSeen out (nullnessValues (nullQuestion (l .kind)))
+
+abbrev pub helperSays : Helper → List ℕ → Bool
+helperSays uescape-legal t = uescapeLegal t
+helperSays escape-valid t = escapeValid t
+helperSays unicode-valid t = unicodeValid t
+helperSays embeds-nul t = embedsNul t
+helperSays is-ident t = isUnicodeIdent t
+
+-- identifiers, on bare text: a refusal is its number alone
+abbrev pub identifierDue : Told → Seen
+identifierDue (borrows f u t) = record { values = 0 ∷ f ∷ u ∷ []; bytes = ascii t; buffer = fill 3 }
+identifierDue (writes n t) = record { values = 0 ∷ length (ascii t) ∷ []; bytes = ascii t; buffer = ascii t ++ fill n }
+identifierDue (cramped t) = record { values = 9 ∷ length (ascii t) ∷ []; bytes = []; buffer = fill (length (ascii t) - 1) }
+identifierDue (plus n) = valuesSeen [] []
+identifierDue (minus n) = valuesSeen [] []
+identifierDue unnamed = valuesSeen [] []
+identifierDue (says b) = valuesSeen [] []
+identifierDue (refuses n) = record { values = n ∷ []; bytes = []; buffer = fill 3 }
+identifierDue (unfit e) = valuesSeen [] []
+
+abbrev pub identifierShown : List ℕ → List ℕ → Identifier → List ℕ
+identifierShown t out (Identifier′.Borrowed f u) = partShown f u t
+identifierShown t out (Identifier′.Written n) = partShown 0 n out
+identifierShown t out Identifier′.NotUtf8 = []
+identifierShown t out Identifier′.InvalidString = []
+identifierShown t out (Identifier′.NoRoom n) = []
+
+abbrev pub identifierSeen : List ℕ → Outcome Identifier → Seen
+identifierSeen t o =
+    record { values = identifierNumber (o .answer) ∷ identifierValues (o .answer); bytes = identifierShown t (o .buffer) (o .answer); buffer = o .buffer }
+
+-- THE WRITER: the literal that is written; the length that is needed; a refusal by its number
+pub data Wrote : Type 0 where
+  wrote : String → Wrote
+  needs refused : ℕ → Wrote
+
+abbrev pub wroteDue : ℕ → Wrote → Seen
+wroteDue n (wrote t) = record { values = 0 ∷ length (ascii t) ∷ []; bytes = ascii t; buffer = ascii t ++ fill (n - length (ascii t)) }
+wroteDue n (needs k) = record { values = 9 ∷ k ∷ []; bytes = []; buffer = fill n }
+wroteDue n (refused k) = record { values = k ∷ []; bytes = []; buffer = fill n }
+
+abbrev pub wroteShown : List ℕ → Writing → List ℕ
+wroteShown out (Writing′.Written n) = partShown 0 n out
+wroteShown out Writing′.OverLimit = []
+wroteShown out Writing′.NotUtf8 = []
+wroteShown out Writing′.HoldsNul = []
+wroteShown out (Writing′.NoRoom n) = []
+
+abbrev pub wroteSeen : Outcome Writing → Seen
+wroteSeen o =
+    record { values = writingNumber (o .answer) ∷ writingValues (o .answer); bytes = wroteShown (o .buffer) (o .answer); buffer = o .buffer }
+
+-- THE ROWS. A literal by its kind's code, the bytes of the source before it, its text, and the bytes behind it; a literal by a span
+-- of a source; one without a source; a helper; an identifier; a radix prefix; a value that the writer is given, with a setting, a part
+-- size and a buffer's length; what the record program is given, with zero bytes between a head and a tail, and the lines it prints
+pub data Row : Type 0 where
+  asks : Question → ℕ → String → String → String → Told → Row
+  spans : Question → ℕ → ℕ → ℕ → String → Told → Row
+  detached : Question → ℕ → ℕ → ℕ → String → Told → Row
+  helps : Helper → String → Bool → Row
+  names : String → Told → Row
+  prefixed : String → ℕ → ℕ → Row
+  spells : Bool → PartSize → String → ℕ → Wrote → Row
+  prints : String → ℕ → String → String → Row
+
+abbrev pub sameSeen : Seen → Seen → Bool
+sameSeen a b = same (a .values) (b .values) && same (a .bytes) (b .bytes) && same (a .buffer) (b .buffer)
+
+abbrev pub literalOf : ℕ → Bool → ℕ → ℕ → Literal
+literalOf k s f u = record { kind = kindOf k; synthetic = s; span = record { start = f; end = u } }
+
+abbrev pub asked : Question → Literal → List ℕ → Told → Bool
+asked q l t w = sameSeen (seen q l t (lent w)) (due l w)
+
+abbrev pub equal : Bool → Bool → Bool
+equal true b = b
+equal false b = not b
+
+abbrev pub samePrefix : RadixPrefix → ℕ → ℕ → Bool
+samePrefix p β n = eqb (p .base) β && eqb (p .start) n
+
+abbrev pub right : Row → Bool
+right (asks q k before t behind w) =
+    asked q (literalOf k false (length (ascii before)) (length (ascii before) + length (ascii t))) (ascii before ++ (ascii t ++ ascii behind)) w
+right (spans q k f u t w) = asked q (literalOf k false f u) (ascii t) w
+right (detached q k f u t w) = asked q (literalOf k true f u) (ascii t) w
+right (helps h t b) = equal (helperSays h (ascii t)) b
+right (names t w) = sameSeen (identifierSeen (ascii t) (identifierQuestion (ascii t) (lent w))) (identifierDue w)
+right (prefixed t β n) = samePrefix (radixPrefix (ascii t)) β n
+right (spells b size v n w) = sameSeen (wroteSeen (writeQuestion (record { backslash = b }) size (ascii v) (fill n))) (wroteDue n w)
+right (prints head n tail lines) = same (output (ascii head ++ (replicate n 0 ++ ascii tail))) (ascii lines)
+
+abbrev pub all : List Row → Bool
+all [] = true
+all (r ∷ rs) = right r && all rs

@@ -1,0 +1,152 @@
+// Reads requests, one a line, and prints the Rust's answer to each: see oracle.py for both forms.
+use crate::ast::literal::{
+    BitStringRadix, Literal, LiteralExpected, LiteralKind, LiteralValueError, LiteralValueErrorKind, is_unicode_ident,
+    materialize_unicode_ident, postgres_escape_string_is_valid, split_radix_prefix, string_literal_embeds_nul,
+    uescape_argument_is_legal, unicode_escape_string_is_valid,
+};
+use crate::ast::ty::TimeZone;
+use crate::dialect::StringLiteralSyntax;
+use crate::vocab::{Meta, Span};
+use std::borrow::Cow;
+use std::io::{BufRead, Write};
+
+fn kind(code: u32) -> LiteralKind {
+    match code {
+        1 => LiteralKind::Integer,
+        2 => LiteralKind::Float,
+        3 => LiteralKind::Decimal,
+        4 => LiteralKind::String,
+        5 => LiteralKind::Boolean(true),
+        6 => LiteralKind::Boolean(false),
+        7 => LiteralKind::Null,
+        8 => LiteralKind::Date,
+        9 => LiteralKind::Time { time_zone: TimeZone::Unspecified },
+        10 => LiteralKind::Timestamp { time_zone: TimeZone::Unspecified },
+        11 => LiteralKind::Interval { fields: None, precision: None },
+        12 => LiteralKind::BitString { radix: BitStringRadix::Binary },
+        13 => LiteralKind::BitString { radix: BitStringRadix::Hex },
+        14 => LiteralKind::Money,
+        _ => panic!("no kind has the code {code}"),
+    }
+}
+
+fn family(expected: LiteralExpected) -> u32 {
+    match expected {
+        LiteralExpected::Integer => 1,
+        LiteralExpected::DecimalText => 2,
+        LiteralExpected::String => 3,
+        LiteralExpected::Boolean => 4,
+        LiteralExpected::Null => 5,
+        LiteralExpected::Temporal => 6,
+        LiteralExpected::BitString => 7,
+        LiteralExpected::Money => 8,
+    }
+}
+
+fn hex(text: &str) -> String {
+    if text.is_empty() {
+        return "-".to_string();
+    }
+    text.bytes().map(|b| format!("{b:02X}")).collect()
+}
+
+fn unhex(text: &str) -> Vec<u8> {
+    if text == "-" {
+        return Vec::new();
+    }
+    (0..text.len() / 2).map(|i| u8::from_str_radix(&text[2 * i..2 * i + 2], 16).expect("hex")).collect()
+}
+
+// a part of the source, by its places
+fn part(source: &str, found: &str) -> String {
+    let start = found.as_ptr() as usize - source.as_ptr() as usize;
+    assert!(start + found.len() <= source.len());
+    format!("b {} {}", start, start + found.len())
+}
+
+fn text(source: &str, found: Cow<'_, str>) -> String {
+    match found {
+        Cow::Borrowed(found) => part(source, found),
+        Cow::Owned(made) => format!("w {}", hex(&made)),
+    }
+}
+
+fn refusal(code: u32, error: &LiteralValueError) -> String {
+    let number = match error.kind() {
+        LiteralValueErrorKind::WrongKind { expected, .. } => return format!("r 1 {} {code}", family(*expected)),
+        LiteralValueErrorKind::MissingSource => 2,
+        LiteralValueErrorKind::InvalidSourceRange => 3,
+        LiteralValueErrorKind::InvalidInteger => 5,
+        LiteralValueErrorKind::InvalidString => 6,
+        LiteralValueErrorKind::InvalidBitString => 7,
+        LiteralValueErrorKind::InvalidMoney => 8,
+    };
+    format!("r {number} {} {}", error.span().start(), error.span().end())
+}
+
+fn truth(yes: bool) -> String {
+    if yes { "yes" } else { "no" }.to_string()
+}
+
+fn asked(question: &str, code: u32, on: bool, start: u32, end: u32, source: &str) -> String {
+    let literal = || Literal { kind: kind(code), meta: Meta { span: Span::over(start, end) } };
+    let told = |answer: Result<Cow<'_, str>, LiteralValueError>| match answer {
+        Ok(found) => text(source, found),
+        Err(error) => refusal(code, &error),
+    };
+    match question {
+        "string" => told(literal().as_str_in(source, StringLiteralSyntax { backslash_escapes: on })),
+        "plain" => told(literal().as_str(source)),
+        "decimal" => told(literal().as_decimal_text(source)),
+        "bits" => told(literal().as_bit_text(source)),
+        "temporal" => told(literal().as_temporal_text(source)),
+        "money" => told(literal().as_money_text(source)),
+        "source" => told(literal().source_text(source).map(Cow::Borrowed)),
+        "charset" => match literal().charset_introducer(source) {
+            Ok(Some(name)) => part(source, name),
+            Ok(None) => "n".to_string(),
+            Err(error) => refusal(code, &error),
+        },
+        "i64" => match literal().as_i64(source) {
+            Ok(value) => format!("i {value}"),
+            Err(error) => refusal(code, &error),
+        },
+        "bool" => match literal().as_bool() {
+            Ok(value) => truth(value),
+            Err(error) => refusal(code, &error),
+        },
+        "null" => match literal().as_null() {
+            Ok(()) => truth(true),
+            Err(error) => refusal(code, &error),
+        },
+        "isnull" => truth(literal().is_null()),
+        "ident" => match materialize_unicode_ident(source) {
+            Some(found) => text(source, found),
+            None => "r 6".to_string(),
+        },
+        "isident" => truth(is_unicode_ident(source)),
+        "evalid" => truth(postgres_escape_string_is_valid(source)),
+        "uvalid" => truth(unicode_escape_string_is_valid(source)),
+        "uescape" => truth(uescape_argument_is_legal(source)),
+        "nul" => truth(string_literal_embeds_nul(source)),
+        "radix" => {
+            let (base, rest) = split_radix_prefix(source);
+            format!("p {base} {}", source.len() - rest.len())
+        }
+        _ => panic!("no question {question}"),
+    }
+}
+
+pub fn run() {
+    let input = std::io::stdin().lock();
+    let mut output = std::io::BufWriter::new(std::io::stdout().lock());
+    for line in input.lines() {
+        let line = line.expect("a line");
+        let words: Vec<&str> = line.split(' ').collect();
+        assert!(words.len() == 6, "six words: {line}");
+        let number = |i: usize| -> u32 { words[i].parse().expect("a number") };
+        let source = String::from_utf8(unhex(words[5])).expect("UTF-8");
+        let answer = asked(words[0], number(1), number(2) == 1, number(3), number(4), &source);
+        writeln!(output, "{answer}").expect("output");
+    }
+}

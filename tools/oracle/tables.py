@@ -1,0 +1,154 @@
+#!/usr/bin/env python3
+"""Turns vectors/oracle.tsv and vectors/clarified.tsv into tables of antt, each proved by one computation.
+
+    tools/oracle/tables.py
+
+writes crates/meaning/proofs/Oracle1.antt and on, Clarified.antt, and Lib.antt with their names. The forms of the rows are those of
+crates/meaning/proofs/Rows.antt.
+"""
+import glob
+import os
+import re
+
+ROOT = os.path.dirname(os.path.dirname(os.path.dirname(os.path.abspath(__file__))))
+PROOFS = os.path.join(ROOT, 'crates', 'meaning', 'proofs')
+SPECS = os.path.join(ROOT, 'crates', 'meaning', 'specs')
+SIZE = 500  # rows in a file, about
+# the definitions that no row reaches
+UNREACHED = {'Halves': None, 'Chars': {'width'}, 'Cutting': {'complete'}, 'Records': None, 'Writer': None}
+CLARIFIED_UNREACHED = {'Halves': None, 'Cutting': {'complete'}}
+
+QUESTION = {'plain': 'plain', 'decimal': 'decimal-text', 'bits': 'bit-text', 'temporal': 'temporal-text', 'money': 'money-text', 'source': 'source-text',
+            'charset': 'charset', 'i64': 'i64', 'bool': 'bool', 'null': 'null'}
+HELPER = {'uescape': 'uescape-legal', 'evalid': 'escape-valid', 'uvalid': 'unicode-valid', 'nul': 'embeds-nul', 'isident': 'is-ident'}
+
+
+def unhex(text):
+    return b'' if text == '-' else bytes.fromhex(text)
+
+
+def quoted(data):
+    """A quoted text with one character for each byte."""
+    named = {0x22: '\\"', 0x5C: '\\\\', 0x0A: '\\n', 0x0D: '\\r', 0x09: '\\t', 0x00: '\\0'}
+    shown = lambda b: 32 <= b < 127 or 0xA1 <= b and b != 0xAD
+    return '"' + ''.join(named.get(b) or (chr(b) if shown(b) else f'\\u{{{b:x}}}') for b in data) + '"'
+
+
+def truth(answer):
+    return {'yes': 'true', 'no': 'false'}[answer]
+
+
+def told(source, room, answer):
+    word, *values = answer.split(' ')
+    if word == 'b':
+        start, end = map(int, values)
+        return f'(borrows {start} {end} {quoted(source[start:end])})'
+    if word == 'w':
+        return f'(cramped {quoted(unhex(values[0]))})' if room == '-1' else f'(writes {room} {quoted(unhex(values[0]))})'
+    if word == 'i':
+        value = int(values[0])
+        return f'(minus {-value})' if value < 0 else f'(plus {value})'
+    if word == 'r':
+        return f'(unfit {values[1]})' if values[0] == '1' else f'(refuses {values[0]})'
+    return 'unnamed' if word == 'n' else f'(says {truth(word)})'
+
+
+def flag(setting):
+    return {'0': 'false', '1': 'true'}[setting]
+
+
+def printed(records, lines):
+    """What the record program prints: one run of zero bytes in the input stands as its length."""
+    data = b''.join(records)
+    zeros = max(re.findall(rb'\0+', data), key=len, default=b'')
+    at = data.index(zeros)
+    return f'prints {quoted(data[:at])} {len(zeros)} {quoted(data[at + len(zeros):])} {quoted("".join(line + chr(10) for line in lines).encode())}'
+
+
+def row(question, kind, setting, start, end, source, room, answer):
+    data = unhex(source)
+    if question in HELPER:
+        return f'helps {HELPER[question]} {quoted(data)} {truth(answer)}'
+    if question == 'ident':
+        return f'names {quoted(data)} {told(data, room, answer)}'
+    if question == 'radix':
+        return f'prefixed {quoted(data)} {answer[2:]}'
+    if question == 'writer':
+        size = 'Whole' if start == 'none' else f'(AtMost {start})'
+        word, *values = answer.split(' ')
+        made = f'(wrote {quoted(unhex(values[0]))})' if word == 'w' else f'(needs {values[1]})' if values[0] == '9' else f'(refused {values[0]})'
+        return f'spells {flag(setting)} {size} {quoted(data)} {room} {made}'
+    if question == 'record':
+        return printed([data], [answer])
+    synthetic = question.endswith('/synthetic')
+    question, start, end = question.removesuffix('/synthetic'), int(start), int(end)
+    asked = f'(string {flag(setting)})' if question == 'string' else QUESTION[question]
+    if answer.startswith('r 3'):
+        return f'spans {asked} {kind} {start} {end} {quoted(data)} {told(data, room, answer)}'
+    if synthetic:
+        return f'detached {asked} {kind} {start} {end} {quoted(data)} {told(data, room, answer)}'
+    return f'asks {asked} {kind} {quoted(data[:start])} {quoted(data[start:end])} {quoted(data[end:])} {told(data, room, answer)}'
+
+
+def read(name):
+    with open(os.path.join(ROOT, 'vectors', name)) as f:
+        return [line.rstrip('\n').split('\t') for line in f if not line.startswith('#')]
+
+
+def unfoldable(unreached):
+    """The definitions of specs/ that a computation has to open, by file, in the order of specs/Lib.antt."""
+    found = {}
+    with open(os.path.join(SPECS, 'Lib.antt')) as f:
+        order = re.findall(r'^pub mod (\w+)', f.read(), re.M)
+    for name in order:
+        with open(os.path.join(SPECS, name + '.antt')) as f:
+            names = re.findall(r'^unfoldable pub (\S+)', f.read(), re.M)
+        out = unreached.get(name, set())
+        names = [] if out is None else [n for n in names if n not in out]
+        if names:
+            found[name] = names
+    return found
+
+
+def table(name, says, made, rows, unreached, more=(), kinds=''):
+    opened = unfoldable(unreached)
+    lines = [f'-- Generated by tools/oracle/tables.py from vectors/{made}: {says} Assumes nothing.',
+             'use mathlib.Core.Bool.{Bool, true, false}',
+             'use mathlib.Core.List.{List, [], _∷_}',
+             'use Prim.Native.Nat.{ℕ}',
+             'use lib.Dec.{T}']
+    lines += [f'use Rattle.meaning.specs.{m}.{{{", ".join(names)}}}' for m, names in opened.items()]
+    lines += list(more)
+    lines += [f'use Rattle.meaning.proofs.Rows.{{Row, asks, spans, detached, helps, names, prefixed, {kinds}string, plain, decimal-text, bit-text, temporal-text, money-text, '
+              'source-text, charset, i64, bool, null, uescape-legal, escape-valid, unicode-valid, embeds-nul, is-ident, borrows, writes, '
+              'cramped, plus, minus, unnamed, says, refuses, unfit, all}',
+              '', 'abbrev pub rows : List Row', 'rows =']
+    lines += [f'    {r} ∷' for r in rows[:-1]] + [f'    {rows[-1]} ∷ []']
+    lines += ['', 'pub rows-right : T (all rows)', 'unfolding ' + ' '.join(n for names in opened.values() for n in names), 'rows-right = tt']
+    with open(os.path.join(PROOFS, name + '.antt'), 'w') as f:
+        f.write('\n'.join(lines) + '\n')
+
+
+def main():
+    for path in glob.glob(os.path.join(PROOFS, 'Oracle*.antt')):
+        os.remove(path)
+    vectors = read('oracle.tsv')
+    files = max(1, round(len(vectors) / SIZE))
+    cuts = [len(vectors) * i // files for i in range(files + 1)]
+    modules = ['Rows']
+    for i in range(files):
+        part = vectors[cuts[i]:cuts[i + 1]]
+        modules.append(f'Oracle{i + 1}')
+        table(f'Oracle{i + 1}', f'rows {part[0][0]} to {part[-1][0]}, the Rust\'s own answers.', 'oracle.tsv', [row(*r[1:]) for r in part], UNREACHED)
+    vectors = read('clarified.tsv')
+    records = [r for r in vectors if r[1] == 'record']
+    rows = [row(*r[1:]) for r in vectors] + [printed([unhex(r[6]) for r in records], [r[8] for r in records]), printed([], [])]
+    table('Clarified', 'how document 01 is read; and the records together, and no record.', 'clarified.tsv', rows, CLARIFIED_UNREACHED,
+          ['use Rattle.meaning.specs.declared.PartSize.the-variants.{Whole, AtMost}'], 'spells, prints, wrote, needs, refused, ')
+    modules.append('Clarified')
+    with open(os.path.join(PROOFS, 'Lib.antt'), 'w') as f:
+        f.write(''.join(f'pub mod {m}\n' for m in modules))
+
+
+if __name__ == '__main__':
+    main()
