@@ -2,18 +2,17 @@
 -- their UTF-8; and writing, which has put it at a buffer's start. A law for the start, for a turn and for each way out. Assumes nothing.
 use mathlib.Core.Path.{_≡_, refl, ap, ap₂, sym, _∙_, subst}
 use mathlib.Core.Bool.{Bool, true, false, _&&_, and-false, false≢true}
-use mathlib.Core.List.{List, [], _∷_, _++_, append-assoc, append-nil}
-use Prim.Native.Nat.{ℕ, zero, suc, _+_, _-_, _≤_, _<_}
+use mathlib.Core.List.{List, _++_, append-assoc, append-nil}
+use Prim.Native.Nat.{ℕ, suc, _+_, _-_, _≤_, _<_}
 use native.Mathlib.Nat.{add-zero, le-of-eq}
 use native.Mathlib.Omega.{arith}
-use lib.Dec.{leb}
 use lib.ListN.{length, getD, take, drop, length-append, length-drop, drop-of-length-le}
 use lib.Seq.{take-all, take-at, drop-at, drop-drop}
 use borrow.Author.Tests.{le-leb}
 use Rattle.meaning.specs.Bytes.{if_then_else_}
-use Rattle.meaning.specs.Chars.{Due, due, broken, fresh, push, pushes, whole}
-use Rattle.meaning.specs.Walk.{Step, keep, give, stop, Trace, ended, stopped, kept, gave, after, walk, size, stops, plain, value}
-use Rattle.meaning.specs.Steps.{checked, unlessBroken}
+use Rattle.meaning.specs.Chars.{Due, due, broken, fresh, pushes, whole}
+use Rattle.meaning.specs.Walk.{Step, keep, give, stop, Trace, ended, stopped, after, walk, size, stops, plain, value}
+use Rattle.meaning.specs.Steps.{checked}
 use Rattle.meaning.specs.Answers.{filled}
 use Rattle.laws.proofs.Walks.{graft, size-graft, stops-graft}
 use Rattle.laws.proofs.Utf8.{pushes-append}
@@ -125,17 +124,18 @@ module _ {step : List ℕ → Step} {x : Bool} {l : List ℕ} {at n : ℕ} {p : 
       idle false = refl
 
   -- a unit's bytes break the text
-  pub measuring-broken : (u : Step) → at < length l → step (drop at l) ≡ u → Goes u → x ≡ true
-      → pushes d (stands u (getD l at 0)) ≡ broken → StopsAt (courseBy x (walk step 0 l)) at
-  measuring-broken u h e g t k =
+  pub measuring-broken : (u : Step) → at < length l → step (drop at l) ≡ u → Goes u
+      → broken ≡ (if x then pushes d (stands u (getD l at 0)) else d) → StopsAt (courseBy x (walk step 0 l)) at
+  measuring-broken u h e g k =
       here (onward (after u (getD l at 0) (λ n. walk step n (drop (suc at) l))) (m .so-far .rest ∙ ap (graft (m .so-far .course)) (walk-at step l at h u e))
-      ∙ ap (graft (m .so-far .course)) (rw t (go u g k)))
+      ∙ ap (graft (m .so-far .course)) (go x u g k))
     where
-      go : (u : Step) → Goes u → pushes d (stands u (getD l at 0)) ≡ broken
-          → checked d (after u (getD l at 0) (λ n. walk step n (drop (suc at) l))) ≡ stopped
-      go keep g k = rw k
-      go (give i out) g k = rw k
-      go stop g k = absurd g
+      go : (x : Bool) (u : Step) → Goes u → broken ≡ (if x then pushes d (stands u (getD l at 0)) else d)
+          → (if x then checked d (after u (getD l at 0) (λ n. walk step n (drop (suc at) l))) else after u (getD l at 0) (λ n. walk step n (drop (suc at) l))) ≡ stopped
+      go true keep g k = rw (← k)
+      go true (give i out) g k = rw (← k)
+      go true stop g k = absurd g
+      go false u g k = absurd (subst Unbroken (sym k) (m .unbroken))
 
   -- nothing is left
   pub measuring-unfinished : length l ≤ at → whole d ≡ false → StopsAt (courseBy x (walk step 0 l)) at
