@@ -19,6 +19,7 @@ pub enum Utf8Tail {
 }
 
 // The state that a first byte leads to.
+// Rules out: a surrogate or a scalar above 10FFFF begun like any other (must-fail: ed_like_others, f4_like_others).
 pub fn utf8_lead(byte: u8) -> Utf8Tail
     ensures { λ r. ⌜ dueOf r ≡ push (dueOf Utf8Tail.Start) byte ⌝ }
 {
@@ -56,7 +57,8 @@ pub fn utf8_lead(byte: u8) -> Utf8Tail
 }
 
 // One byte more.
-// Rules out: an overlong form, a surrogate or a scalar above 10FFFF accepted (must-fail: overlong_accepted, surrogate_accepted).
+// Rules out: an overlong form, a surrogate or a scalar above 10FFFF accepted (must-fail: overlong_accepted, surrogate_accepted,
+// past_the_last_accepted).
 pub fn utf8_tail_push(tail: Utf8Tail, byte: u8) -> Utf8Tail
     ensures { λ r. ⌜ dueOf r ≡ push (dueOf tail) byte ⌝ }
 {
@@ -84,6 +86,7 @@ fn due_next(byte: u8, low: u8, high: u8, next: Utf8Tail) -> Utf8Tail
 }
 
 // The state behind all bytes of a slice.
+// Rules out: the first byte not looked at; the first byte pushed again and again (must-fail: first_byte_skipped, first_byte_again).
 pub fn utf8_from(tail: Utf8Tail, bytes: &[u8]) -> Utf8Tail
     ensures { λ r. ⌜ dueOf r ≡ pushes (dueOf tail) (now (bytes .entry)) ⌝ }
 {
@@ -97,6 +100,7 @@ pub fn utf8_from(tail: Utf8Tail, bytes: &[u8]) -> Utf8Tail
 }
 
 // Whether nothing is due and nothing is broken.
+// Rules out: an unfinished sequence taken for whole; no text whole (must-fail: unfinished_accepted, nothing_whole).
 pub fn is_whole(tail: Utf8Tail) -> bool
     ensures { λ r. ⌜ r ≡ whole (dueOf tail) ⌝ }
 {
@@ -114,7 +118,7 @@ pub fn is_whole(tail: Utf8Tail) -> bool
 }
 
 // Whether a slice is UTF-8.
-// Rules out: an unfinished sequence at the end accepted; a slice refused for its first byte from 80 hex (must-fail: unfinished_accepted).
+// Rules out: a slice that begins inside a sequence accepted; all refused (must-fail: begins_inside, all_refused).
 pub fn is_utf8(bytes: &[u8]) -> bool
     ensures { λ r. ⌜ r ≡ utf8 (now (bytes .entry)) ⌝ }
 {
@@ -122,22 +126,23 @@ pub fn is_utf8(bytes: &[u8]) -> bool
 }
 
 // How many bytes the character has that a byte begins; 0 if it begins none.
+// Rules out: C0 or C1, or a byte above F4, said to begin one; three for four (must-fail: c0_begins_two, f5_begins_four, width_three_for_four).
 pub fn utf8_width(byte: u8) -> usize
     ensures { λ r. ⌜ r ≡ width byte ⌝ }
 {
-    if byte < 0x80 {
+    if byte <= 0x7F {
         return 1;
     }
-    if byte < 0xC2 {
+    if byte <= 0xC1 {
         return 0;
     }
-    if byte < 0xE0 {
+    if byte <= 0xDF {
         return 2;
     }
-    if byte < 0xF0 {
+    if byte <= 0xEF {
         return 3;
     }
-    if byte < 0xF5 {
+    if byte <= 0xF4 {
         return 4;
     }
     0
@@ -183,6 +188,7 @@ fn is_due(tail: Utf8Tail) -> bool
 }
 
 // The number that the bytes of the character at a place make; 0 where none begins there, or one of its bytes is missing or not as due.
+// Rules out: later bytes of five bits; a later byte passed over (must-fail: five_bits, second_byte_skipped).
 pub fn scalar_at(text: &[u8], at: usize) -> u32
     ensures { λ r. ⌜ r ≡ scalarOf (drop at (now (text .entry))) ⌝ }
 {
@@ -209,6 +215,7 @@ pub fn scalar_at(text: &[u8], at: usize) -> u32
 }
 
 // How many bytes a scalar's encoding has.
+// Rules out: three for four; 7FF hex in three (must-fail: three_for_four, last_two_in_three).
 pub fn utf8_len(scalar: u32) -> usize
     ensures { λ r. ⌜ r ≡ length (encode scalar) ⌝ }
 {
@@ -225,6 +232,7 @@ pub fn utf8_len(scalar: u32) -> usize
 }
 
 // Whether a number is a Unicode scalar value.
+// Rules out: low surrogates, or numbers above 10FFFF, taken for scalars (must-fail: low_half_is_scalar, past_the_last_is_scalar).
 pub fn is_scalar(number: u32) -> bool
     ensures { λ r. ⌜ r ≡ isScalar number ⌝ }
 {
@@ -233,7 +241,8 @@ pub fn is_scalar(number: u32) -> bool
 
 // Writes a scalar's encoding at the buffer's start and says how long it is. A number that is no scalar, or a shorter buffer, leaves the
 // buffer as it is, and the answer is 0.
-// Rules out: a later byte without its top bit; the length of another width (must-fail: later_byte_bare, three_for_four).
+// Rules out: a later byte without its top bit; the first byte of another width; room asked for one byte alone (must-fail:
+// later_byte_bare, wrong_first_byte, room_for_one).
 pub fn encode_utf8(scalar: u32, out: &mut [u8]) -> usize
     ensures { λ r. ⌜ Encodes scalar (now (out .entry)) r (now (out .exit)) ⌝ }
 {
@@ -243,16 +252,16 @@ pub fn encode_utf8(scalar: u32, out: &mut [u8]) -> usize
     if out.len() < utf8_len(scalar) {
         return 0;
     }
-    if scalar < 0x80 {
+    if scalar <= 0x7F {
         out[0] = scalar as u8;
         return 1;
     }
-    if scalar < 0x800 {
+    if scalar <= 0x7FF {
         out[0] = (0xC0 + scalar / 64) as u8;
         out[1] = (0x80 + scalar % 64) as u8;
         return 2;
     }
-    if scalar < 0x10000 {
+    if scalar <= 0xFFFF {
         out[0] = (0xE0 + scalar / 4096) as u8;
         out[1] = (0x80 + scalar / 64 % 64) as u8;
         out[2] = (0x80 + scalar % 64) as u8;
