@@ -2,7 +2,7 @@
 ghost use mathlib.Core.Path.{_≡_};
 ghost use lib.ListN.{length, drop};
 ghost use Rattle.meaning.specs.Chars.{push, pushes, whole, utf8, width, encode, isScalar};
-ghost use Rattle.leaves.specs.Utf8.{dueOf, dueNext, pending, leadBits, scalarOf, Encodes};
+ghost use Rattle.leaves.specs.Utf8.{dueOf, dueNext, pending, asciiRun, leadBits, scalarOf, Encodes};
 
 // What is due: nothing; some later bytes; some of which the first has a narrower range; or the text is broken. The eight states that
 // `utf8_tail_push` can reach, and the refusal.
@@ -85,9 +85,8 @@ fn due_next(byte: u8, low: u8, high: u8, next: Utf8Tail) -> Utf8Tail
     Utf8Tail::Broken
 }
 
-// The state behind all bytes of a slice.
-// Rules out: the first byte not looked at; the first byte pushed again and again (must-fail: first_byte_skipped, first_byte_again).
-pub fn utf8_from(tail: Utf8Tail, bytes: &[u8]) -> Utf8Tail
+// The state behind all bytes of a slice, one after the other.
+fn push_each(tail: Utf8Tail, bytes: &[u8]) -> Utf8Tail
     ensures { λ r. ⌜ dueOf r ≡ pushes (dueOf tail) (now (bytes .entry)) ⌝ }
 {
     let mut state = tail;
@@ -97,6 +96,45 @@ pub fn utf8_from(tail: Utf8Tail, bytes: &[u8]) -> Utf8Tail
         i += 1;
     }
     state
+}
+
+// Whether the 32 bytes from a place on are there and are ASCII. The loop has no branch, so that it can be compiled to vector code.
+fn is_ascii_block(bytes: &[u8], at: usize) -> bool
+    ensures { λ r. ⌜ r ≡ asciiRun 32 (drop at (now (bytes .entry))) ⌝ }
+{
+    if bytes.len() < 32 {
+        return false;
+    }
+    if bytes.len() - 32 < at {
+        return false;
+    }
+    let mut ascii = true;
+    let mut j: usize = 0;
+    while j < 32 {
+        ascii = ascii & (bytes[at + j] < 0x80);
+        j += 1;
+    }
+    ascii
+}
+
+// The state behind all bytes of a slice. Blocks of ASCII between characters are passed over whole.
+// Rules out: a block passed over inside a character; the first block asked for each; the rest read from the start (must-fail:
+// block_inside_passed, first_block_asked, rest_from_the_start).
+pub fn utf8_from(tail: Utf8Tail, bytes: &[u8]) -> Utf8Tail
+    ensures { λ r. ⌜ dueOf r ≡ pushes (dueOf tail) (now (bytes .entry)) ⌝ }
+{
+    let mut state = tail;
+    let mut i: usize = 0;
+    while 32 <= bytes.len() - i {
+        let end = i + 32;
+        if is_whole(state) & is_ascii_block(bytes, i) {
+            i = end;
+        } else {
+            state = push_each(state, &bytes[i..end]);
+            i = end;
+        }
+    }
+    push_each(state, &bytes[i..])
 }
 
 // Whether nothing is due and nothing is broken.
