@@ -9,7 +9,7 @@ use native.Mathlib.Omega.{arith}
 use lib.ListN.{length, drop, getD, drop-of-length-le}
 use lib.Seq.{drop-cons}
 use Rattle.meaning.specs.Bytes.{if_then_else_, within}
-use Rattle.meaning.specs.Chars.{Due, due, broken, lead, push, whole, gather, base}
+use Rattle.meaning.specs.Chars.{Due, due, broken, lead, push, whole, gather}
 use Rattle.laws.proofs.Tests.{within-bounds}
 use Rattle.laws.proofs.Utf8.{Good, lead-good, push-good}
 use Rattle.leaves.specs.Utf8.{pending, bitsBy, leadBits, scalarBy, scalarOf}

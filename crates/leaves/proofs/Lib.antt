@@ -1,4 +1,5 @@
 pub mod Leads
+pub mod Ascii
 pub mod Pushing
 pub mod Encoding
 pub mod Gathering

@@ -8,7 +8,6 @@ use lib.ListN.{length, drop, getD, length-drop, drop-of-length-le}
 use lib.Seq.{drop-cons, drop-drop}
 use Rattle.meaning.specs.Bytes.{if_then_else_}
 use Rattle.meaning.specs.Chars.{Due, due, broken, lead, width, widthBy, isSpace, space, spaceAt}
-use Rattle.meaning.specs.Walk.{Step, give, stop}
 use Rattle.meaning.specs.Steps.{spaceStep, spaceBy, gap}
 use Rattle.laws.proofs.Walks.{FitsIn}
 use Rattle.laws.proofs.Gaps.{no-space, space-fits}

@@ -3,7 +3,7 @@ use mathlib.Core.Bool.{Bool, true, false, _&&_}
 use mathlib.Core.Path.{_≡_}
 use mathlib.Core.List.{List, [], _∷_}
 use Prim.Native.Nat.{ℕ, zero, suc, _-_}
-use lib.Dec.{eqb, leb}
+use lib.Dec.{leb, ltb}
 use lib.ListN.{length}
 use Rattle.meaning.specs.Bytes.{if_then_else_, within}
 use Rattle.meaning.specs.Chars.{Due, due, broken, lead, gather, base, encode, isScalar}
@@ -31,6 +31,12 @@ abbrev pub pending : Due → Bool
 pending broken = false
 pending (due zero lo hi) = false
 pending (due (suc n) lo hi) = true
+
+-- the first n bytes are there, and are ASCII
+abbrev pub asciiRun : ℕ → List ℕ → Bool
+asciiRun zero t = true
+asciiRun (suc n) [] = false
+asciiRun (suc n) (b ∷ t) = ltb b 0x80 && asciiRun n t
 
 -- what a first byte adds to its character's number; 0 for a byte that begins none
 abbrev pub bitsBy : Due → ℕ → ℕ

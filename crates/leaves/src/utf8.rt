@@ -2,7 +2,7 @@
 ghost use mathlib.Core.Path.{_≡_};
 ghost use lib.ListN.{length, drop};
 ghost use Rattle.meaning.specs.Chars.{push, pushes, whole, utf8, width, encode, isScalar};
-ghost use Rattle.leaves.specs.Utf8.{dueOf, dueNext, pending, leadBits, scalarOf, Encodes};
+ghost use Rattle.leaves.specs.Utf8.{dueOf, dueNext, pending, asciiRun, leadBits, scalarOf, Encodes};
 
 // What is due: nothing; some later bytes; some of which the first has a narrower range; or the text is broken. The eight states that
 // `utf8_tail_push` can reach, and the refusal.
@@ -19,6 +19,7 @@ pub enum Utf8Tail {
 }
 
 // The state that a first byte leads to.
+// Rules out: a surrogate or a scalar above 10FFFF begun like any other (must-fail: ed_like_others, f4_like_others).
 pub fn utf8_lead(byte: u8) -> Utf8Tail
     ensures { λ r. ⌜ dueOf r ≡ push (dueOf Utf8Tail.Start) byte ⌝ }
 {
@@ -56,7 +57,8 @@ pub fn utf8_lead(byte: u8) -> Utf8Tail
 }
 
 // One byte more.
-// Rules out: an overlong form, a surrogate or a scalar above 10FFFF accepted (must-fail: overlong_accepted, surrogate_accepted).
+// Rules out: an overlong form, a surrogate or a scalar above 10FFFF accepted (must-fail: overlong_accepted, surrogate_accepted,
+// past_the_last_accepted).
 pub fn utf8_tail_push(tail: Utf8Tail, byte: u8) -> Utf8Tail
     ensures { λ r. ⌜ dueOf r ≡ push (dueOf tail) byte ⌝ }
 {
@@ -83,8 +85,8 @@ fn due_next(byte: u8, low: u8, high: u8, next: Utf8Tail) -> Utf8Tail
     Utf8Tail::Broken
 }
 
-// The state behind all bytes of a slice.
-pub fn utf8_from(tail: Utf8Tail, bytes: &[u8]) -> Utf8Tail
+// The state behind all bytes of a slice, one after the other.
+fn push_each(tail: Utf8Tail, bytes: &[u8]) -> Utf8Tail
     ensures { λ r. ⌜ dueOf r ≡ pushes (dueOf tail) (now (bytes .entry)) ⌝ }
 {
     let mut state = tail;
@@ -96,7 +98,47 @@ pub fn utf8_from(tail: Utf8Tail, bytes: &[u8]) -> Utf8Tail
     state
 }
 
+// Whether the 32 bytes from a place on are there and are ASCII. The loop has no branch, so that it can be compiled to vector code.
+fn is_ascii_block(bytes: &[u8], at: usize) -> bool
+    ensures { λ r. ⌜ r ≡ asciiRun 32 (drop at (now (bytes .entry))) ⌝ }
+{
+    if bytes.len() < 32 {
+        return false;
+    }
+    if bytes.len() - 32 < at {
+        return false;
+    }
+    let mut ascii = true;
+    let mut j: usize = 0;
+    while j < 32 {
+        ascii = ascii & (bytes[at + j] < 0x80);
+        j += 1;
+    }
+    ascii
+}
+
+// The state behind all bytes of a slice. Blocks of ASCII between characters are passed over whole.
+// Rules out: a block passed over inside a character; the first block asked for each; the rest read from the start (must-fail:
+// block_inside_passed, first_block_asked, rest_from_the_start).
+pub fn utf8_from(tail: Utf8Tail, bytes: &[u8]) -> Utf8Tail
+    ensures { λ r. ⌜ dueOf r ≡ pushes (dueOf tail) (now (bytes .entry)) ⌝ }
+{
+    let mut state = tail;
+    let mut i: usize = 0;
+    while 32 <= bytes.len() - i {
+        let end = i + 32;
+        if is_whole(state) & is_ascii_block(bytes, i) {
+            i = end;
+        } else {
+            state = push_each(state, &bytes[i..end]);
+            i = end;
+        }
+    }
+    push_each(state, &bytes[i..])
+}
+
 // Whether nothing is due and nothing is broken.
+// Rules out: an unfinished sequence taken for whole; no text whole (must-fail: unfinished_accepted, nothing_whole).
 pub fn is_whole(tail: Utf8Tail) -> bool
     ensures { λ r. ⌜ r ≡ whole (dueOf tail) ⌝ }
 {
@@ -114,7 +156,7 @@ pub fn is_whole(tail: Utf8Tail) -> bool
 }
 
 // Whether a slice is UTF-8.
-// Rules out: an unfinished sequence at the end accepted; a slice refused for its first byte from 80 hex (must-fail: unfinished_accepted).
+// Rules out: a slice that begins inside a sequence accepted; all refused (must-fail: begins_inside, all_refused).
 pub fn is_utf8(bytes: &[u8]) -> bool
     ensures { λ r. ⌜ r ≡ utf8 (now (bytes .entry)) ⌝ }
 {
@@ -122,22 +164,23 @@ pub fn is_utf8(bytes: &[u8]) -> bool
 }
 
 // How many bytes the character has that a byte begins; 0 if it begins none.
+// Rules out: C0 or C1, or a byte above F4, said to begin one; three for four (must-fail: c0_begins_two, f5_begins_four, width_three_for_four).
 pub fn utf8_width(byte: u8) -> usize
     ensures { λ r. ⌜ r ≡ width byte ⌝ }
 {
-    if byte < 0x80 {
+    if byte <= 0x7F {
         return 1;
     }
-    if byte < 0xC2 {
+    if byte <= 0xC1 {
         return 0;
     }
-    if byte < 0xE0 {
+    if byte <= 0xDF {
         return 2;
     }
-    if byte < 0xF0 {
+    if byte <= 0xEF {
         return 3;
     }
-    if byte < 0xF5 {
+    if byte <= 0xF4 {
         return 4;
     }
     0
@@ -183,6 +226,7 @@ fn is_due(tail: Utf8Tail) -> bool
 }
 
 // The number that the bytes of the character at a place make; 0 where none begins there, or one of its bytes is missing or not as due.
+// Rules out: later bytes of five bits; a later byte passed over (must-fail: five_bits, second_byte_skipped).
 pub fn scalar_at(text: &[u8], at: usize) -> u32
     ensures { λ r. ⌜ r ≡ scalarOf (drop at (now (text .entry))) ⌝ }
 {
@@ -209,6 +253,7 @@ pub fn scalar_at(text: &[u8], at: usize) -> u32
 }
 
 // How many bytes a scalar's encoding has.
+// Rules out: three for four; 7FF hex in three (must-fail: three_for_four, last_two_in_three).
 pub fn utf8_len(scalar: u32) -> usize
     ensures { λ r. ⌜ r ≡ length (encode scalar) ⌝ }
 {
@@ -225,6 +270,7 @@ pub fn utf8_len(scalar: u32) -> usize
 }
 
 // Whether a number is a Unicode scalar value.
+// Rules out: low surrogates, or numbers above 10FFFF, taken for scalars (must-fail: low_half_is_scalar, past_the_last_is_scalar).
 pub fn is_scalar(number: u32) -> bool
     ensures { λ r. ⌜ r ≡ isScalar number ⌝ }
 {
@@ -233,7 +279,8 @@ pub fn is_scalar(number: u32) -> bool
 
 // Writes a scalar's encoding at the buffer's start and says how long it is. A number that is no scalar, or a shorter buffer, leaves the
 // buffer as it is, and the answer is 0.
-// Rules out: a later byte without its top bit; the length of another width (must-fail: later_byte_bare, three_for_four).
+// Rules out: a later byte without its top bit; the first byte of another width; room asked for one byte alone (must-fail:
+// later_byte_bare, wrong_first_byte, room_for_one).
 pub fn encode_utf8(scalar: u32, out: &mut [u8]) -> usize
     ensures { λ r. ⌜ Encodes scalar (now (out .entry)) r (now (out .exit)) ⌝ }
 {
@@ -243,16 +290,16 @@ pub fn encode_utf8(scalar: u32, out: &mut [u8]) -> usize
     if out.len() < utf8_len(scalar) {
         return 0;
     }
-    if scalar < 0x80 {
+    if scalar <= 0x7F {
         out[0] = scalar as u8;
         return 1;
     }
-    if scalar < 0x800 {
+    if scalar <= 0x7FF {
         out[0] = (0xC0 + scalar / 64) as u8;
         out[1] = (0x80 + scalar % 64) as u8;
         return 2;
     }
-    if scalar < 0x10000 {
+    if scalar <= 0xFFFF {
         out[0] = (0xE0 + scalar / 4096) as u8;
         out[1] = (0x80 + scalar / 64 % 64) as u8;
         out[2] = (0x80 + scalar % 64) as u8;

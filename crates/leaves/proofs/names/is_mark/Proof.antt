@@ -1,5 +1,5 @@
 -- `leaves::names::is_mark` meets its contract. The code asks the two marks in the order of the definition. Assumes nothing.
-use mathlib.Core.Bool.{_||_, or-false}
+use mathlib.Core.Bool.{or-false}
 use Rattle.meaning.specs.Bytes.{isMark}
 use Rattle.leaves.proofs.names.is_mark.Statement.{statement}
 use Rattle.leaves.proofs.names.is_mark.Tie as tie

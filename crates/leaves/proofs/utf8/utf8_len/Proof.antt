@@ -1,5 +1,4 @@
 -- `leaves::utf8::utf8_len` meets its contract. An encoding has one byte more than `more` says, which asks what the code asks. Assumes nothing.
-use mathlib.Core.Path.{_≡_}
 use borrow.Author.Tests.{lt-ltb, le-ltb}
 use Rattle.meaning.specs.Chars.{more}
 use Rattle.laws.proofs.Encode.{encode-length}
