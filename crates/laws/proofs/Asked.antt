@@ -1,16 +1,16 @@
 -- From a question on a literal to the text in its span: what the tests 1 to 4 leave. Assumes nothing.
-use mathlib.Core.Path.{_≡_, refl, ap, sym, _∙_, subst}
-use mathlib.Core.Bool.{Bool, true, false}
+use mathlib.Core.Path.{_≡_}
+use mathlib.Core.Bool.{true, false}
 use mathlib.Core.List.{List}
 use Prim.Native.Nat.{ℕ}
 use Rattle.meaning.specs.declared.Settings.{Settings}
 use Rattle.meaning.specs.declared.LiteralExpected.{LiteralExpected}
 use Rattle.meaning.specs.declared.Literal.{Literal}
 use Rattle.meaning.specs.declared.Refusal.the-variants.{InvalidString}
-use Rattle.meaning.specs.Bytes.{if_then_else_, part}
+use Rattle.meaning.specs.Bytes.{part}
 use Rattle.meaning.specs.Chars.{utf8}
 use Rattle.meaning.specs.Reading.{read}
-use Rattle.meaning.specs.Questions.{Tested, passes, badSpan, sourceText, tested, isString, toldAs, told, stringQuestion}
+use Rattle.meaning.specs.Questions.{passes, badSpan, sourceText, tested, isString, toldAs, stringQuestion}
 
 -- the literal stands in the source, and its span holds the text t
 pub record Spans (l : Literal) (S t : List ℕ) : Type 0 where

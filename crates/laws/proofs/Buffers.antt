@@ -1,13 +1,12 @@
 -- [01 Numbers an answer can carry; What is carried over] "No refusal changes the buffer." "A borrowed answer changes no byte." "Written text
 -- fills the buffer's start; the remainder is unchanged." Once for every question that answers a text, once for identifiers, once for the writer.
 -- Assumes nothing.
-use mathlib.Core.Path.{_≡_, refl, ap, sym, _∙_, subst}
+use mathlib.Core.Path.{_≡_, refl, sym, subst}
 use mathlib.Core.Bool.{Bool, true, false, not}
-use mathlib.Core.List.{List, [], _∷_, _++_}
+use mathlib.Core.List.{List, _++_}
 use Prim.Native.Nat.{ℕ, _≤_}
-use native.Mathlib.Omega.{arith}
-use lib.Dec.{T, leb, leb→le}
-use lib.ListN.{length, take, drop}
+use lib.Dec.{leb, leb→le}
+use lib.ListN.{length, drop}
 use Rattle.meaning.specs.declared.Settings.{Settings}
 use Rattle.meaning.specs.declared.PartSize.{PartSize}
 use Rattle.meaning.specs.declared.Span.{Span}
@@ -27,7 +26,7 @@ use Rattle.meaning.specs.Answers.{Outcome, filled}
 use Rattle.meaning.specs.Questions.{Tested, passes, barred, toldAs, told, identifierAs, identifierQuestion}
 use Rattle.meaning.specs.Helpers.{ident}
 use Rattle.meaning.specs.Writer.{overLimit, unwritableNul, writtenText, writes, writeQuestion}
-use Rattle.laws.proofs.Tests.{T→true, true→T}
+use Rattle.laws.proofs.Tests.{true→T}
 
 -- the buffer begins with n bytes of a value, and goes on as it was lent
 pub record Filled (n : ℕ) (out after : List ℕ) : Type 0 where

@@ -1,10 +1,10 @@
 -- [01 What the contracts owe] "Shut out": each wrong program of document 01's list, refuted at a closed input. A program is a function from what a
 -- string question is given to its result and the final buffer; `Right` is its contract. `right-by-definition` shows that the contract can be met.
 -- Assumes nothing.
-use mathlib.Core.Path.{_≡_, refl, ap, sym, _∙_}
-use mathlib.Core.Bool.{Bool, true, false}
-use mathlib.Core.List.{List, [], _∷_, _++_}
-use Prim.Native.Nat.{ℕ, zero, suc}
+use mathlib.Core.Path.{_≡_, refl, sym, _∙_}
+use mathlib.Core.Bool.{false}
+use mathlib.Core.List.{List, [], _∷_}
+use Prim.Native.Nat.{ℕ}
 use native.Mathlib.Omega.{arith}
 use lib.ListN.{length}
 use Rattle.meaning.specs.declared.Settings.{Settings}
@@ -14,11 +14,11 @@ use Rattle.meaning.specs.declared.Refusal.{Refusal}
 use Rattle.meaning.specs.declared.Refusal.the-variants.{NoRoom}
 use Rattle.meaning.specs.declared.Text.{Text}
 use Rattle.meaning.specs.declared.Text.the-variants.{Borrowed, Written, Refused}
-use Rattle.meaning.specs.Bytes.{ascii, within, isMark, isLetter, isDecimal, inName, startsTag, inTag, digit, allDigits}
-use Rattle.meaning.specs.Chars.{lead, utf8, more, encode, isScalar, isSpace}
-use Rattle.meaning.specs.Steps.{doubled, oneByte, mayEscape, scalarBy, pair, lowHalf, uescaped}
+use Rattle.meaning.specs.Bytes.{ascii, within, isMark}
+use Rattle.meaning.specs.Chars.{lead, utf8, isSpace}
+use Rattle.meaning.specs.Steps.{doubled}
 use Rattle.meaning.specs.Cutting.{off, named, segment, segmentStep, cut, continues}
-use Rattle.meaning.specs.Spelling.{encloses, argument, upper, isUnicode, unicodeSpelling, delimiter, spelling}
+use Rattle.meaning.specs.Spelling.{encloses, spelling}
 use Rattle.meaning.specs.Reading.{answer, one, read}
 use Rattle.meaning.specs.Answers.{Outcome, Meets, filled}
 use Rattle.meaning.specs.Questions.{cutsCharacter, badSpan, sourceText, tested, stringQuestion}
