@@ -1,4 +1,4 @@
--- A segment cut out of a text is a segment alone; and document 01's rule for two or more complete segments. Assumes nothing.
+-- A segment cut out of a text is a segment alone. Assumes nothing.
 use mathlib.Core.Path.{_≡_, refl, ap, sym, subst}
 use mathlib.Core.Bool.{Bool, true, false, _&&_}
 use mathlib.Core.List.{List, [], _∷_, _++_}

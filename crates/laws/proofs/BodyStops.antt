@@ -1,4 +1,4 @@
--- A text of two or more segments, the second of which begins with no quote mark, is refused when it is read as one.
+-- Where the search for the closing mark stops inside a body, reading the body by the standard steps stops too, and a course that stops means nothing.
 -- Assumes nothing.
 use mathlib.Core.Path.{_≡_, refl, subst}
 use mathlib.Core.Bool.{Bool, true, false, _&&_}

@@ -1,4 +1,5 @@
--- The facts of a UESCAPE clause that `Clause` asks for. Assumes nothing.
+-- Bytes that the search for a mark passes over and that end no prefix: white space is made of such bytes. So what stands before and inside a UESCAPE clause
+-- closes no segment and opens none. Assumes nothing.
 use mathlib.Core.Path.{_≡_, refl, ap, sym, _∙_, subst}
 use mathlib.Core.Bool.{Bool, true, false, and-false}
 use mathlib.Core.List.{List, [], _∷_, _++_}

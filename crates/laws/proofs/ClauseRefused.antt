@@ -1,4 +1,5 @@
--- A UESCAPE clause's argument and keyword; and the joining law with the setting on, whole. Assumes nothing.
+-- With the setting on, a U& text with a UESCAPE clause does not cut completely: its keyword and its argument. So the joining law with the setting on is whole.
+-- Assumes nothing.
 use mathlib.Core.Logic.{_⊎_, inl, inr}
 use mathlib.Core.Path.{_≡_, refl, ap, sym, _∙_, subst}
 use mathlib.Core.Bool.{Bool, true, false, _&&_, _||_, not}

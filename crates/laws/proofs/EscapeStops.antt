@@ -1,4 +1,4 @@
--- The same for E: where the search for the closing mark stops in a body, so does reading its escapes. Assumes nothing.
+-- Where the search for the closing mark stops inside an E body, so does reading its escapes, and the check for UTF-8 undoes no stop. Assumes nothing.
 use mathlib.Core.Path.{_≡_, refl, ap, sym, _∙_, subst}
 use mathlib.Core.Bool.{Bool, true, false, _&&_}
 use mathlib.Core.List.{List, [], _∷_}

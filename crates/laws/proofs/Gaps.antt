@@ -1,4 +1,5 @@
--- Laws of white space, and of openings. Assumes nothing.
+-- Laws of white space: what follows a gap changes nothing in it, and a gap ends where none follows; no byte that opens a segment begins white space.
+-- Assumes nothing.
 use mathlib.Core.Path.{_≡_, refl, ap, sym, _∙_, subst}
 use mathlib.Core.Bool.{Bool, true, false, _||_}
 use mathlib.Core.List.{List, [], _∷_, _++_}

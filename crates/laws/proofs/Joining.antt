@@ -1,4 +1,5 @@
--- Joining is a law: texts A and B, white space between, mean A's value followed by B's. Assumes nothing.
+-- Joining, over what a text means: texts A and B, each one segment or continued by a quote mark, white space between, B beginning with a quote mark, mean A's
+-- value followed by B's. Assumes nothing.
 use mathlib.Core.Logic.{_⊎_, inl, inr}
 use mathlib.Core.Path.{_≡_, refl, ap, sym, _∙_, subst}
 use mathlib.Core.Bool.{Bool, true, false, _&&_, and-false}

@@ -38,4 +38,6 @@ pub mod WriterParts
 pub mod WrittenParts
 pub mod WriterText
 pub mod RoundTrip
+pub mod Answered
+pub mod Witnesses
 pub mod Starred

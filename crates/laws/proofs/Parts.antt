@@ -1,4 +1,5 @@
--- Demand 3's second half: parts of a value, each written, joined by white space, read back whole. Assumes nothing.
+-- Demand 3's second half, over what a text means: parts of a value, each written, joined by white space, mean the value. Over the string question it is in
+-- WrittenParts. Assumes nothing.
 use mathlib.Core.Logic.{inl, inr}
 use mathlib.Core.Path.{_≡_, refl, ap, subst}
 use mathlib.Core.Bool.{true}

@@ -1,4 +1,5 @@
--- An accepted text that cuts completely is one segment, or a quote mark follows its first; and the law in full. Assumes nothing.
+-- An accepted text that cuts completely is one segment, or a quote mark follows its first. So the joining law holds wherever such a U& text is refused when it
+-- is read as one; with the setting off it is, and the law is whole. Assumes nothing.
 use mathlib.Core.Logic.{inl, inr}
 use mathlib.Core.Path.{_≡_, refl, ap, sym, _∙_}
 use mathlib.Core.Bool.{Bool, true, false, not}

@@ -1,4 +1,5 @@
--- U& read as one, where another segment follows that begins with no quote mark. Assumes nothing.
+-- With the setting off, a U& text is refused when it is read as one and another segment follows that begins with no quote mark: no UESCAPE clause opens a
+-- segment. Assumes nothing.
 use mathlib.Core.Path.{_≡_, refl, sym, subst}
 use mathlib.Core.Bool.{Bool, true, false, _&&_, or-false}
 use mathlib.Core.List.{List, [], _∷_, map}

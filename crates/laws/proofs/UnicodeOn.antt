@@ -1,4 +1,4 @@
--- U& with the setting on: all but a text with a UESCAPE clause. Assumes nothing.
+-- The same with the setting on, of a U& text without a UESCAPE clause; one with a clause is a hypothesis here. Assumes nothing.
 use mathlib.Core.Path.{_≡_, refl, ap, sym, _∙_, subst}
 use mathlib.Core.Bool.{Bool, true, false}
 use mathlib.Core.List.{List, [], _∷_, _++_}

@@ -61,9 +61,6 @@ Passed keep u = ⊥
 Passed (give k out) u = Pass 1 k u
 Passed stop u = Unit {0}
 
-esc : List ℕ
-esc = backslash ∷ []
-
 scalar-passed : (w k : ℕ) (t u : List ℕ) → (Hex w t → Pass 1 k u) → Passed (scalarBy w k t) u
 unfolding scalarBy Hex
 scalar-passed w k t u f = go (eqb (digits 16 w t) w) (mayEscape (number 16 w 0 t)) refl

@@ -1,4 +1,4 @@
--- An accepted text that cuts completely is one segment, or a quote mark follows its first. Assumes nothing.
+-- A text whose first segment is not all of it is refused when it is read as one: every spelling but U&, of which it is a hypothesis here. Assumes nothing.
 use mathlib.Core.Path.{_≡_, refl, sym, subst}
 use mathlib.Core.Bool.{Bool, true, false, _&&_, or-false, or-true}
 use mathlib.Core.List.{List, _∷_}
