@@ -15,7 +15,7 @@ use Rattle.meaning.specs.Helpers.{uescapeLegal, escapeValid, unicodeVali
 use Rattle.meaning.specs.Answers.{partShown, filled}
 use Rattle.meaning.specs.Questions.{cutsCharacter, badSpan, sourceText, tested, stringQuestion, decimalQuestion, bitsQuestion, temporalQuestion, sourceQuestion, moneyQuestion, charsetQuestion, i64Question, identifierQuestion}
 use Rattle.meaning.specs.Records.{line, goodRecord, recordLine, output}
-use Rattle.meaning.proofs.Rows.{Row, asks, helps, names, prints, string, decimal-text, bit-text, temporal-text, charset, i64, escape-valid, borrows, writes, plus, refuses, all}
+use Rattle.meaning.proofs.Rows.{Row, asks, spans, helps, names, prints, string, decimal-text, bit-text, temporal-text, source-text, charset, i64, escape-valid, borrows, writes, plus, refuses, all}
 
 -- [01 Examples] without a star
 abbrev pub examples : List Row
@@ -147,6 +147,16 @@ escapes =
     asks (string false) 4 "" "U&'\\E000'" "" (writes 1 "î\u{80}\u{80}") ∷
     asks (string false) 4 "" "U&'\\+00E000'" "" (writes 0 "î\u{80}\u{80}") ∷ []
 
+-- [01 Numbers an answer can carry] "its byte is 80 to BF hex": both ends, at either place of a span, and their neighbours
+abbrev pub cut-places : List Row
+cut-places =
+    spans source-text 4 0 1 "Ã¿" (refuses 3) ∷
+    spans source-text 4 1 2 "Ã¿" (refuses 3) ∷
+    spans source-text 4 0 1 "Â\u{80}" (refuses 3) ∷
+    spans source-text 4 1 2 "Â\u{80}" (refuses 3) ∷
+    spans source-text 4 1 1 "a\u{7f}" (borrows 1 1 "") ∷
+    spans source-text 4 1 1 "aÀ" (borrows 1 1 "") ∷ []
+
 -- [01 Record program] every question; upper-case hex; 60 bytes of text; a byte that is not zero straight past the text
 abbrev pub records : List Row
 records =
@@ -167,7 +177,7 @@ records =
     prints "\u{1}\u{4}\0\u{1}''" 58 "" "10 - 0 -\n" ∷ []
 
 abbrev pub rows : List Row
-rows = examples ++ (postgres ++ (mysql ++ (ranges ++ (broken-texts ++ (escapes ++ records)))))
+rows = examples ++ (postgres ++ (mysql ++ (ranges ++ (broken-texts ++ (escapes ++ (cut-places ++ records))))))
 
 pub rows-right : T (all rows)
 unfolding within isMark isLetter isDecimal inName startsTag inTag digit allDigits lead utf8 more encode isScalar width isSpace doubled oneByte mayEscape scalarBy pair lowHalf uescaped named segment segmentStep cut continues encloses argument upper isUnicode unicodeSpelling delimiter spelling answer one read signLength isMinus baseBy radixPrefix parsed separated radixValue i64Of digitsBy digitsOf decimalOf bitBody bits money tokenStart quoteToken temporalToken temporal charsetEnd uescapeLegal escapeValid unicodeValid ident partShown filled cutsCharacter badSpan sourceText tested stringQuestion decimalQuestion bitsQuestion temporalQuestion sourceQuestion moneyQuestion charsetQuestion i64Question identifierQuestion line goodRecord recordLine output
