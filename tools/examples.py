@@ -3,7 +3,7 @@
 
     tools/examples.py
 
-The rows are proved there by one statement; this only prints them.
+The rows are proved there by one statement; this only prints them. A space at a text's end is shown as ‹20›.
 """
 import ast
 import os
@@ -34,4 +34,5 @@ for line in open(TABLE, encoding='utf-8'):
     row = ROW.search(line)
     if row:
         question = {'(string false)': 'string', '(string true)': 'string, on'}.get(row[1], row[1])
-        print(f'{question:<11}  {text(row[2]):<22}  {answer(row[3])}')
+        asked = re.sub(r' $', '‹20›', text(row[2]))
+        print(f'{question:<11}  {asked:<22}  {answer(row[3])}')

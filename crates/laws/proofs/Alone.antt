@@ -1,24 +1,21 @@
--- A segment cut out of a text is a segment alone; and document 01's rule for two or more complete segments. Assumes nothing.
-use mathlib.Core.Logic.{_⊎_, inl, inr}
-use mathlib.Core.Path.{_≡_, refl, ap, sym, _∙_, subst}
-use mathlib.Core.Bool.{Bool, true, false, _&&_, _||_, not, and-false}
-use mathlib.Core.List.{List, [], _∷_, _++_, append-assoc, append-nil}
-use Prim.Native.Nat.{ℕ, zero, suc, _+_, _-_, _*_, _≤_, _<_}
+-- A segment cut out of a text is a segment alone. Assumes nothing.
+use mathlib.Core.Path.{_≡_, refl, ap, sym, subst}
+use mathlib.Core.Bool.{Bool, true, false, _&&_}
+use mathlib.Core.List.{List, [], _∷_, _++_}
+use Prim.Native.Nat.{ℕ, zero, suc, _+_, _<_}
 use Prim.Native.Char.{code}
-use native.Mathlib.Nat.{add-zero, zero-add}
 use native.Mathlib.Omega.{arith}
-use native.Mathlib.Decide.{decLt}
-use lib.Dec.{T, eqb, eqb→eq, ltb, leb, le→leb, leb→le, lt→ltb}
-use lib.ListN.{length, getD, take, drop, length-append, length-drop, length-take, take-append-drop, List·getD-append}
-use lib.Seq.{drop-append-le, take-append-le, drop-length, length-take-le}
+use lib.Dec.{T, eqb, ltb}
+use lib.ListN.{length, take, drop, length-drop, take-append-drop, List·getD-append}
+use lib.Seq.{drop-append-le, length-take-le}
 use Rattle.meaning.specs.declared.Settings.{Settings}
 use Rattle.meaning.specs.Bytes.{if_then_else_, _!_, has, ascii, isMark, quote, backslash, inName, span}
-use Rattle.meaning.specs.Walk.{Step, keep, give, stop, Trace, ended, stopped, kept, gave, after, walk, size, stops}
+use Rattle.meaning.specs.Walk.{Step, keep, give, stop, kept, gave, after, walk, size, stops}
 use Rattle.meaning.specs.Steps.{closingStep, doubled}
-use Rattle.meaning.specs.Cutting.{opening, named, hides, closedAt, segmentAt, segment}
-use Rattle.laws.proofs.Tests.{T→true, true→T, if-suc, and-left, and-right}
-use Rattle.laws.proofs.Walks.{FitsIn, stops-inside}
-use Rattle.laws.proofs.Openings.{opening-mark, mark-inside, apart-of-mark, mark-0, segment-of, segment-fits}
+use Rattle.meaning.specs.Cutting.{opening, named, hides, segment}
+use Rattle.laws.proofs.Tests.{true→T, if-suc}
+use Rattle.laws.proofs.Walks.{FitsIn}
+use Rattle.laws.proofs.Openings.{opening-mark, apart-of-mark, mark-0, segment-of, segment-fits}
 
 -- the other way round than LocalIn: what stands inside the text stands there without what follows
 abbrev pub Back : (List ℕ → Step) → List ℕ → Type 0

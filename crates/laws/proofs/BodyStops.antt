@@ -1,26 +1,17 @@
--- A text of two or more segments, the second of which begins with no quote mark, is refused when it is read as one.
+-- Where the search for the closing mark stops inside a body, reading the body by the standard steps stops too, and a course that stops means nothing.
 -- Assumes nothing.
-use mathlib.Core.Logic.{_⊎_, inl, inr}
-use mathlib.Core.Path.{_≡_, refl, ap, sym, _∙_, subst}
-use mathlib.Core.Bool.{Bool, true, false, _&&_, _||_, not, and-false, or-false}
-use mathlib.Core.List.{List, [], _∷_, _++_, append-assoc, append-nil}
-use Prim.Native.Nat.{ℕ, zero, suc, _+_, _-_, _*_, _≤_, _<_}
-use Prim.Native.Char.{code}
-use native.Mathlib.Nat.{add-zero, zero-add}
+use mathlib.Core.Path.{_≡_, refl, subst}
+use mathlib.Core.Bool.{Bool, true, false, _&&_}
+use mathlib.Core.List.{List, [], _∷_}
+use Prim.Native.Nat.{ℕ, zero, suc, _+_, _-_, _<_}
 use native.Mathlib.Omega.{arith}
-use lib.Dec.{T, eqb, eqb→eq, ltb, leb, le→leb, leb→le, lt→ltb}
-use lib.ListN.{length, getD, take, drop, length-append, length-drop, length-take, take-append-drop, List·getD-append}
-use lib.Seq.{drop-append-le, take-append-le, drop-length, length-take-le}
-use Rattle.meaning.specs.declared.Settings.{Settings}
-use Rattle.meaning.specs.Bytes.{if_then_else_, _!_, has, ascii, isMark, quote, dquote, backslash, inName, span, part}
-use Rattle.meaning.specs.Chars.{Due, due, broken, push, pushes}
-use Rattle.meaning.specs.Walk.{Step, keep, give, stop, Trace, ended, stopped, kept, gave, after, walk, size, stops, plain}
-use Rattle.meaning.specs.Steps.{closingStep, doubled, standardStep, mysql, mysqlTable, byteOf, escapeStep, escaped, checked, unlessBroken}
-use Rattle.meaning.specs.Cutting.{opening, named, hides, closedAt, segmentAt, segment}
-use Rattle.meaning.specs.Reading.{Answer, borrowed, written, refused, Value, means, fails, valueOf, answer}
-use Rattle.laws.proofs.Tests.{T→true, true→T, if-suc, and-left, and-right}
-use Rattle.laws.proofs.Walks.{FitsIn, stops-inside}
-use Rattle.laws.proofs.Openings.{opening-mark, mark-inside, apart-of-mark, mark-0, segment-of, segment-fits}
+use lib.Dec.{T, eqb, ltb}
+use lib.ListN.{length, take, drop, length-drop, length-take, take-append-drop}
+use Rattle.meaning.specs.Bytes.{if_then_else_, _!_, has, ascii, backslash, part}
+use Rattle.meaning.specs.Walk.{keep, give, stop, Trace, ended, stopped, kept, gave, after, walk, size, stops, plain}
+use Rattle.meaning.specs.Steps.{closingStep, doubled, standardStep, mysql, mysqlTable, byteOf}
+use Rattle.meaning.specs.Reading.{borrowed, written, refused, means, fails, valueOf, answer}
+use Rattle.laws.proofs.Tests.{T→true, true→T}
 use Rattle.laws.proofs.Alone.{walk-restrict, closing-back}
 
 -- where the search for the closing mark stops in a body, so does reading it

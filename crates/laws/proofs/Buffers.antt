@@ -1,19 +1,19 @@
 -- [01 Numbers an answer can carry; What is carried over] "No refusal changes the buffer." "A borrowed answer changes no byte." "Written text
 -- fills the buffer's start; the remainder is unchanged." Once for every question that answers a text, once for identifiers, once for the writer.
 -- Assumes nothing.
-use mathlib.Core.Path.{_≡_, refl, ap, sym, _∙_, subst}
+use mathlib.Core.Path.{_≡_, refl, sym, subst}
 use mathlib.Core.Bool.{Bool, true, false, not}
-use mathlib.Core.List.{List, [], _∷_, _++_}
+use mathlib.Core.List.{List, _++_}
 use Prim.Native.Nat.{ℕ, _≤_}
-use native.Mathlib.Omega.{arith}
-use lib.Dec.{T, leb, leb→le}
-use lib.ListN.{length, take, drop}
+use lib.Dec.{leb, ltb, leb→le}
+use lib.ListN.{length, drop}
 use Rattle.meaning.specs.declared.Settings.{Settings}
 use Rattle.meaning.specs.declared.PartSize.{PartSize}
 use Rattle.meaning.specs.declared.Span.{Span}
 use Rattle.meaning.specs.declared.Literal.{Literal}
+use Rattle.meaning.specs.declared.LiteralExpected.the-variants as Expected
 use Rattle.meaning.specs.declared.Refusal.{Refusal}
-use Rattle.meaning.specs.declared.Refusal.the-variants.{NoRoom}
+use Rattle.meaning.specs.declared.Refusal.the-variants.{InvalidInteger, InvalidString, InvalidBitString, NoRoom}
 use Rattle.meaning.specs.declared.Text.{Text}
 use Rattle.meaning.specs.declared.Text.the-variants as Text′
 use Rattle.meaning.specs.declared.Identifier.{Identifier}
@@ -22,12 +22,14 @@ use Rattle.meaning.specs.declared.Writing.{Writing}
 use Rattle.meaning.specs.declared.Writing.the-variants as Writing′
 use Rattle.meaning.specs.Bytes.{if_then_else_}
 use Rattle.meaning.specs.Chars.{utf8}
-use Rattle.meaning.specs.Reading.{Answer, borrowed, written, refused}
+use Rattle.meaning.specs.Reading.{Answer, borrowed, written, refused, read}
+use Rattle.meaning.specs.Numbers.{decimalOf}
+use Rattle.meaning.specs.Kinds.{bits, temporal}
 use Rattle.meaning.specs.Answers.{Outcome, filled}
-use Rattle.meaning.specs.Questions.{Tested, passes, barred, toldAs, told, identifierAs, identifierQuestion}
+use Rattle.meaning.specs.Questions.{Tested, passes, barred, tested, isString, isNumber, isTemporal, bitBase, toldAs, told, stringQuestion, decimalQuestion, bitsQuestion, temporalQuestion, identifierAs, identifierQuestion}
 use Rattle.meaning.specs.Helpers.{ident}
 use Rattle.meaning.specs.Writer.{overLimit, unwritableNul, writtenText, writes, writeQuestion}
-use Rattle.laws.proofs.Tests.{T→true, true→T}
+use Rattle.laws.proofs.Tests.{true→T}
 
 -- the buffer begins with n bytes of a value, and goes on as it was lent
 pub record Filled (n : ℕ) (out after : List ℕ) : Type 0 where
@@ -83,6 +85,25 @@ pub told-leaves : (f : List ℕ → Answer) (bad : Span → Refusal) (l : Litera
     → TextLeaves out (told f bad l out t .answer) (told f bad l out t .buffer)
 told-leaves f bad l out (passes t) = toldAs-leaves (bad (l .span)) (l .span .start) out (f t)
 told-leaves f bad l out (barred r) = refl
+
+-- by name
+module _ (l : Literal) (S out : List ℕ) where
+  pub stringQuestion-leaves : (σ : Settings) → TextLeaves out (stringQuestion l S σ out .answer) (stringQuestion l S σ out .buffer)
+  unfolding stringQuestion
+  stringQuestion-leaves σ = told-leaves (read σ) InvalidString l out (tested (isString (l .kind)) Expected.String l S)
+
+  pub decimalQuestion-leaves : TextLeaves out (decimalQuestion l S out .answer) (decimalQuestion l S out .buffer)
+  unfolding decimalQuestion
+  decimalQuestion-leaves = told-leaves decimalOf InvalidInteger l out (tested (isNumber (l .kind)) Expected.DecimalText l S)
+
+  pub bitsQuestion-leaves : TextLeaves out (bitsQuestion l S out .answer) (bitsQuestion l S out .buffer)
+  unfolding bitsQuestion
+  bitsQuestion-leaves =
+      told-leaves (bits (bitBase (l .kind))) InvalidBitString l out (tested (ltb 0 (bitBase (l .kind))) Expected.BitString l S)
+
+  pub temporalQuestion-leaves : TextLeaves out (temporalQuestion l S out .answer) (temporalQuestion l S out .buffer)
+  unfolding temporalQuestion
+  temporalQuestion-leaves = told-leaves temporal InvalidString l out (tested (isTemporal (l .kind)) Expected.Temporal l S)
 
 identifierAs-leaves : (out : List ℕ) (a : Answer) → IdentifierLeaves out (identifierAs out a .answer) (identifierAs out a .buffer)
 identifierAs-leaves out (borrowed f u) = refl

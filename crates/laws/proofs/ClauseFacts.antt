@@ -1,25 +1,22 @@
--- The facts of a UESCAPE clause that `Clause` asks for. Assumes nothing.
-use mathlib.Core.Logic.{_⊎_, inl, inr}
+-- Bytes that the search for a mark passes over and that end no prefix: white space is made of such bytes. So what stands before and inside a UESCAPE clause
+-- closes no segment and opens none. Assumes nothing.
 use mathlib.Core.Path.{_≡_, refl, ap, sym, _∙_, subst}
-use mathlib.Core.Bool.{Bool, true, false, _&&_, _||_, not, and-false}
-use mathlib.Core.List.{List, [], _∷_, _++_, map}
+use mathlib.Core.Bool.{Bool, true, false, and-false}
+use mathlib.Core.List.{List, [], _∷_, _++_}
 use Prim.Native.Nat.{ℕ, zero, suc, _+_, _-_, _*_, _≤_, _<_}
 use Prim.Native.Char.{code}
-use native.Mathlib.Nat.{zero-add, add-zero}
 use native.Mathlib.Omega.{arith}
 use native.Mathlib.Decide.{decLt}
-use lib.Dec.{T, eqb, eqb→eq, ltb, leb, leb→le, le→leb, leb·zero}
-use borrow.Author.Tests.{le-leb, lt-leb, leb-false}
-use lib.ListN.{length, getD, take, drop, length-drop}
-use Rattle.meaning.specs.Bytes.{if_then_else_, _!_, has, same, ascii, isMark, isLetter, isDecimal, within, quote, dquote, backslash, inName, span, digit}
-use Rattle.meaning.specs.Chars.{Due, due, broken, lead, gather, base, laters, isSpace, space, spaceAt}
-use Rattle.meaning.specs.Walk.{Step, keep, give, stop, Trace, ended, stopped, kept, gave, after, walk, size, stops, value}
-use Rattle.meaning.specs.Steps.{closingStep, doubled, standardStep, spaceStep, spaceBy, gap, trim}
-use Rattle.meaning.specs.Cutting.{opening, named, hides, closedAt, segmentAt, segment}
-use Rattle.meaning.specs.Spelling.{legalEscape, isOne, upper}
+use lib.Dec.{eqb, eqb→eq, leb, leb→le}
+use borrow.Author.Tests.{lt-leb, leb-false}
+use lib.ListN.{length, take}
+use Rattle.meaning.specs.Bytes.{if_then_else_, _!_, isMark, isLetter, isDecimal, within, quote, dquote, backslash, inName}
+use Rattle.meaning.specs.Chars.{Due, due, broken, lead, gather, base, isSpace, space, spaceAt}
+use Rattle.meaning.specs.Walk.{after, walk, size, stops}
+use Rattle.meaning.specs.Steps.{closingStep, spaceStep, spaceBy}
 use Rattle.laws.proofs.Utf8.{low-lead}
-use Rattle.laws.proofs.Tests.{T→true, true→T, and-left, and-right, if-suc}
-use Rattle.laws.proofs.Gaps.{due-high, lead-low, Solid, AllP, has-all, no-space}
+use Rattle.laws.proofs.Tests.{true→T, if-suc}
+use Rattle.laws.proofs.Gaps.{due-high, lead-low, no-space}
 use Rattle.laws.proofs.Openings.{apart-of-mark}
 use Rattle.laws.proofs.ClauseStops.{Ok, Last}
 

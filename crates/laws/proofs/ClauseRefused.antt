@@ -1,30 +1,30 @@
--- A UESCAPE clause's argument and keyword; and the joining law with the setting on, whole. Assumes nothing.
+-- With the setting on, a U& text with a UESCAPE clause does not cut completely: its keyword and its argument. So the joining law with the setting on is whole.
+-- Assumes nothing.
 use mathlib.Core.Logic.{_⊎_, inl, inr}
 use mathlib.Core.Path.{_≡_, refl, ap, sym, _∙_, subst}
-use mathlib.Core.Bool.{Bool, true, false, _&&_, _||_, not, and-false}
+use mathlib.Core.Bool.{Bool, true, false, _&&_, _||_, not}
 use mathlib.Core.List.{List, [], _∷_, _++_, map, append-assoc}
-use Prim.Native.Nat.{ℕ, zero, suc, _+_, _-_, _*_, _≤_, _<_}
+use Prim.Native.Nat.{ℕ, zero, suc, _+_, _-_, _*_, _<_}
 use Prim.Native.Char.{code}
 use native.Mathlib.Nat.{zero-add, add-zero}
 use native.Mathlib.Omega.{arith}
-use native.Mathlib.Decide.{decLt}
-use lib.Dec.{T, eqb, eqb→eq, ltb, ltb→lt, leb, leb→le, le→leb}
-use lib.ListN.{length, getD, take, drop, length-drop, length-take, take-append-drop, drop-of-length-le}
-use lib.Seq.{split-at, drop-drop, take-add, drop-append-add, getD-drop}
-use Rattle.meaning.specs.Bytes.{if_then_else_, _!_, has, same, ascii, isMark, isLetter, isDecimal, within, quote, dquote, backslash, inName, span, digit, part}
-use Rattle.meaning.specs.Chars.{Due, due, broken, lead, gather, base, laters, isSpace, space, spaceAt}
-use Rattle.meaning.specs.Walk.{Step, keep, give, stop, Trace, ended, stopped, kept, gave, after, walk, size, stops, value}
-use Rattle.meaning.specs.Steps.{closingStep, doubled, standardStep, spaceStep, spaceBy, gap, trim}
-use Rattle.meaning.specs.Cutting.{complete, cut, opening, named, hides, closedAt, segmentAt, segment, segmentStep, on}
-use Rattle.meaning.specs.Spelling.{legalEscape, isOne, upper, encloses, argument, argumentOf, chosen, isUnicode}
+use lib.Dec.{eqb, eqb→eq, ltb, leb, leb→le}
+use lib.ListN.{length, take, drop, length-drop, take-append-drop, drop-of-length-le}
+use lib.Seq.{split-at, drop-append-add, getD-drop}
+use Rattle.meaning.specs.Bytes.{if_then_else_, _!_, has, same, ascii, isMark, isLetter, isDecimal, within, quote, dquote, backslash, inName, digit, part}
+use Rattle.meaning.specs.Chars.{Due, due, broken, lead, gather, base, laters, isSpace, space}
+use Rattle.meaning.specs.Walk.{Trace, stopped, walk, size, stops, value}
+use Rattle.meaning.specs.Steps.{closingStep, doubled, standardStep, gap, trim}
+use Rattle.meaning.specs.Cutting.{complete, cut, opening, named, segmentAt, segment, segmentStep, on}
+use Rattle.meaning.specs.Spelling.{legalEscape, isOne, upper, encloses, argument, argumentOf}
 use Rattle.meaning.specs.Reading.{meaning, means, read, written}
-use Rattle.laws.proofs.Tests.{T→true, true→T, eqb-sym, and-left, and-right, if-suc}
+use Rattle.laws.proofs.Tests.{true→T, eqb-sym, and-left, and-right}
 use Rattle.laws.proofs.Walks.{stop-at, stops-inside}
 use Rattle.laws.proofs.Parts.{is-quote}
-use Rattle.laws.proofs.Gaps.{Solid, has-all, no-space}
+use Rattle.laws.proofs.Gaps.{Solid}
 use Rattle.laws.proofs.Openings.{apart-of-mark}
 use Rattle.laws.proofs.ClauseStops.{Ok, Last, never}
-use Rattle.laws.proofs.ClauseFacts.{Calm, Quiet, AllQ, high-quiet, gap-quiet, last-take, last-append}
+use Rattle.laws.proofs.ClauseFacts.{Calm, AllQ, high-quiet, gap-quiet, last-take, last-append}
 use Rattle.laws.proofs.UnicodeOn.{ClauseRefused, lone-mark, joining-on}
 use Rattle.laws.proofs.Joining.{White}
 

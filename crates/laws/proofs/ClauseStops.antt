@@ -1,22 +1,22 @@
 -- A text that ends in a UESCAPE clause does not cut completely with the setting on. Assumes nothing.
 use mathlib.Core.Logic.{_⊎_, inl, inr}
 use mathlib.Core.Path.{_≡_, refl, ap, sym, _∙_, subst}
-use mathlib.Core.Bool.{Bool, true, false, _&&_, _||_, not, and-false}
+use mathlib.Core.Bool.{Bool, true, false, _&&_, and-false}
 use mathlib.Core.List.{List, [], _∷_, _++_}
-use Prim.Native.Nat.{ℕ, zero, suc, _+_, _-_, _*_, _≤_, _<_}
+use Prim.Native.Nat.{ℕ, zero, suc, _+_, _-_, _*_, _≤_}
 use Prim.Native.Char.{code}
-use native.Mathlib.Nat.{zero-add, add-zero}
+use native.Mathlib.Nat.{add-zero}
 use native.Mathlib.Omega.{arith}
-use lib.Dec.{T, eqb, eqb→eq, ltb, leb}
-use lib.ListN.{length, getD, take, drop, length-drop}
+use lib.Dec.{eqb, eqb→eq, ltb, leb}
+use lib.ListN.{length, drop, length-drop}
 use lib.Seq.{drop-append-le, drop-append-add}
 use Rattle.meaning.specs.Bytes.{if_then_else_, _!_, has, ascii, isMark, isLetter, isDecimal, within, quote, dquote, backslash, inName, span}
-use Rattle.meaning.specs.Chars.{Due, due, broken, lead, gather, base, isSpace, space, spaceAt}
-use Rattle.meaning.specs.Walk.{Step, keep, give, stop, Trace, ended, stopped, kept, gave, after, walk, size, stops}
-use Rattle.meaning.specs.Steps.{closingStep, doubled, spaceStep, spaceBy, gap, trim}
-use Rattle.meaning.specs.Cutting.{opening, named, hides, segment, segmentStep, segmentBy, on}
-use Rattle.laws.proofs.Tests.{T→true, true→T, if-suc, and-left, and-right}
-use Rattle.laws.proofs.Walks.{walk-append, walk-drop, walk-extend, graft, size-graft, stops-graft, stops-inside}
+use Rattle.meaning.specs.Chars.{Due, due, broken, lead, gather, base, isSpace}
+use Rattle.meaning.specs.Walk.{after, walk, size, stops}
+use Rattle.meaning.specs.Steps.{closingStep, doubled, spaceStep, spaceBy, gap}
+use Rattle.meaning.specs.Cutting.{opening, named, segment, segmentStep, on}
+use Rattle.laws.proofs.Tests.{true→T, if-suc, and-left, and-right}
+use Rattle.laws.proofs.Walks.{walk-append, walk-drop, walk-extend, size-graft, stops-graft, stops-inside}
 use Rattle.laws.proofs.Gaps.{below-due, lead-low, Solid, has-all, no-space}
 use Rattle.laws.proofs.Openings.{opening-mark, apart-of-mark, mark-0, segment-of, closing-local-all}
 use Rattle.laws.proofs.Written.{closing-local}

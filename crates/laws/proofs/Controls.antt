@@ -2,9 +2,9 @@
 -- string question is given to its result and the final buffer; `Right` is its contract. `right-by-definition` shows that the contract can be met.
 -- Assumes nothing.
 use mathlib.Core.Path.{_≡_, refl, ap, sym, _∙_}
-use mathlib.Core.Bool.{Bool, true, false}
-use mathlib.Core.List.{List, [], _∷_, _++_}
-use Prim.Native.Nat.{ℕ, zero, suc}
+use mathlib.Core.Bool.{false}
+use mathlib.Core.List.{List, [], _∷_}
+use Prim.Native.Nat.{ℕ}
 use native.Mathlib.Omega.{arith}
 use lib.ListN.{length}
 use Rattle.meaning.specs.declared.Settings.{Settings}
@@ -13,14 +13,14 @@ use Rattle.meaning.specs.declared.Literal.{Literal}
 use Rattle.meaning.specs.declared.Refusal.{Refusal}
 use Rattle.meaning.specs.declared.Refusal.the-variants.{NoRoom}
 use Rattle.meaning.specs.declared.Text.{Text}
-use Rattle.meaning.specs.declared.Text.the-variants.{Borrowed, Written, Refused}
-use Rattle.meaning.specs.Bytes.{ascii, within, isMark, isLetter, isDecimal, inName, startsTag, inTag, digit, allDigits}
-use Rattle.meaning.specs.Chars.{lead, utf8, more, encode, isScalar, isSpace}
-use Rattle.meaning.specs.Steps.{doubled, oneByte, mayEscape, scalarBy, pair, lowHalf, uescaped}
+use Rattle.meaning.specs.declared.Text.the-variants.{Written, Refused}
+use Rattle.meaning.specs.Bytes.{ascii, within, isMark}
+use Rattle.meaning.specs.Chars.{lead, utf8, isSpace}
+use Rattle.meaning.specs.Steps.{doubled}
 use Rattle.meaning.specs.Cutting.{off, named, segment, segmentStep, cut, continues}
-use Rattle.meaning.specs.Spelling.{encloses, argument, upper, isUnicode, unicodeSpelling, delimiter, spelling}
+use Rattle.meaning.specs.Spelling.{encloses, spelling}
 use Rattle.meaning.specs.Reading.{answer, one, read}
-use Rattle.meaning.specs.Answers.{Outcome, Meets, filled}
+use Rattle.meaning.specs.Answers.{Outcome, Meets, partShown, shown, filled}
 use Rattle.meaning.specs.Questions.{cutsCharacter, badSpan, sourceText, tested, stringQuestion}
 
 abbrev pub Program : Type 0
@@ -86,13 +86,10 @@ module _ (p : Program) (right : Right p) where
       let e : _≡_ {A = List ℕ} (97 ∷ 98 ∷ 3 ∷ []) (1 ∷ 2 ∷ 3 ∷ []) = sym leaves ∙ h (all-of-it two) two off (1 ∷ 2 ∷ 3 ∷ []) in
       let z : _≡_ {A = ℕ} 97 1 = cc in omega arith
 
-  -- "one that reads the first segment and drops the later ones": it answers 'a' 'b' as it does 'a'
-  pub no-first-segment-only : p (all-of-it two) two off (1 ∷ 2 ∷ 3 ∷ []) .answer ≡ p (all-of-it (ascii "'a'")) (ascii "'a'") off (1 ∷ 2 ∷ 3 ∷ []) .answer → ⊥
-  unfolding ask stringQuestion tested sourceText badSpan cutsCharacter within utf8 lead read continues segment isMark segmentStep cut isSpace one spelling encloses answer doubled named filled
-  no-first-segment-only h =
-      let a : p (all-of-it (ascii "'a'")) (ascii "'a'") off (1 ∷ 2 ∷ 3 ∷ []) .answer ≡ Borrowed 1 2 = right (all-of-it (ascii "'a'")) (ascii "'a'") off (1 ∷ 2 ∷ 3 ∷ []) .answer in
-      let e : Written 2 ≡ Borrowed 1 2 = sym answers ∙ h ∙ a in
-      let z : _≡_ {A = ℕ} 0 1 = cc in omega arith
+  -- "one that reads the first segment and drops the later ones": of 'a' 'b' it shows a, borrowed or written
+  pub no-first-segment-only : shown two (p (all-of-it two) two off (1 ∷ 2 ∷ 3 ∷ []) .buffer) (p (all-of-it two) two off (1 ∷ 2 ∷ 3 ∷ []) .answer) ≡ ascii "a" → ⊥
+  unfolding partShown
+  no-first-segment-only h = let e : _≡_ {A = List ℕ} (97 ∷ 98 ∷ []) (97 ∷ []) = rw (answers, leaves) at h in absurd (omega (arith, ap length e))
 
   -- "a made-up length in 9, which is the definition's length"
   pub no-made-up-length : (n : ℕ) → p (all-of-it two) two off [] .answer ≡ Refused (NoRoom n) → n ≡ 2

@@ -1,5 +1,5 @@
--- Determinacy: two results, with their final buffers, that a contract permits are equal. Once, over the answer's type and the question.
--- Assumes nothing.
+-- Determinacy: two results that a contract permits, with their final buffers, are equal. Once for every question that is lent a buffer, and once
+-- for every question and helper that is lent none, over the answer's type and the question. Assumes nothing.
 use mathlib.Core.Path.{_≡_, sym, _∙_}
 use mathlib.Core.List.{List}
 use Prim.Native.Nat.{ℕ}
@@ -11,3 +11,7 @@ pub record Same {A : Type 0} (r r′ : A) (d d′ : List ℕ) : Type 0 where
 
 pub meets-unique : {A : Type 0} (o : Outcome A) (r r′ : A) (d d′ : List ℕ) → Meets o r d → Meets o r′ d′ → Same r r′ d d′
 meets-unique o r r′ d d′ m n = record { answer = m .answer ∙ sym (n .answer); buffer = m .buffer ∙ sym (n .buffer) }
+
+-- without a buffer the contract is that the result is the definition's
+pub answer-unique : {A : Type 0} (a r r′ : A) → r ≡ a → r′ ≡ a → r ≡ r′
+answer-unique a r r′ m n = m ∙ sym n

@@ -1,15 +1,15 @@
 -- A body between two marks. Assumes nothing.
-use mathlib.Core.Path.{_≡_, refl, ap, sym, _∙_, subst}
-use mathlib.Core.Bool.{Bool, true, false, _&&_, _||_, not}
-use mathlib.Core.List.{List, [], _∷_, _++_, append-assoc}
-use Prim.Native.Nat.{ℕ, zero, suc, _+_, _-_, _≤_, _<_}
+use mathlib.Core.Path.{_≡_, refl}
+use mathlib.Core.Bool.{Bool, true, false, _||_}
+use mathlib.Core.List.{List, [], _∷_, _++_}
+use Prim.Native.Nat.{ℕ, suc, _-_}
 use native.Mathlib.Omega.{arith}
-use lib.Dec.{T, eqb, eqb→eq, eqb-refl, ltb, leb, le→leb, lt→ltb}
-use lib.ListN.{length, getD, take, drop, length-append}
+use lib.Dec.{eqb, ltb, lt→ltb}
+use lib.ListN.{length, length-append}
 use lib.Seq.{getD-append-seam, take-append-seam}
-use Rattle.meaning.specs.Bytes.{if_then_else_, _!_, has, part}
+use Rattle.meaning.specs.Bytes.{has, part}
 use Rattle.meaning.specs.Spelling.{encloses}
-use Rattle.laws.proofs.Tests.{T→true, true→T, eqb-same, eqb-sym}
+use Rattle.laws.proofs.Tests.{T→true, eqb-same}
 
 pub has-append : (b : ℕ) (u t : List ℕ) → has b (u ++ t) ≡ has b u || has b t
 has-append b [] t = refl

@@ -1,17 +1,15 @@
--- The same for E: where the search for the closing mark stops in a body, so does reading its escapes. Assumes nothing.
+-- Where the search for the closing mark stops inside an E body, so does reading its escapes, and the check for UTF-8 undoes no stop. Assumes nothing.
 use mathlib.Core.Path.{_≡_, refl, ap, sym, _∙_, subst}
-use mathlib.Core.Bool.{Bool, true, false, _&&_, _||_, not}
-use mathlib.Core.List.{List, [], _∷_, _++_}
-use Prim.Native.Nat.{ℕ, zero, suc, _+_, _-_, _*_, _%_, _≤_, _<_}
+use mathlib.Core.Bool.{Bool, true, false, _&&_}
+use mathlib.Core.List.{List, [], _∷_}
+use Prim.Native.Nat.{ℕ, zero, suc, _%_}
 use Prim.Native.Char.{code}
-use native.Mathlib.Omega.{arith}
 use lib.Dec.{T, eqb, eqb→eq, ltb}
-use lib.ListN.{length, getD}
 use Rattle.meaning.specs.Bytes.{if_then_else_, _!_, quote, backslash, within, digit, digits, number}
 use Rattle.meaning.specs.Chars.{Due, due, broken, push, pushes, encode}
-use Rattle.meaning.specs.Walk.{Step, keep, give, stop, Trace, ended, stopped, kept, gave, after, walk, size, stops}
+use Rattle.meaning.specs.Walk.{keep, give, stop, Trace, ended, stopped, kept, gave, after, walk, stops}
 use Rattle.meaning.specs.Steps.{mayEscape, closingStep, doubled, escapeStep, escaped, escapeTable, byteOf, oneByte, scalarBy, checked, unlessBroken}
-use Rattle.laws.proofs.Tests.{T→true, true→T, and-left}
+use Rattle.laws.proofs.Tests.{true→T}
 
 abbrev pub Tame : ℕ → Type 0
 Tame b = (eqb b backslash ≡ false) × (eqb b quote ≡ false)

@@ -1,22 +1,21 @@
--- Laws of white space, and of openings. Assumes nothing.
+-- Laws of white space: what follows a gap changes nothing in it, and a gap ends where none follows; no byte that opens a segment begins white space.
+-- Assumes nothing.
 use mathlib.Core.Path.{_≡_, refl, ap, sym, _∙_, subst}
-use mathlib.Core.Bool.{Bool, true, false, _&&_, _||_, not, and-false}
-use mathlib.Core.List.{List, [], _∷_, _++_, append-assoc}
-use Prim.Native.Nat.{ℕ, zero, suc, _+_, _-_, _*_, _≤_, _<_}
-use Prim.Native.Char.{code}
+use mathlib.Core.Bool.{Bool, true, false, _||_}
+use mathlib.Core.List.{List, [], _∷_, _++_}
+use Prim.Native.Nat.{ℕ, zero, suc, _+_, _-_, _*_, _≤_}
 use native.Mathlib.Nat.{add-zero, zero-add}
 use native.Mathlib.Omega.{arith}
-use lib.Dec.{T, eqb, eqb→eq, eqb-refl, ltb, leb, le→leb, leb→le}
+use lib.Dec.{T, eqb, eqb→eq, leb}
 use borrow.Author.Tests.{le-leb, leb-true, leb-false}
-use lib.ListN.{length, getD, take, drop, length-append}
-use Rattle.meaning.specs.Bytes.{if_then_else_, _!_, has, ascii, within, isMark, quote, dquote, inName, span}
+use lib.ListN.{length}
+use Rattle.meaning.specs.Bytes.{if_then_else_, has, ascii, within, isMark}
 use Rattle.meaning.specs.Chars.{Due, due, broken, lead, gather, base, isSpace, space, spaceAt}
-use Rattle.meaning.specs.Walk.{Step, keep, give, stop, Trace, ended, stopped, kept, gave, after, walk, size, stops}
-use Rattle.meaning.specs.Steps.{spaceStep, spaceBy, gap, trim}
-use Rattle.meaning.specs.Cutting.{opening, named}
+use Rattle.meaning.specs.Walk.{walk, size}
+use Rattle.meaning.specs.Steps.{spaceStep, spaceBy, gap}
 use Rattle.laws.proofs.Utf8.{Good, Ranged, lead-good}
-use Rattle.laws.proofs.Tests.{T→true, true→T, within-bounds, within-below}
-use Rattle.laws.proofs.Walks.{walk-append, LocalIn, Inside, Exact, exact-ends, graft, size-graft, Fits, FitsIn, fits-size}
+use Rattle.laws.proofs.Tests.{true→T, within-bounds, within-below}
+use Rattle.laws.proofs.Walks.{walk-append, LocalIn, Inside, Exact, exact-ends, size-graft, Fits, FitsIn, fits-size}
 
 -- a later byte that is due is never below 80
 pub lead-low : (b n lo hi : ℕ) → lead b ≡ due n lo hi → leb 0x80 lo ≡ true

@@ -1,26 +1,26 @@
--- Joining is a law: texts A and B, white space between, mean A's value followed by B's. Assumes nothing.
+-- Joining, over what a text means: texts A and B, each one segment or continued by a quote mark, white space between, B beginning with a quote mark, mean A's
+-- value followed by B's. Assumes nothing.
 use mathlib.Core.Logic.{_⊎_, inl, inr}
 use mathlib.Core.Path.{_≡_, refl, ap, sym, _∙_, subst}
-use mathlib.Core.Bool.{Bool, true, false, _&&_, _||_, not, and-false}
+use mathlib.Core.Bool.{Bool, true, false, _&&_, and-false}
 use mathlib.Core.List.{List, [], _∷_, _++_, append-assoc, append-nil}
-use Prim.Native.Nat.{ℕ, zero, suc, _+_, _-_, _*_, _≤_, _<_}
+use Prim.Native.Nat.{ℕ, zero, suc, _+_, _≤_, _<_}
 use native.Mathlib.Nat.{add-zero, zero-add}
 use native.Mathlib.Omega.{arith}
 use native.Mathlib.Decide.{decLt}
-use lib.Dec.{T, eqb, eqb→eq, eqb-refl, ltb, leb, le→leb, leb→le, lt→ltb}
-use lib.ListN.{length, getD, take, drop, length-append, length-drop, List·getD-append}
+use lib.Dec.{T, ltb, lt→ltb}
+use lib.ListN.{length, take, drop, length-append, length-drop}
 use lib.Seq.{drop-append-le, take-append-le, drop-drop, drop-append-seam, drop-length, take-length}
 use Rattle.meaning.specs.declared.Settings.{Settings}
-use Rattle.meaning.specs.Bytes.{if_then_else_, _!_, isMark}
-use Rattle.meaning.specs.Chars.{space}
-use Rattle.meaning.specs.Walk.{Step, keep, give, stop, Trace, ended, stopped, kept, gave, after, walk, size, stops}
-use Rattle.meaning.specs.Steps.{spaceStep, spaceBy, gap, trim}
-use Rattle.meaning.specs.Cutting.{continues, segment, segmentBy, segmentStep, cut, complete, covers, opening}
-use Rattle.meaning.specs.Reading.{meaning, Answer, borrowed, written, refused, Value, means, fails, valueOf, onward, both, joined, asWritten, one, read}
-use Rattle.laws.proofs.Tests.{T→true, true→T, and-left, and-right}
-use Rattle.laws.proofs.Walks.{walk-drop, walk-skip, walk-part, Exact, exact-append, stops-inside}
+use Rattle.meaning.specs.Bytes.{_!_, isMark}
+use Rattle.meaning.specs.Walk.{give, walk}
+use Rattle.meaning.specs.Steps.{spaceStep, gap, trim}
+use Rattle.meaning.specs.Cutting.{continues, segment, segmentStep, cut}
+use Rattle.meaning.specs.Reading.{meaning, written, Value, means, fails, valueOf, onward, both, joined, asWritten, one, read}
+use Rattle.laws.proofs.Tests.{T→true, and-left, and-right}
+use Rattle.laws.proofs.Walks.{walk-drop, walk-skip, walk-part, Exact, exact-append}
 use Rattle.laws.proofs.Gaps.{Solid, mark-solid, space-local, gap-fits, gap-append}
-use Rattle.laws.proofs.Openings.{opening-solid, segment-of, segment-fits, segment-extend, apart-of-mark, mark-0}
+use Rattle.laws.proofs.Openings.{opening-solid, segment-of, segment-fits, segment-extend}
 
 -- white space: whole white-space characters, and nothing else
 abbrev pub White : List ℕ → Type 0

@@ -1,22 +1,21 @@
 -- Demand 3 of the order: "Take accepted string texts A and B, at one backslash setting, each cutting completely into segments, B beginning with a
 -- quote mark, at least one white-space character between. If the whole fits a span and the buffer has room, it is accepted and means A's
 -- value followed by B's." Assumes nothing.
-use mathlib.Core.Path.{_≡_, refl, ap, sym, _∙_, subst}
+use mathlib.Core.Path.{_≡_}
 use mathlib.Core.Bool.{Bool, true, false}
-use mathlib.Core.List.{List, [], _∷_, _++_}
+use mathlib.Core.List.{List, _++_}
 use Prim.Native.Nat.{ℕ, _≤_, _<_}
 use lib.Dec.{leb, le→leb}
 use lib.ListN.{length, drop}
 use Rattle.meaning.specs.declared.Settings.{Settings}
 use Rattle.meaning.specs.declared.Literal.{Literal}
-use Rattle.meaning.specs.declared.Text.{Text}
 use Rattle.meaning.specs.declared.Text.the-variants.{Written}
-use Rattle.meaning.specs.Bytes.{if_then_else_, _!_, isMark}
+use Rattle.meaning.specs.Bytes.{_!_, isMark}
 use Rattle.meaning.specs.Chars.{utf8}
 use Rattle.meaning.specs.Cutting.{complete}
 use Rattle.meaning.specs.Reading.{means, written, read, meaning}
-use Rattle.meaning.specs.Answers.{Outcome, filled}
-use Rattle.meaning.specs.Questions.{isString, stringQuestion, toldAs}
+use Rattle.meaning.specs.Answers.{filled}
+use Rattle.meaning.specs.Questions.{isString, stringQuestion}
 use Rattle.laws.proofs.Tests.{T→true}
 use Rattle.laws.proofs.Utf8.{utf8-join}
 use Rattle.laws.proofs.Asked.{Spans, stringQuestion-reads}

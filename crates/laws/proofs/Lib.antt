@@ -42,5 +42,7 @@ pub mod WriterParts
 pub mod WrittenParts
 pub mod WriterText
 pub mod RoundTrip
+pub mod Answered
+pub mod Witnesses
 pub mod Starred
 pub mod Short

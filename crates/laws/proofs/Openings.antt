@@ -1,20 +1,19 @@
 -- Laws of openings and segments: what follows a segment changes nothing in it. Assumes nothing.
 use mathlib.Core.Path.{_≡_, refl, ap, sym, _∙_, subst}
-use mathlib.Core.Bool.{Bool, true, false, _&&_, _||_, not, and-false}
-use mathlib.Core.List.{List, [], _∷_, _++_, append-assoc}
-use Prim.Native.Nat.{ℕ, zero, suc, _+_, _-_, _*_, _≤_, _<_}
+use mathlib.Core.Bool.{Bool, true, false, _&&_, _||_}
+use mathlib.Core.List.{List, [], _∷_, _++_}
+use Prim.Native.Nat.{ℕ, zero, suc, _+_, _≤_, _<_}
 use Prim.Native.Char.{code}
-use native.Mathlib.Nat.{add-zero, zero-add}
 use native.Mathlib.Omega.{arith}
-use lib.Dec.{T, eqb, eqb→eq, eqb-refl, ltb, leb, le→leb, leb→le}
-use lib.ListN.{length, getD, take, drop, length-append, length-drop, List·getD-append}
+use lib.Dec.{T, eqb, eqb→eq, ltb}
+use lib.ListN.{length, drop, length-drop, List·getD-append}
 use lib.Seq.{drop-append-le}
 use Rattle.meaning.specs.declared.Settings.{Settings}
-use Rattle.meaning.specs.Bytes.{if_then_else_, _!_, has, ascii, within, isMark, quote, dquote, backslash, inName, span}
-use Rattle.meaning.specs.Walk.{Step, keep, give, stop, Trace, ended, stopped, kept, gave, after, walk, size, stops}
+use Rattle.meaning.specs.Bytes.{if_then_else_, _!_, has, ascii, isMark, quote, inName, span}
+use Rattle.meaning.specs.Walk.{walk, size, stops}
 use Rattle.meaning.specs.Steps.{closingStep, doubled}
-use Rattle.meaning.specs.Cutting.{opening, named, hides, closedAt, segmentAt, segment}
-use Rattle.laws.proofs.Tests.{T→true, true→T, if-suc, and-left, and-right}
+use Rattle.meaning.specs.Cutting.{opening, named, hides, segmentAt, segment}
+use Rattle.laws.proofs.Tests.{true→T, if-suc, and-left, and-right}
 use Rattle.laws.proofs.Walks.{Local, walk-extend, stops-inside}
 use Rattle.laws.proofs.Enclosed.{has-append}
 use Rattle.laws.proofs.Gaps.{Solid, mark-solid, prefix-solid}

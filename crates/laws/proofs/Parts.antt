@@ -1,17 +1,17 @@
--- Demand 3's second half: parts of a value, each written, joined by white space, read back whole. Assumes nothing.
-use mathlib.Core.Logic.{_⊎_, inl, inr}
-use mathlib.Core.Path.{_≡_, refl, ap, sym, _∙_, subst}
-use mathlib.Core.Bool.{Bool, true, false, _&&_, _||_, not}
-use mathlib.Core.List.{List, [], _∷_, _++_, append-assoc, append-nil}
-use Prim.Native.Nat.{ℕ, zero, suc, _+_, _≤_, _<_}
-use lib.Dec.{T}
+-- Demand 3's second half, over what a text means: parts of a value, each written, joined by white space, mean the value. Over the string question it is in
+-- WrittenParts. Assumes nothing.
+use mathlib.Core.Logic.{inl, inr}
+use mathlib.Core.Path.{_≡_, refl, ap, subst}
+use mathlib.Core.Bool.{true}
+use mathlib.Core.List.{List, [], _∷_, _++_, append-nil}
+use Prim.Native.Nat.{ℕ}
 use lib.ListN.{length}
 use Rattle.meaning.specs.declared.Settings.{Settings}
 use Rattle.meaning.specs.Bytes.{quote, isMark}
-use Rattle.meaning.specs.Cutting.{segment, continues}
-use Rattle.meaning.specs.Reading.{Value, means, valueOf, read, written, meaning}
+use Rattle.meaning.specs.Cutting.{segment}
+use Rattle.meaning.specs.Reading.{means, valueOf, meaning}
 use Rattle.meaning.specs.Writer.{spells, literal}
-use Rattle.laws.proofs.Written.{writable, literal-segment, literal-one, round-trip}
+use Rattle.laws.proofs.Written.{writable, literal-segment, round-trip}
 use Rattle.laws.proofs.Joining.{White, Ready, join, goes-on}
 
 -- a white-space gap, not empty, and the part behind it

@@ -1,27 +1,27 @@
--- An accepted text that cuts completely is one segment, or a quote mark follows its first; and the law in full. Assumes nothing.
-use mathlib.Core.Logic.{_⊎_, inl, inr}
-use mathlib.Core.Path.{_≡_, refl, ap, sym, _∙_, subst}
-use mathlib.Core.Bool.{Bool, true, false, _&&_, _||_, not}
+-- An accepted text that cuts completely is one segment, or a quote mark follows its first. So the joining law holds wherever such a U& text is refused when it
+-- is read as one; with the setting off it is, and the law is whole. Assumes nothing.
+use mathlib.Core.Logic.{inl, inr}
+use mathlib.Core.Path.{_≡_, refl, ap, sym, _∙_}
+use mathlib.Core.Bool.{Bool, true, false, not}
 use mathlib.Core.List.{List, [], _∷_, _++_}
-use Prim.Native.Nat.{ℕ, zero, suc, _+_, _-_, _≤_, _<_}
+use Prim.Native.Nat.{ℕ, zero, suc, _+_, _<_}
 use native.Mathlib.Omega.{arith}
-use native.Mathlib.Decide.{decLt}
-use lib.Dec.{T, eqb, eqb→eq, ltb, lt→ltb}
-use lib.ListN.{length, getD, take, drop, length-drop}
+use lib.Dec.{eqb, eqb→eq, ltb, lt→ltb}
+use lib.ListN.{length, take, drop, length-drop}
 use lib.Seq.{length-take-le, drop-drop}
 use Rattle.meaning.specs.declared.Settings.{Settings}
-use Rattle.meaning.specs.Bytes.{if_then_else_, _!_, same, isMark, quote}
-use Rattle.meaning.specs.Walk.{Step, keep, give, stop, Trace, ended, stopped, kept, gave, after, walk, size, stops}
+use Rattle.meaning.specs.Bytes.{_!_, same, isMark, quote}
+use Rattle.meaning.specs.Walk.{Trace, ended, stopped, kept, gave, after, walk, stops}
 use Rattle.meaning.specs.Steps.{gap, trim}
 use Rattle.meaning.specs.Cutting.{continues, opening, segment, segmentStep, segmentBy, cut, complete, covers, off}
 use Rattle.meaning.specs.Spelling.{isUnicode, unicodeSpelling}
-use Rattle.meaning.specs.Reading.{meaning, Answer, written, Value, means, fails, valueOf, one, read, read-as}
+use Rattle.meaning.specs.Reading.{meaning, written, means, valueOf, read, read-as}
 use Rattle.laws.proofs.Tests.{T→true, true→T, and-left, and-right}
 use Rattle.laws.proofs.Walks.{walk-drop}
 use Rattle.laws.proofs.Openings.{segment-of, segment-fits}
 use Rattle.laws.proofs.WholeRefused.{refused-whole}
 use Rattle.laws.proofs.UnicodeOff.{unicode-off}
-use Rattle.laws.proofs.Joining.{White, Ready, fails≢means, join}
+use Rattle.laws.proofs.Joining.{White, Ready, join}
 
 -- U& read as one is refused, where the text cuts completely and another segment follows that begins with no quote mark
 abbrev pub UnicodeRefused : Settings → Type 0

@@ -15,19 +15,19 @@ use lib.ListN.{length, drop}
 use lib.Seq.{length-take-le, take-append-seam, drop-append-seam, drop-append-add}
 use Rattle.meaning.specs.declared.Settings.{Settings}
 use Rattle.meaning.specs.declared.Literal.{Literal}
-use Rattle.meaning.specs.declared.Refusal.the-variants.{NotUtf8, InvalidString, NoRoom}
+use Rattle.meaning.specs.declared.Refusal.the-variants.{InvalidString, NoRoom}
 use Rattle.meaning.specs.declared.Text.the-variants.{Written, Refused}
 use Rattle.meaning.specs.Answers.{textNumber}
 use Rattle.meaning.specs.Bytes.{if_then_else_, _!_, within, isMark}
 use Rattle.meaning.specs.Chars.{utf8}
 use Rattle.meaning.specs.Cutting.{continues, segment, segmentStep, cut}
-use Rattle.meaning.specs.Questions.{sourceText, tested, isString, toldAs, stringQuestion}
+use Rattle.meaning.specs.Questions.{isString, toldAs, stringQuestion}
 use Rattle.meaning.specs.Reading.{written, Value, means, fails, valueOf, each, alone, joined, asWritten, read, meaning}
 use Rattle.meaning.specs.Steps.{gap, trim}
 use Rattle.meaning.specs.Walk.{Trace, ended, stopped, kept, gave, walk}
 use Rattle.laws.proofs.WhiteUtf8.{white-utf8}
 use Rattle.laws.proofs.Alone.{segment-alone}
-use Rattle.laws.proofs.Asked.{Spans, stringQuestion-reads}
+use Rattle.laws.proofs.Asked.{Spans, stringQuestion-reads, stringQuestion-not-utf8}
 use Rattle.laws.proofs.Gaps.{gap-append}
 use Rattle.laws.proofs.Joining.{white-head, segment-solid, value-written, lone-read, goes-on, both-means, fails≢means}
 use Rattle.laws.proofs.JoiningLaw.{Gap, told-written}
@@ -248,11 +248,6 @@ module _ (σ : Settings) where
   pub segments-utf8 : (s : List ℕ) (ps : List (Further σ)) → (utf8 (strung s ps) ≡ true) ↔ Each (λ t. utf8 t ≡ true) (segments s ps)
   segments-utf8 s ps = (utf8-to s ps, utf8-from s ps)
 
-not-utf8 : (l : Literal) (S t : List ℕ) (σ : Settings) (out : List ℕ) → isString (l .kind) ≡ true → Spans l S t → utf8 t ≡ false
-    → stringQuestion l S σ out .answer ≡ Refused (NotUtf8 (l .span))
-unfolding stringQuestion tested sourceText
-not-utf8 l S t σ out k h u = rw (k, h .real, h .fits, h .text, u)
-
 -- THE RULE of two or more segments, the second beginning with a quote mark
 module _ (σ : Settings) (s : List ℕ) (p : Further σ) (ps : List (Further σ)) (first : Whole σ s) (mark : isMark (p .text ! 0) ≡ true) where
   pub segments-continue : continues σ (strung s (p ∷ ps)) ≡ true
@@ -309,7 +304,7 @@ module _ (σ : Settings) (s : List ℕ) (p : Further σ) (ps : List (Further σ)
     segments-answered h = by-utf8 (utf8 (strung s (p ∷ ps))) refl
       where
         by-utf8 : (x : Bool) → utf8 (strung s (p ∷ ps)) ≡ x → AllAccepted σ (segments s (p ∷ ps)) (length out)
-        by-utf8 false u = let k = rw (not-utf8 l S (strung s (p ∷ ps)) σ out kind spans u) at h in absurd (omega arith)
+        by-utf8 false u = let k = rw (stringQuestion-not-utf8 l S (strung s (p ∷ ps)) σ out kind spans u) at h in absurd (omega arith)
         by-utf8 true u =
             let e = continues-read σ (strung s (p ∷ ps)) segments-continue in
             by-value (joined σ (cut σ (strung s (p ∷ ps)))) u e

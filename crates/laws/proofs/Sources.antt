@@ -1,6 +1,6 @@
 -- [01 Numbers an answer can carry] "Two sources in neither of which a span gives 3, agreeing inside it, get the same answers with the same
 -- buffer." Assumes nothing.
-use mathlib.Core.Path.{_≡_, refl, ap, sym, _∙_}
+use mathlib.Core.Path.{_≡_, refl, ap}
 use mathlib.Core.Bool.{Bool, true, false}
 use mathlib.Core.List.{List}
 use Prim.Native.Nat.{ℕ}
@@ -8,12 +8,11 @@ use Rattle.meaning.specs.declared.Settings.{Settings}
 use Rattle.meaning.specs.declared.LiteralExpected.{LiteralExpected}
 use Rattle.meaning.specs.declared.Literal.{Literal}
 use Rattle.meaning.specs.declared.Refusal.the-variants.{InvalidString, InvalidInteger, InvalidBitString, InvalidMoney}
-use Rattle.meaning.specs.Bytes.{if_then_else_, part}
-use Rattle.meaning.specs.Reading.{read, borrowed}
+use Rattle.meaning.specs.Bytes.{part}
+use Rattle.meaning.specs.Reading.{read}
 use Rattle.meaning.specs.Numbers.{decimalOf}
 use Rattle.meaning.specs.Kinds.{bits, money, temporal}
-use Rattle.meaning.specs.Answers.{Outcome}
-use Rattle.meaning.specs.Questions.{Tested, badSpan, sourceText, tested, told, ranged, charsetBy, integerBy, bitBase, stringQuestion, decimalQuestion, bitsQuestion, temporalQuestion, sourceQuestion, moneyQuestion, charsetQuestion, i64Question}
+use Rattle.meaning.specs.Questions.{badSpan, sourceText, tested, told, ranged, charsetBy, integerBy, bitBase, stringQuestion, decimalQuestion, bitsQuestion, temporalQuestion, sourceQuestion, moneyQuestion, charsetQuestion, i64Question}
 
 -- neither gives 3, and inside the span they are the same
 pub record Agree (l : Literal) (S S′ : List ℕ) : Type 0 where

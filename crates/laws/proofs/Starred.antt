@@ -1,8 +1,7 @@
 -- [01 Examples, * to be proved] "The starred examples are one table, proved by a single statement." Over the questions, the literal being all of its
 -- source and the buffer one byte longer than what is written. Assumes nothing.
-use mathlib.Core.Bool.{Bool, true, false}
+use mathlib.Core.Bool.{true, false}
 use mathlib.Core.List.{List, [], _∷_}
-use Prim.Native.Nat.{ℕ}
 use lib.Dec.{T}
 use Rattle.meaning.specs.Bytes.{within, isMark, isLetter, isDecimal, inName, startsTag, inTag, digit, allDigits}
 use Rattle.meaning.specs.Chars.{lead, utf8, more, encode, isScalar, isSpace}
@@ -13,7 +12,7 @@ use Rattle.meaning.specs.Reading.{answer, one, read}
 use Rattle.meaning.specs.Numbers.{signLength, isMinus, baseBy, radixPrefix, parsed, separated, radixValue, i64Of}
 use Rattle.meaning.specs.Answers.{partShown, filled}
 use Rattle.meaning.specs.Questions.{cutsCharacter, badSpan, sourceText, tested, stringQuestion, i64Question}
-use Rattle.meaning.proofs.Rows.{Row, asks, string, i64, borrows, writes, plus, minus, refuses, right, all}
+use Rattle.meaning.proofs.Rows.{Row, asks, string, i64, borrows, writes, minus, refuses, all}
 
 abbrev pub starred : List Row
 starred =

@@ -1,21 +1,22 @@
--- U& read as one, where another segment follows that begins with no quote mark. Assumes nothing.
-use mathlib.Core.Path.{_≡_, refl, ap, sym, _∙_, subst}
-use mathlib.Core.Bool.{Bool, true, false, _&&_, _||_, not, and-false, or-false, or-true}
-use mathlib.Core.List.{List, [], _∷_, _++_, map}
-use Prim.Native.Nat.{ℕ, zero, suc, _+_, _-_, _*_, _≤_, _<_}
+-- With the setting off, a U& text is refused when it is read as one and another segment follows that begins with no quote mark: no UESCAPE clause opens a
+-- segment. Assumes nothing.
+use mathlib.Core.Path.{_≡_, refl, sym, subst}
+use mathlib.Core.Bool.{Bool, true, false, _&&_, or-false}
+use mathlib.Core.List.{List, [], _∷_, map}
+use Prim.Native.Nat.{ℕ, suc, _+_}
 use Prim.Native.Char.{code}
 use native.Mathlib.Omega.{arith}
-use lib.Dec.{T, eqb, eqb→eq, ltb, leb}
-use lib.ListN.{length, getD, take, drop, length-drop}
+use lib.Dec.{eqb, eqb→eq}
+use lib.ListN.{take, drop}
 use Rattle.meaning.specs.declared.Settings.{Settings}
-use Rattle.meaning.specs.Bytes.{if_then_else_, _!_, has, same, ascii, isMark, quote, dquote, backslash, within, inName, span, part}
-use Rattle.meaning.specs.Walk.{Step, keep, give, stop, Trace, ended, stopped, kept, gave, after, walk, size, stops, plain}
-use Rattle.meaning.specs.Steps.{closingStep, gap, trim}
+use Rattle.meaning.specs.Bytes.{if_then_else_, _!_, has, same, ascii, isMark, quote, backslash, within}
+use Rattle.meaning.specs.Walk.{walk, size, stops}
+use Rattle.meaning.specs.Steps.{closingStep, trim}
 use Rattle.meaning.specs.Cutting.{opening, named, hides, segment, off}
-use Rattle.meaning.specs.Spelling.{Spelling, unicode, unspelt, isUnicode, unicodeSpelling, closedUnicode, unicodeBy, chosen, argument, upper}
-use Rattle.meaning.specs.Reading.{Answer, refused, Value, means, fails, valueOf, answer, read-as}
-use Rattle.laws.proofs.Tests.{T→true, true→T, if-suc, and-left, and-right}
-use Rattle.laws.proofs.Gaps.{AllP, has-all}
+use Rattle.meaning.specs.Spelling.{isUnicode, unicodeSpelling, unicodeBy, chosen, upper}
+use Rattle.meaning.specs.Reading.{means, valueOf, read-as}
+use Rattle.laws.proofs.Tests.{true→T, if-suc, and-left, and-right}
+use Rattle.laws.proofs.Gaps.{has-all}
 use Rattle.laws.proofs.Openings.{segment-of}
 use Rattle.laws.proofs.Joining.{fails≢means}
 

@@ -1,20 +1,20 @@
--- U& with the setting on: all but a text with a UESCAPE clause. Assumes nothing.
+-- The same with the setting on, of a U& text without a UESCAPE clause; one with a clause is a hypothesis here. Assumes nothing.
 use mathlib.Core.Path.{_≡_, refl, ap, sym, _∙_, subst}
-use mathlib.Core.Bool.{Bool, true, false, _&&_, _||_, not}
-use mathlib.Core.List.{List, [], _∷_, _++_, map}
-use Prim.Native.Nat.{ℕ, zero, suc, _+_, _-_, _*_, _≤_, _<_}
-use native.Mathlib.Nat.{zero-add, add-zero}
+use mathlib.Core.Bool.{Bool, true, false}
+use mathlib.Core.List.{List, [], _∷_, _++_}
+use Prim.Native.Nat.{ℕ, suc, _+_, _-_, _<_}
+use native.Mathlib.Nat.{zero-add}
 use native.Mathlib.Omega.{arith}
-use lib.Dec.{T, eqb, eqb→eq, ltb, leb}
-use lib.ListN.{length, getD, take, drop, length-drop, length-take, take-append-drop}
-use Rattle.meaning.specs.Bytes.{if_then_else_, _!_, has, same, ascii, isMark, quote, backslash, part}
-use Rattle.meaning.specs.Walk.{Step, keep, give, stop, Trace, ended, stopped, kept, gave, after, walk, size, stops, plain}
-use Rattle.meaning.specs.Steps.{closingStep, doubled, unicodeStep, gap, trim}
-use Rattle.meaning.specs.Cutting.{complete, opening, segment, cut, on}
-use Rattle.meaning.specs.Spelling.{Spelling, unicode, unspelt, isUnicode, unicodeSpelling, closedUnicode, unicodeBy, chosen, argument, upper}
-use Rattle.meaning.specs.Reading.{read, written, meaning, Answer, refused, Value, means, fails, valueOf, answer, read-as}
-use Rattle.laws.proofs.Tests.{T→true, true→T}
-use Rattle.laws.proofs.Walks.{walk-append, graft, size-graft, exact-ends, stop-at, stops-inside}
+use lib.Dec.{eqb, eqb→eq}
+use lib.ListN.{length, take, drop, length-take, take-append-drop}
+use Rattle.meaning.specs.Bytes.{if_then_else_, _!_, isMark, quote, backslash, part}
+use Rattle.meaning.specs.Walk.{Step, keep, give, stop, Trace, ended, stopped, after, walk, size, stops}
+use Rattle.meaning.specs.Steps.{closingStep, doubled, unicodeStep, trim}
+use Rattle.meaning.specs.Cutting.{complete, cut, on}
+use Rattle.meaning.specs.Spelling.{isUnicode, unicodeSpelling, closedUnicode, unicodeBy, chosen}
+use Rattle.meaning.specs.Reading.{read, written, meaning, means, valueOf, answer, read-as}
+use Rattle.laws.proofs.Tests.{true→T}
+use Rattle.laws.proofs.Walks.{walk-append, size-graft, exact-ends, stop-at, stops-inside}
 use Rattle.laws.proofs.Written.{closing-local}
 use Rattle.laws.proofs.BodyStops.{stops-fails}
 use Rattle.laws.proofs.UnicodePassed.{passes}

@@ -1,18 +1,18 @@
 -- A U& body that reads well by the backslash is passed whole by the search for its mark with the setting on. Assumes nothing.
 use mathlib.Core.Logic.{_⊎_, inl, inr}
 use mathlib.Core.Path.{_≡_, refl, ap, sym, _∙_, subst}
-use mathlib.Core.Bool.{Bool, true, false, _&&_, _||_, not, and-true}
-use mathlib.Core.List.{List, [], _∷_, _++_}
-use Prim.Native.Nat.{ℕ, zero, suc, _+_, _-_, _*_, _%_, _≤_, _<_}
+use mathlib.Core.Bool.{Bool, true, false, _&&_}
+use mathlib.Core.List.{List, [], _∷_}
+use Prim.Native.Nat.{ℕ, zero, suc, _+_}
 use Prim.Native.Char.{code}
 use native.Mathlib.Omega.{arith}
-use lib.Dec.{T, eqb, eqb→eq, ltb}
-use lib.ListN.{length, getD, drop}
-use Rattle.meaning.specs.Bytes.{if_then_else_, _!_, quote, backslash, within, digit, digits, number, starts}
+use lib.Dec.{eqb, eqb→eq}
+use lib.ListN.{length, drop}
+use Rattle.meaning.specs.Bytes.{if_then_else_, _!_, quote, backslash, within, digits, number, starts}
 use Rattle.meaning.specs.Chars.{encode}
-use Rattle.meaning.specs.Walk.{Step, keep, give, stop, Trace, ended, stopped, kept, gave, after, walk, size, stops}
+use Rattle.meaning.specs.Walk.{Step, keep, give, stop, after, walk, size, stops}
 use Rattle.meaning.specs.Steps.{mayEscape, closingStep, doubled, scalarBy, uescaped, lowHalf, pair, unicodeStep}
-use Rattle.laws.proofs.Tests.{T→true, true→T, eqb-sym, and-left, and-right}
+use Rattle.laws.proofs.Tests.{true→T, eqb-sym, and-left}
 use Rattle.laws.proofs.EscapeStops.{Tame, Ahead, digits-tame}
 
 abbrev pub Pass : ℕ → ℕ → List ℕ → Type 0
@@ -60,9 +60,6 @@ abbrev Passed : Step → List ℕ → Type 0
 Passed keep u = ⊥
 Passed (give k out) u = Pass 1 k u
 Passed stop u = Unit {0}
-
-esc : List ℕ
-esc = backslash ∷ []
 
 scalar-passed : (w k : ℕ) (t u : List ℕ) → (Hex w t → Pass 1 k u) → Passed (scalarBy w k t) u
 unfolding scalarBy Hex

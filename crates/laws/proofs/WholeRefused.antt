@@ -1,25 +1,23 @@
--- An accepted text that cuts completely is one segment, or a quote mark follows its first. Assumes nothing.
-use mathlib.Core.Logic.{_⊎_, inl, inr}
-use mathlib.Core.Path.{_≡_, refl, ap, sym, _∙_, subst}
-use mathlib.Core.Bool.{Bool, true, false, _&&_, _||_, not, and-false, or-false, or-true}
-use mathlib.Core.List.{List, [], _∷_, _++_, map}
-use Prim.Native.Nat.{ℕ, zero, suc, _+_, _-_, _*_, _≤_, _<_}
+-- A text whose first segment is not all of it is refused when it is read as one: every spelling but U&, of which it is a hypothesis here. Assumes nothing.
+use mathlib.Core.Path.{_≡_, refl, sym, subst}
+use mathlib.Core.Bool.{Bool, true, false, _&&_, or-false, or-true}
+use mathlib.Core.List.{List, _∷_}
+use Prim.Native.Nat.{ℕ, zero, suc, _+_, _-_, _<_}
 use Prim.Native.Char.{code}
-use native.Mathlib.Nat.{add-zero, zero-add}
 use native.Mathlib.Omega.{arith}
-use lib.Dec.{T, eqb, eqb→eq, ltb, leb}
-use lib.ListN.{length, getD, take, drop, length-drop}
+use lib.Dec.{T, eqb, eqb→eq, ltb}
+use lib.ListN.{length, drop}
 use Rattle.meaning.specs.declared.Settings.{Settings}
-use Rattle.meaning.specs.Bytes.{if_then_else_, _!_, has, same, ascii, isMark, quote, dquote, backslash, within, inName, span, part}
+use Rattle.meaning.specs.Bytes.{if_then_else_, _!_, has, ascii, isMark, quote, dquote, backslash, part}
 use Rattle.meaning.specs.Chars.{fresh}
-use Rattle.meaning.specs.Walk.{Step, keep, give, stop, Trace, ended, stopped, kept, gave, after, walk, size, stops, plain}
-use Rattle.meaning.specs.Steps.{closingStep, standardStep, escapeStep, checked, unicodeStep, gap, trim}
-use Rattle.meaning.specs.Cutting.{opening, named, hides, segment}
-use Rattle.meaning.specs.Spelling.{Spelling, standard, escape, unicode, dollar, unspelt, spelling, encloses, isUnicode, unicodeSpelling, closedUnicode, unicodeBy, chosen, argument, upper, delimiter, dollarBy, tagLength}
-use Rattle.meaning.specs.Reading.{Answer, borrowed, written, refused, Value, means, fails, valueOf, answer, one, read-as}
-use Rattle.laws.proofs.Tests.{T→true, true→T, if-suc, and-left, and-right}
-use Rattle.laws.proofs.Gaps.{AllP, has-all}
-use Rattle.laws.proofs.Openings.{opening-mark, apart-of-mark, mark-0, segment-of, segment-fits}
+use Rattle.meaning.specs.Walk.{walk, size, stops}
+use Rattle.meaning.specs.Steps.{closingStep, standardStep, escapeStep, checked}
+use Rattle.meaning.specs.Cutting.{opening, hides, segment}
+use Rattle.meaning.specs.Spelling.{standard, escape, spelling, encloses, isUnicode, unicodeSpelling, delimiter, dollarBy}
+use Rattle.meaning.specs.Reading.{refused, means, valueOf, answer, one, read-as}
+use Rattle.laws.proofs.Tests.{true→T, and-left, and-right}
+use Rattle.laws.proofs.Gaps.{has-all}
+use Rattle.laws.proofs.Openings.{opening-mark, apart-of-mark, mark-0, segment-of}
 use Rattle.laws.proofs.BodyStops.{standard-stops, stops-fails, body-stops}
 use Rattle.laws.proofs.EscapeStops.{escape-stops, checked-stops}
 use Rattle.laws.proofs.Joining.{fails≢means}

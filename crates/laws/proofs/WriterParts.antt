@@ -251,13 +251,6 @@ writable-append false p q h = go (has 0 p) (has 0 q) (rw (has-append 0 p q) at h
     go true y h = absurd (false≢true h)
     go false y h = (refl, h)
 
-pub concat-writable : (bs : Bool) (ps : List (List ℕ)) → writable bs (concat ps) ≡ true → Every (Writable bs) ps
-concat-writable bs [] h = tt
-concat-writable bs (p ∷ ps) h = let r = writable-append bs p (concat ps) h in (r .0, concat-writable bs ps (r .1))
-
-pub partsOf-writable : (bs : Bool) (size : PartSize) (v : List ℕ) → Writable bs v → Every (Writable bs) (partsOf size v)
-partsOf-writable bs size v h = concat-writable bs (partsOf size v) (rw (partsOf-concat size v) h)
-
 pub nul-writable : (σ : Settings) (v : List ℕ) → unwritableNul σ v ≡ false → Writable (σ .backslash) v
 unfolding unwritableNul
 nul-writable σ v h = go (σ .backslash) h

@@ -2,19 +2,20 @@
 use mathlib.Core.Path.{_≡_, refl, ap, sym, _∙_}
 use mathlib.Core.Bool.{Bool, true, false, _&&_, _||_}
 use mathlib.Core.List.{List, [], _∷_, _++_, append-nil, append-assoc}
-use Prim.Native.Nat.{ℕ, _+_, _*_, _≤_}
+use Prim.Native.Nat.{ℕ, _+_, _*_, _≤_, _<_}
 use native.Mathlib.Omega.{arith}
 use lib.Dec.{eqb}
 use lib.ListN.{length, length-append}
 use Rattle.meaning.specs.declared.Settings.{Settings}
 use Rattle.meaning.specs.declared.PartSize.{PartSize}
+use Rattle.meaning.specs.declared.PartSize.the-variants.{Whole, AtMost}
 use Rattle.meaning.specs.Bytes.{if_then_else_, within, quote, backslash}
 use Rattle.meaning.specs.Chars.{lead, isSpace}
 use Rattle.meaning.specs.Writer.{spell, spells, literal, between, literals, partsOf, writtenText}
 use Rattle.laws.proofs.Joining.{White}
 use Rattle.laws.proofs.JoiningLaw.{Accepts}
 use Rattle.laws.proofs.Parts.{Next, chain, all-of}
-use Rattle.laws.proofs.WriterParts.{concat, Every, Valid, Writable, Five, Parted, partsOf-parts, nul-writable, Accepted, limit-length, limit-size}
+use Rattle.laws.proofs.WriterParts.{concat, Every, Valid, Writable, Five, Parted, partsFrom-fills, partsOf-concat, partsOf-parts, nul-writable, Accepted, limit-length, limit-size}
 use Rattle.laws.proofs.WrittenParts.{Each, chain-accepts}
 
 -- THE TEXT. One space is white space, so the parts are a chain
@@ -111,6 +112,22 @@ literals-length bs p (q ∷ ps) =
       literals-length bs q ps,
       costs-append bs p (concat (q ∷ ps)),
     )
+
+-- of a value, at every part size
+partsOf-some : (size : PartSize) (v : List ℕ) → 0 < length (partsOf size v)
+partsOf-some Whole v = omega arith
+partsOf-some (AtMost w) v = rw (partsFrom-fills w w v .are) (omega arith)
+
+pub writtenText-length : (σ : Settings) (size : PartSize) (v : List ℕ)
+    → length (writtenText σ size v) + 1 ≡ costs (σ .backslash) v + 3 * length (partsOf size v)
+unfolding writtenText
+writtenText-length σ size v = go (partsOf size v) (partsOf-some size v) (partsOf-concat size v)
+  where
+    go : (ps : List (List ℕ)) → 0 < length ps → concat ps ≡ v → length (literals (σ .backslash) ps) + 1 ≡ costs (σ .backslash) v + 3 * length ps
+    go [] h e = absurd (omega arith)
+    go (p ∷ ps) h e =
+        let l : length (literals (σ .backslash) (p ∷ ps)) ≡ costs (σ .backslash) v + 2 + 3 * length ps = rw e at (literals-length (σ .backslash) p ps) in
+        omega arith
 
 five-behind : (q : List ℕ) (ps : List (List ℕ)) → Five (q ∷ ps) → Five ps
 five-behind q [] f = tt

@@ -2,23 +2,23 @@
 use mathlib.Core.Path.{_≡_, refl, ap, sym, _∙_, subst}
 use mathlib.Core.Bool.{Bool, true, false, _&&_, _||_, not, or-false, and-false}
 use mathlib.Core.List.{List, [], _∷_, _++_, append-assoc, append-nil}
-use Prim.Native.Nat.{ℕ, zero, suc, _+_, _-_, _*_, _≤_, _<_}
-use native.Mathlib.Nat.{add-zero, zero-add}
+use Prim.Native.Nat.{ℕ, _-_}
+use native.Mathlib.Nat.{zero-add}
 use native.Mathlib.Omega.{arith}
-use lib.Dec.{T, eqb, eqb→eq, ltb, leb, le→leb, lt→ltb}
-use lib.ListN.{length, getD, take, drop, length-append}
+use lib.Dec.{T, eqb, eqb→eq, ltb}
+use lib.ListN.{length, length-append}
 use lib.Seq.{drop-length}
 use Rattle.meaning.specs.declared.Settings.{Settings}
-use Rattle.meaning.specs.Bytes.{if_then_else_, _!_, has, quote, dquote, backslash, isMark, part}
-use Rattle.meaning.specs.Walk.{Step, keep, give, stop, Trace, ended, stopped, kept, gave, after, walk, size, stops, plain, value}
-use Rattle.meaning.specs.Steps.{standardStep, closingStep, doubled, mysql}
+use Rattle.meaning.specs.Bytes.{if_then_else_, _!_, has, quote, backslash, isMark, part}
+use Rattle.meaning.specs.Walk.{Step, keep, give, stop, stopped, walk, size, stops, plain, value}
+use Rattle.meaning.specs.Steps.{standardStep, closingStep, doubled}
 use Rattle.meaning.specs.Cutting.{segment, continues}
-use Rattle.meaning.specs.Spelling.{spelling, standard, encloses}
-use Rattle.meaning.specs.Reading.{Answer, borrowed, written, refused, Value, means, fails, valueOf, answer, one, read, read-as}
+use Rattle.meaning.specs.Spelling.{spelling}
+use Rattle.meaning.specs.Reading.{means, valueOf, answer, one, read}
 use Rattle.meaning.specs.Writer.{spell, spells, literal}
-use Rattle.laws.proofs.Tests.{T→true, true→T, eqb-same, eqb-sym}
+use Rattle.laws.proofs.Tests.{true→T, eqb-sym}
 use Rattle.laws.proofs.Enclosed.{has-append, encloses-body, part-body}
-use Rattle.laws.proofs.Walks.{walk-keep, walk-give, walk-stop, walk-plain, walk-append, LocalIn, Inside, Exact, exact-append, exact-ends, graft, size-graft, stops-graft}
+use Rattle.laws.proofs.Walks.{walk-plain, walk-append, LocalIn, Inside, Exact, exact-append, exact-ends, graft, size-graft, stops-graft}
 
 -- READING. The body means the value, and nothing stops
 pub spells-value : (bs : Bool) (v : List ℕ) → value (walk (standardStep bs quote) 0 (spells bs v)) ≡ v

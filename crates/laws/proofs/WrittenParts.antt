@@ -1,26 +1,22 @@
 -- Demand 3 of the order, its second half: "A value our writer accepts, cut between any characters, each part written and the parts joined so at that
 -- setting, reads back whole under the same condition." Assumes nothing.
-use mathlib.Core.Path.{_≡_, refl, sym, _∙_}
-use mathlib.Core.Bool.{Bool, true, false, _&&_, not, false≢true}
+use mathlib.Core.Path.{_≡_, refl}
+use mathlib.Core.Bool.{Bool, true, false, _&&_, not}
 use mathlib.Core.List.{List, [], _∷_, _++_}
-use Prim.Native.Nat.{ℕ, zero, suc, _+_, _-_, _*_, _≤_, _<_}
-use native.Mathlib.Nat.{zero-add}
+use Prim.Native.Nat.{ℕ, _≤_, _<_}
 use native.Mathlib.Omega.{arith}
-use lib.ListN.{length, take, length-append}
+use lib.ListN.{length, length-append}
 use lib.Seq.{getD-append-seam}
 use borrow.Author.Tests.{lt-ltb, le-ltb, not-true}
 use Rattle.meaning.specs.declared.Settings.{Settings}
 use Rattle.meaning.specs.declared.PartSize.the-variants.{Whole}
 use Rattle.meaning.specs.declared.Literal.{Literal}
-use Rattle.meaning.specs.Bytes.{if_then_else_, _!_, within, has}
-use Rattle.meaning.specs.Chars.{Due, due, broken, fresh, push, pushes, whole, utf8, lead, base, gather, isSpace}
-use Rattle.meaning.specs.Walk.{after, walk, size}
-use Rattle.meaning.specs.Steps.{spaceStep, spaceBy}
+use Rattle.meaning.specs.Bytes.{_!_, within, has}
+use Rattle.meaning.specs.Chars.{utf8}
 use Rattle.meaning.specs.Writer.{literal, overLimit, unwritableNul, writtenText, writes, writeQuestion}
 use Rattle.meaning.specs.Questions.{cutsCharacter, isString, stringQuestion}
-use Rattle.laws.proofs.Utf8.{whole-next, utf8-join}
+use Rattle.laws.proofs.Utf8.{utf8-join}
 use Rattle.laws.proofs.Sequences.{utf8-split}
-use Rattle.laws.proofs.Gaps.{no-space}
 use Rattle.laws.proofs.WhiteUtf8.{white-utf8}
 use Rattle.laws.proofs.Asked.{Spans}
 use Rattle.laws.proofs.JoiningLaw.{Accepts}

@@ -1,17 +1,16 @@
 -- What the writer writes is UTF-8 where the value is: so reading it back meets neither 4 nor 6. Assumes nothing.
-use mathlib.Core.Path.{_≡_, refl, ap, sym, _∙_, subst}
-use mathlib.Core.Bool.{Bool, true, false, _&&_, _||_, not}
+use mathlib.Core.Path.{_≡_, refl, ap, sym, _∙_}
+use mathlib.Core.Bool.{Bool, true, false, _&&_}
 use mathlib.Core.List.{List, [], _∷_, _++_}
-use Prim.Native.Nat.{ℕ, zero, suc, _+_, _≤_, _<_}
+use Prim.Native.Nat.{ℕ, _<_}
 use native.Mathlib.Omega.{arith}
-use lib.Dec.{T, eqb, eqb→eq, leb, leb→le}
+use lib.Dec.{eqb, eqb→eq}
 use Rattle.meaning.specs.Bytes.{if_then_else_, within, quote, backslash}
-use Rattle.meaning.specs.Chars.{Due, due, broken, fresh, push, pushes, whole, utf8, lead, leadIn, leads}
+use Rattle.meaning.specs.Chars.{Due, broken, fresh, push, pushes, whole, utf8, lead}
 use Rattle.meaning.specs.Writer.{spell, spells, literal}
 use Rattle.laws.proofs.Tests.{true→T}
 use Rattle.laws.proofs.Utf8.{pushes-append, utf8-append, Good, push-good, ascii-push, fresh-good}
-use borrow.Author.Tests.{lt-leb}
-use Rattle.laws.proofs.Utf8.{low-lead, Good, push-good, ascii-push, fresh-good}
+use Rattle.laws.proofs.Utf8.{low-lead}
 
 pair-push : (d : Due) (a c b : ℕ) → Good d → a < 0x80 → c < 0x80 → b < 0x80 → push (push d a) c ≡ push d b
 pair-push d a c b g ha hc hb =

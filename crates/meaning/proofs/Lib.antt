@@ -5,3 +5,5 @@ pub mod Oracle3
 pub mod Oracle4
 pub mod Oracle5
 pub mod Clarified
+pub mod Further
+pub mod Unseen

@@ -1,16 +1,14 @@
 -- The rows of the tables of this folder: a question, what it is asked of, and the answer that must come out. Each table is one
 -- computation, `T (all rows)`. Assumes nothing.
-use mathlib.Core.Bool.{Bool, true, false, _&&_, _||_, not}
+use mathlib.Core.Bool.{Bool, true, false, _&&_, not}
 use mathlib.Core.List.{List, [], _∷_, _++_}
-use Prim.Native.Nat.{ℕ, zero, suc, _+_, _-_}
+use Prim.Native.Nat.{ℕ, suc, _+_, _-_}
 use Prim.Native.String.{String}
 use lib.Dec.{eqb}
 use lib.ListN.{length, replicate}
 use lib.IntN.{ℤ, pos, negsuc}
-use Rattle.meaning.specs.declared.Settings.{Settings}
 use Rattle.meaning.specs.declared.PartSize.{PartSize}
 use Rattle.meaning.specs.declared.RadixPrefix.{RadixPrefix}
-use Rattle.meaning.specs.declared.LiteralKind.{LiteralKind}
 use Rattle.meaning.specs.declared.Literal.{Literal}
 use Rattle.meaning.specs.declared.Text.{Text}
 use Rattle.meaning.specs.declared.Range.{Range}
@@ -18,18 +16,17 @@ use Rattle.meaning.specs.declared.Charset.{Charset}
 use Rattle.meaning.specs.declared.Integer.{Integer}
 use Rattle.meaning.specs.declared.Integer.the-variants as Integer′
 use Rattle.meaning.specs.declared.Truth.{Truth}
-use Rattle.meaning.specs.declared.Truth.the-variants as Truth′
 use Rattle.meaning.specs.declared.Nullness.{Nullness}
 use Rattle.meaning.specs.declared.Nullness.the-variants as Nullness′
 use Rattle.meaning.specs.declared.Identifier.{Identifier}
 use Rattle.meaning.specs.declared.Identifier.the-variants as Identifier′
 use Rattle.meaning.specs.declared.Writing.{Writing}
 use Rattle.meaning.specs.declared.Writing.the-variants as Writing′
-use Rattle.meaning.specs.Bytes.{if_then_else_, ascii, same}
-use Rattle.meaning.specs.Answers.{Outcome, kindCode, payload, refusalNumber, refusalValues, textNumber, textValues, rangeNumber, rangeValues, charsetNumber, charsetValues, identifierNumber, identifierValues, writingNumber, writingValues, partShown, shown, rangeShown, charsetShown}
+use Rattle.meaning.specs.Bytes.{ascii, same}
+use Rattle.meaning.specs.Answers.{Outcome, kindCode, payload, refusalValues, textNumber, textValues, rangeNumber, rangeValues, charsetNumber, charsetValues, integerNumber, integerValues, truthNumber, truthValues, nullnessNumber, nullnessValues, identifierNumber, identifierValues, writingNumber, writingValues, partShown, shown, rangeShown, charsetShown}
 use Rattle.meaning.specs.Numbers.{radixPrefix}
 use Rattle.meaning.specs.Helpers.{uescapeLegal, escapeValid, unicodeValid, embedsNul, isUnicodeIdent}
-use Rattle.meaning.specs.Questions.{stringQuestion, plainQuestion, decimalQuestion, bitsQuestion, temporalQuestion, sourceQuestion, moneyQuestion, charsetQuestion, i64Question, boolQuestion, nullQuestion, isNull, identifierQuestion}
+use Rattle.meaning.specs.Questions.{stringQuestion, plainQuestion, decimalQuestion, bitsQuestion, temporalQuestion, sourceQuestion, moneyQuestion, charsetQuestion, i64Question, boolQuestion, nullQuestion, identifierQuestion}
 use Rattle.meaning.specs.Writer.{writeQuestion}
 use Rattle.meaning.specs.Records.{kindOf, output}
 
@@ -106,18 +103,23 @@ rangeSeen source out a = record { values = rangeNumber a ∷ rangeValues a; byte
 abbrev pub charsetSeen : List ℕ → List ℕ → Charset → Seen
 charsetSeen source out a = record { values = charsetNumber a ∷ charsetValues a; bytes = charsetShown source a; buffer = out }
 
-abbrev pub integerValues : Integer → List ℕ
-integerValues (Integer′.Value (pos n)) = 0 ∷ 0 ∷ n ∷ []
-integerValues (Integer′.Value (negsuc n)) = 0 ∷ 1 ∷ suc n ∷ []
-integerValues (Integer′.Refused r) = refusalNumber r ∷ refusalValues r
+-- an integer's sign, 1 for a minus, and its magnitude
+abbrev pub signAndSize : List ℤ → List ℕ
+signAndSize [] = []
+signAndSize (pos n ∷ zs) = 0 ∷ n ∷ signAndSize zs
+signAndSize (negsuc n ∷ zs) = 1 ∷ suc n ∷ signAndSize zs
 
-abbrev pub truthValues : Truth → List ℕ
-truthValues (Truth′.Value b) = 0 ∷ yes-no b ∷ []
-truthValues (Truth′.Refused r) = refusalNumber r ∷ refusalValues r
+abbrev pub integerTold : Integer → List ℕ
+integerTold (Integer′.Value z) = integerNumber (Integer′.Value z) ∷ signAndSize (integerValues (Integer′.Value z))
+integerTold (Integer′.Refused r) = integerNumber (Integer′.Refused r) ∷ refusalValues r
 
-abbrev pub nullnessValues : Nullness → List ℕ
-nullnessValues Nullness′.IsNull = 0 ∷ 1 ∷ []
-nullnessValues (Nullness′.Refused r) = refusalNumber r ∷ refusalValues r
+abbrev pub truthTold : Truth → List ℕ
+truthTold a = truthNumber a ∷ truthValues a
+
+-- that it is null is told as a yes
+abbrev pub nullnessTold : Nullness → List ℕ
+nullnessTold Nullness′.IsNull = nullnessNumber Nullness′.IsNull ∷ 1 ∷ nullnessValues Nullness′.IsNull
+nullnessTold (Nullness′.Refused r) = nullnessNumber (Nullness′.Refused r) ∷ nullnessValues (Nullness′.Refused r)
 
 abbrev pub valuesSeen : List ℕ → List ℕ → Seen
 valuesSeen out vs = record { values = vs; bytes = []; buffer = out }
@@ -132,9 +134,9 @@ seen temporal-text l t out = textSeen t (temporalQuestion l t out)
 seen money-text l t out = rangeSeen t out (moneyQuestion l t)
 seen source-text l t out = rangeSeen t out (sourceQuestion l t)
 seen charset l t out = charsetSeen t out (charsetQuestion l t)
-seen i64 l t out = valuesSeen out (integerValues (i64Question l t))
-seen bool l t out = valuesSeen out (truthValues (boolQuestion (l .kind)))
-seen null l t out = valuesSeen out (nullnessValues (nullQuestion (l .kind)))
+seen i64 l t out = valuesSeen out (integerTold (i64Question l t))
+seen bool l t out = valuesSeen out (truthTold (boolQuestion (l .kind)))
+seen null l t out = valuesSeen out (nullnessTold (nullQuestion (l .kind)))
 
 abbrev pub helperSays : Helper → List ℕ → Bool
 helperSays uescape-legal t = uescapeLegal t

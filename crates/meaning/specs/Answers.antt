@@ -1,11 +1,12 @@
 -- [01 Numbers an answer can carry] The number and the values that each case of each answer stands for; what is shown of a text; and
 -- what every contract says. Assumes nothing.
-use mathlib.Core.Bool.{Bool, true, false, _&&_}
+use mathlib.Core.Bool.{true, false, _&&_}
 use mathlib.Core.Path.{_≡_}
-use mathlib.Core.List.{List, [], _∷_, _++_}
-use Prim.Native.Nat.{ℕ, zero, suc}
+use mathlib.Core.List.{List, [], _∷_, _++_, map}
+use Prim.Native.Nat.{ℕ}
 use lib.Dec.{leb}
-use lib.ListN.{length, take, drop}
+use lib.ListN.{length, drop}
+use lib.IntN.{ℤ, pos}
 use Rattle.meaning.specs.declared.TimeZone.{TimeZone}
 use Rattle.meaning.specs.declared.TimeZone.the-variants as Zone
 use Rattle.meaning.specs.declared.IntervalFields.{IntervalFields}
@@ -14,7 +15,6 @@ use Rattle.meaning.specs.declared.Fields.{Fields}
 use Rattle.meaning.specs.declared.Fields.the-variants as Fields′
 use Rattle.meaning.specs.declared.Precision.{Precision}
 use Rattle.meaning.specs.declared.Precision.the-variants as Precision′
-use Rattle.meaning.specs.declared.BitStringRadix.{BitStringRadix}
 use Rattle.meaning.specs.declared.BitStringRadix.the-variants.{Binary, Hex}
 use Rattle.meaning.specs.declared.LiteralKind.{LiteralKind}
 use Rattle.meaning.specs.declared.LiteralKind.the-variants as Kind
@@ -150,7 +150,7 @@ refusalValues (InvalidBitString s) = spanValues s
 refusalValues (InvalidMoney s) = spanValues s
 refusalValues (NoRoom n) = n ∷ []
 
--- EVERY ANSWER's number, and the values of those that hold numbers
+-- EVERY ANSWER's number, and its values
 abbrev pub textNumber : Text → ℕ
 textNumber (Text′.Borrowed f u) = 0
 textNumber (Text′.Written n) = 0
@@ -180,18 +180,32 @@ charsetValues (Charset′.Named f u) = f ∷ u ∷ []
 charsetValues Charset′.Unnamed = []
 charsetValues (Charset′.Refused r) = refusalValues r
 
--- an integer's value is a ℤ and its own
 abbrev pub integerNumber : Integer → ℕ
 integerNumber (Integer′.Value z) = 0
 integerNumber (Integer′.Refused r) = refusalNumber r
+
+-- the integer; and a refusal's values, none of which is below 0
+abbrev pub integerValues : Integer → List ℤ
+integerValues (Integer′.Value z) = z ∷ []
+integerValues (Integer′.Refused r) = map pos (refusalValues r)
 
 abbrev pub truthNumber : Truth → ℕ
 truthNumber (Truth′.Value b) = 0
 truthNumber (Truth′.Refused r) = refusalNumber r
 
+-- 1 for true, 0 for false
+abbrev pub truthValues : Truth → List ℕ
+truthValues (Truth′.Value true) = 1 ∷ []
+truthValues (Truth′.Value false) = 0 ∷ []
+truthValues (Truth′.Refused r) = refusalValues r
+
 abbrev pub nullnessNumber : Nullness → ℕ
 nullnessNumber Nullness′.IsNull = 0
 nullnessNumber (Nullness′.Refused r) = refusalNumber r
+
+abbrev pub nullnessValues : Nullness → List ℕ
+nullnessValues Nullness′.IsNull = []
+nullnessValues (Nullness′.Refused r) = refusalValues r
 
 -- "Where a call has no literal, 4 and 6 return the number alone"
 abbrev pub identifierNumber : Identifier → ℕ

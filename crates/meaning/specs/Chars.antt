@@ -1,9 +1,8 @@
 -- Characters in UTF-8 (RFC 3629), and white space (Unicode White_Space). Assumes nothing.
 use mathlib.Core.Bool.{Bool, true, false, _&&_, _||_, not}
-use mathlib.Core.List.{List, [], _∷_, _++_}
+use mathlib.Core.List.{List, [], _∷_}
 use Prim.Native.Nat.{ℕ, zero, suc, _+_, _-_, _*_, _/_, _%_, _^_}
-use lib.Dec.{eqb, leb, ltb}
-use lib.ListN.{length, getD}
+use lib.Dec.{leb, ltb}
 use Rattle.meaning.specs.Bytes.{if_then_else_, within}
 
 -- What may come next: n more bytes of a character, the first of them from lo to hi and the others from 80 to BF; at n = 0 a

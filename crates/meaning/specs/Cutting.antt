@@ -1,10 +1,10 @@
 -- [01 Cutting into segments] Openings, closing marks, segments, and texts that segments cover. Assumes nothing.
 use mathlib.Core.Bool.{Bool, true, false, _&&_, _||_, not}
-use mathlib.Core.List.{List, [], _∷_, _++_}
-use Prim.Native.Nat.{ℕ, zero, suc, _+_, _-_}
+use mathlib.Core.List.{List, [], _∷_}
+use Prim.Native.Nat.{ℕ, zero, suc, _+_}
 use Prim.Native.Char.{code}
 use lib.Dec.{eqb, ltb}
-use lib.ListN.{length, take, drop}
+use lib.ListN.{take, drop}
 use Rattle.meaning.specs.declared.Settings.{Settings}
 use Rattle.meaning.specs.Bytes.{if_then_else_, _!_, ascii, has, same, span, quote, isMark, inName}
 use Rattle.meaning.specs.Walk.{Step, give, stop, Trace, ended, stopped, kept, gave, walk, size, stops}

@@ -1,5 +1,4 @@
 -- [01 Numbers] "two 64-bit halves whose negation wraps": a signed number of 128 bits in two halves, and its text. Assumes nothing.
-use mathlib.Core.Bool.{Bool, true, false}
 use mathlib.Core.List.{List, _∷_}
 use Prim.Native.Nat.{ℕ, suc, _+_, _*_, _-_, _%_, _^_}
 use Prim.Native.Char.{code}

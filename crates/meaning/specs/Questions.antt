@@ -1,7 +1,7 @@
 -- [01 Numbers an answer can carry] Every question as one function from literal, source, setting and buffer to answer and final buffer.
 -- "Reading tests 1, 2, 3, 4, then 5 to 8, then 9." Assumes nothing.
-use mathlib.Core.Bool.{Bool, true, false, _&&_, _||_, not}
-use mathlib.Core.List.{List, [], _∷_, _++_}
+use mathlib.Core.Bool.{Bool, true, false, _&&_, _||_}
+use mathlib.Core.List.{List}
 use Prim.Native.Nat.{ℕ, zero, suc, _+_}
 use lib.Dec.{eqb, leb, ltb}
 use lib.ListN.{length}

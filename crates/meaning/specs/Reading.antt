@@ -1,8 +1,7 @@
 -- [01 Cutting, String reading; One segment] What a string's text means at a setting, segment by segment. A refusal keeps its place.
 -- Assumes nothing.
-use mathlib.Core.Bool.{Bool, true, false, _&&_, _||_, not}
-use mathlib.Core.List.{List, [], _∷_, _++_}
-use Prim.Native.Nat.{ℕ, zero, suc, _+_}
+use mathlib.Core.List.{List, [], _++_}
+use Prim.Native.Nat.{ℕ, suc, _+_}
 use Rattle.meaning.specs.declared.Settings.{Settings}
 use Rattle.meaning.specs.Bytes.{if_then_else_, part, has, quote}
 use Rattle.meaning.specs.Chars.{fresh}

@@ -1,5 +1,5 @@
 -- [01 Record program litrec] A record's line, and all that the program prints. Assumes nothing.
-use mathlib.Core.Bool.{Bool, true, false, _&&_, _||_, not}
+use mathlib.Core.Bool.{Bool, true, false, _&&_}
 use mathlib.Core.List.{List, [], _∷_, _++_}
 use Prim.Native.Nat.{ℕ, zero, suc, _+_, _-_, _/_, _%_}
 use Prim.Native.Char.{code}
@@ -13,7 +13,6 @@ use Rattle.meaning.specs.declared.BitStringRadix.the-variants.{Binary, H
 use Rattle.meaning.specs.declared.LiteralKind.{LiteralKind}
 use Rattle.meaning.specs.declared.LiteralKind.the-variants as Kind
 use Rattle.meaning.specs.declared.Literal.{Literal}
-use Rattle.meaning.specs.declared.Refusal.{Refusal}
 use Rattle.meaning.specs.declared.Text.{Text}
 use Rattle.meaning.specs.declared.Text.the-variants as Text′
 use Rattle.meaning.specs.declared.Range.{Range}

@@ -1,13 +1,13 @@
 -- What may stand at one place of a body: the three escape languages; and what a search for the closing mark, and for the end of
 -- white space, sees there. Assumes nothing.
-use mathlib.Core.Bool.{Bool, true, false, _&&_, _||_, not}
-use mathlib.Core.List.{List, [], _∷_, _++_}
-use Prim.Native.Nat.{ℕ, zero, suc, pred, _+_, _-_, _*_, _%_}
+use mathlib.Core.Bool.{Bool, _&&_}
+use mathlib.Core.List.{List, [], _∷_}
+use Prim.Native.Nat.{ℕ, zero, suc, _+_, _-_, _*_, _%_}
 use Prim.Native.Char.{code}
-use lib.Dec.{eqb, leb, ltb}
-use lib.ListN.{length, getD, drop}
-use Rattle.meaning.specs.Bytes.{if_then_else_, _!_, ascii, has, starts, within, quote, backslash, digit, digits, number}
-use Rattle.meaning.specs.Chars.{Due, due, broken, fresh, push, pushes, whole, encode, isScalar, space}
+use lib.Dec.{eqb, ltb}
+use lib.ListN.{length, drop}
+use Rattle.meaning.specs.Bytes.{if_then_else_, _!_, ascii, has, starts, within, quote, backslash, digits, number}
+use Rattle.meaning.specs.Chars.{Due, due, broken, push, pushes, whole, encode, isScalar, space}
 use Rattle.meaning.specs.Walk.{Step, keep, give, stop, Trace, ended, stopped, kept, gave, walk, size}
 
 -- A letter's byte by a table, 256 where it has none

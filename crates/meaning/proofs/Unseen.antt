@@ -1,0 +1,166 @@
+-- What the definitions say and no question shows: which texts cut completely; the place that a refusal keeps inside; the numbers and values of
+-- answers that no row reaches; the view of a range that does not fit; where each range of white space ends. Assumes nothing.
+use mathlib.Core.Bool.{Bool, true, false, _&&_}
+use mathlib.Core.List.{List, [], _∷_, map}
+use Prim.Native.Nat.{ℕ}
+use Prim.Native.String.{String}
+use lib.Dec.{T, eqb}
+use lib.IntN.{negsuc}
+use Rattle.meaning.specs.declared.TimeZone.the-variants as Zone
+use Rattle.meaning.specs.declared.IntervalFields.{IntervalFields}
+use Rattle.meaning.specs.declared.IntervalFields.the-variants as Field
+use Rattle.meaning.specs.declared.Fields.the-variants as Fields′
+use Rattle.meaning.specs.declared.Precision.the-variants as Precision′
+use Rattle.meaning.specs.declared.BitStringRadix.the-variants.{Binary, Hex}
+use Rattle.meaning.specs.declared.LiteralKind.{LiteralKind}
+use Rattle.meaning.specs.declared.LiteralKind.the-variants as Kind
+use Rattle.meaning.specs.declared.LiteralExpected.the-variants as Expected
+use Rattle.meaning.specs.declared.Span.{Span}
+use Rattle.meaning.specs.declared.Refusal.{Refusal}
+use Rattle.meaning.specs.declared.Refusal.the-variants.{WrongKind, MissingSource, InvalidSourceRange, NotUtf8, InvalidInteger, InvalidString, InvalidBitString, InvalidMoney, NoRoom}
+use Rattle.meaning.specs.declared.Text.{Text}
+use Rattle.meaning.specs.declared.Text.the-variants as Text′
+use Rattle.meaning.specs.declared.Range.{Range}
+use Rattle.meaning.specs.declared.Range.the-variants as Range′
+use Rattle.meaning.specs.declared.Charset.{Charset}
+use Rattle.meaning.specs.declared.Charset.the-variants as Charset′
+use Rattle.meaning.specs.declared.Integer.the-variants as Integer′
+use Rattle.meaning.specs.declared.Truth.the-variants as Truth′
+use Rattle.meaning.specs.declared.Nullness.the-variants as Nullness′
+use Rattle.meaning.specs.Bytes.{ascii, same, within, isMark, isLetter, isDecimal, inName, startsTag, inTag, digit, allDigits}
+use Rattle.meaning.specs.Chars.{lead, utf8, more, encode, isScalar, isSpace}
+use Rattle.meaning.specs.Steps.{doubled, oneByte, mayEscape, scalarBy, pair, lowHalf, uescaped}
+use Rattle.meaning.specs.Cutting.{named, segment, segmentStep, cut, complete, continues}
+use Rattle.meaning.specs.Spelling.{encloses, argument, upper, isUnicode, unicodeSpelling, delimiter, spelling}
+use Rattle.meaning.specs.Reading.{Answer, borrowed, written, refused, answer, one, read}
+use Rattle.meaning.specs.Kinds.{bitBody, bits, tokenStart, quoteToken, temporalToken, temporal}
+use Rattle.meaning.specs.Answers.{kindCode, payload, fieldCode, refusalNumber, refusalValues, textNumber, rangeNumber, charsetNumber, integerNumber, integerValues, truthNumber, truthValues, nullnessNumber, nullnessValues, partShown, shown, rangeShown, charsetShown}
+use Rattle.meaning.specs.Records.{kindOf}
+use Rattle.meaning.proofs.Rows.{equal, signAndSize}
+
+pub data Fact : Type 0 where
+  -- at a setting a text cuts completely, or it does not
+  cuts : Bool → String → Bool → Fact
+  -- at a setting a string's text, and a temporal text, is refused at a place
+  breaks : Bool → String → ℕ → Fact
+  breaks-inside : String → ℕ → Fact
+  -- a number is a white-space character, or it is none
+  blank : ℕ → Bool → Fact
+  -- a kind has a code, and holds these besides; the code of a record gives a kind of that code
+  kind : LiteralKind → List ℕ → Fact
+  coded : ℕ → Fact
+  -- two lists of numbers are the same
+  gives : List ℕ → List ℕ → Fact
+  -- what is shown of a source and a buffer, and of a source
+  shows : Text → String → String → String → Fact
+  part-shows : Range → String → String → Fact
+  name-shows : Charset → String → String → Fact
+
+abbrev pub refusedAt : ℕ → Answer → Bool
+refusedAt p (borrowed f u) = false
+refusedAt p (written v) = false
+refusedAt p (refused q) = eqb p q
+
+abbrev pub holds : Fact → Bool
+holds (cuts b t x) = equal (complete (record { backslash = b }) (ascii t)) x
+holds (breaks b t p) = refusedAt p (read (record { backslash = b }) (ascii t))
+holds (breaks-inside t p) = refusedAt p (temporal (ascii t))
+holds (blank c x) = equal (isSpace c) x
+holds (kind k vs) = same (kindCode k ∷ payload k) vs
+holds (coded c) = eqb (kindCode (kindOf c)) c
+holds (gives vs ws) = same vs ws
+holds (shows a source out t) = same (shown (ascii source) (ascii out) a) (ascii t)
+holds (part-shows a source t) = same (rangeShown (ascii source) a) (ascii t)
+holds (name-shows a source t) = same (charsetShown (ascii source) a) (ascii t)
+
+abbrev pub allHold : List Fact → Bool
+allHold [] = true
+allHold (f ∷ fs) = holds f && allHold fs
+
+-- [01 Cutting] "it begins with a segment and segments, with or without white space between and after, cover it; a lone segment must be the whole text"
+abbrev pub cutting : List Fact
+cutting =
+    cuts false "''" true ∷ cuts false "'a' " false ∷ cuts false "'a' 'b'" true ∷ cuts false "'a' 'b' " true ∷ cuts false "'a'\"b\"" true ∷
+    cuts false "'a''b'" true ∷ cuts false " 'a'" false ∷ cuts false " 'a' 'b'" false ∷ cuts false "" false ∷ cuts false " " false ∷ cuts false "'" false ∷
+    cuts false "'a' x" false ∷ cuts false "'a' 'b' x" false ∷ cuts false "'a' 'b" false ∷ cuts false "''E''" true ∷ cuts false "'a' B'0' x'1' _c\"d\" n'e'" true ∷
+    cuts false "$$a$$" false ∷ cuts false "U&'a'" true ∷ cuts false "U&'a' " false ∷ cuts false "U&'a'UESCAPE'!'" false ∷ cuts true "U&'a'UESCAPE'!'" false ∷
+    cuts false "U&'\\'" true ∷ cuts true "U&'\\'" false ∷ cuts false "'\\'" true ∷ cuts true "'\\'" false ∷ cuts true "'\\''" true ∷
+    cuts false "E'\\''" true ∷ cuts true "e'\\'' 'b'" true ∷ cuts false "e'\\'' 'b'" true ∷ cuts false "'a'ã\u{80}\u{80}'b'" true ∷ []
+
+-- A refusal's place, from the text's start: the lone mark; an escape's first byte; what breaks UTF-8, or the body's end where a sequence breaks off; the
+-- start for a raw NUL or no spelling; in joined text behind what stands before; in a temporal text behind what stands before the token
+abbrev pub places : List Fact
+places =
+    breaks false "" 0 ∷ breaks false "x" 0 ∷ breaks false "'a\0'" 0 ∷ breaks false "'a'b'" 2 ∷ breaks true "'\\'''" 3 ∷ breaks false "\"ab\"c\"" 3 ∷
+    breaks false "E'a\\u41'" 3 ∷ breaks false "E'ab\\" 0 ∷ breaks false "E'ab\\'" 4 ∷ breaks false "E'a\\400b'" 3 ∷ breaks false "E'\\xC3'" 6 ∷
+    breaks false "E'ab\\xC3z'" 8 ∷ breaks false "E'\\xC3\\n'" 6 ∷ breaks false "E'a'b\\400'" 3 ∷ breaks false "U&'a\\D83D\\0041'" 4 ∷
+    breaks false "U&'a''\\x'" 6 ∷ breaks false "U&'a!004'UESCAPE'!'" 4 ∷ breaks false "$$a$" 0 ∷
+    breaks false "'a' 'b' E'\\400'" 10 ∷ breaks false "'a' 'b' x" 8 ∷ breaks false "'a'  'b" 5 ∷ breaks false "'a' 'b' B'0'" 8 ∷ breaks false "E'\\0' 'b' x" 2 ∷
+    breaks-inside "DATE" 0 ∷ breaks-inside "DATE E'\\400'" 7 ∷ breaks-inside "DATE 'a' 'b" 9 ∷ breaks-inside "$a" 0 ∷ []
+
+-- [01 Cutting] "9-D, 20, 85, A0, 1680, 2000-200A, 2028-2029, 202F, 205F, 3000": each end, and its neighbours
+abbrev pub blanks : List Fact
+blanks =
+    blank 0 false ∷ blank 0x8 false ∷ blank 0x9 true ∷ blank 0xD true ∷ blank 0xE false ∷ blank 0x1F false ∷ blank 0x20 true ∷ blank 0x21 false ∷
+    blank 0x84 false ∷ blank 0x85 true ∷ blank 0x86 false ∷ blank 0x9F false ∷ blank 0xA0 true ∷ blank 0xA1 false ∷ blank 0x167F false ∷ blank 0x1680 true ∷
+    blank 0x1681 false ∷ blank 0x180E false ∷ blank 0x1FFF false ∷ blank 0x2000 true ∷ blank 0x200A true ∷ blank 0x200B false ∷ blank 0x2027 false ∷
+    blank 0x2028 true ∷ blank 0x2029 true ∷ blank 0x202A false ∷ blank 0x202E false ∷ blank 0x202F true ∷ blank 0x2030 false ∷ blank 0x205E false ∷
+    blank 0x205F true ∷ blank 0x2060 false ∷ blank 0x2FFF false ∷ blank 0x3000 true ∷ blank 0x3001 false ∷ blank 0xFEFF false ∷ []
+
+-- [01 Record program] the kinds' codes; docs/DECISIONS.md, 10: what a kind holds besides
+abbrev pub kinds : List Fact
+kinds =
+    kind Kind.Integer (1 ∷ []) ∷ kind Kind.Float (2 ∷ []) ∷ kind Kind.Decimal (3 ∷ []) ∷ kind Kind.String (4 ∷ []) ∷ kind (Kind.Boolean true) (5 ∷ []) ∷
+    kind (Kind.Boolean false) (6 ∷ []) ∷ kind Kind.Null (7 ∷ []) ∷ kind Kind.Date (8 ∷ []) ∷ kind (Kind.Time Zone.Unspecified) (9 ∷ 0 ∷ []) ∷
+    kind (Kind.Time Zone.WithTimeZone) (9 ∷ 1 ∷ []) ∷ kind (Kind.Timestamp Zone.WithoutTimeZone) (10 ∷ 2 ∷ []) ∷
+    kind (Kind.Interval Fields′.Absent Precision′.Absent) (11 ∷ 0 ∷ []) ∷
+    kind (Kind.Interval (Fields′.Given Field.DayToSecond) (Precision′.Given 6)) (11 ∷ 10 ∷ 6 ∷ []) ∷
+    kind (Kind.BitString Binary) (12 ∷ []) ∷ kind (Kind.BitString Hex) (13 ∷ []) ∷ kind Kind.Money (14 ∷ []) ∷
+    coded 1 ∷ coded 2 ∷ coded 3 ∷ coded 4 ∷ coded 5 ∷ coded 6 ∷ coded 7 ∷ coded 8 ∷ coded 9 ∷ coded 10 ∷ coded 11 ∷ coded 12 ∷ coded 13 ∷ coded 14 ∷ []
+
+abbrev pub fields : List IntervalFields
+fields =
+    Field.Year ∷ Field.Month ∷ Field.Day ∷ Field.Hour ∷ Field.Minute ∷ Field.Second ∷ Field.YearToMonth ∷ Field.DayToHour ∷ Field.DayToMinute ∷
+    Field.DayToSecond ∷ Field.HourToMinute ∷ Field.HourToSecond ∷ Field.MinuteToSecond ∷ Field.Week ∷ Field.Quarter ∷ Field.Decade ∷ Field.Century ∷
+    Field.Millennium ∷ Field.Millisecond ∷ Field.Microsecond ∷ Field.DayToMicrosecond ∷ Field.HourToMicrosecond ∷ Field.MinuteToMicrosecond ∷
+    Field.SecondToMicrosecond ∷ []
+
+-- [01 Numbers an answer can carry] a span, and a refusal of each number
+abbrev pub here : Span
+here = record { start = 7; end = 5 }
+
+abbrev pub refusals : List Refusal
+refusals =
+    WrongKind Expected.Money Kind.Null ∷ MissingSource here ∷ InvalidSourceRange here ∷ NotUtf8 here ∷ InvalidInteger here ∷ InvalidString here ∷
+    InvalidBitString here ∷ InvalidMoney here ∷ NoRoom 3 ∷ []
+
+abbrev pub numbers : List Fact
+numbers =
+    gives (map fieldCode fields) (1 ∷ 2 ∷ 3 ∷ 4 ∷ 5 ∷ 6 ∷ 7 ∷ 8 ∷ 9 ∷ 10 ∷ 11 ∷ 12 ∷ 13 ∷ 14 ∷ 15 ∷ 16 ∷ 17 ∷ 18 ∷ 19 ∷ 20 ∷ 21 ∷ 22 ∷ 23 ∷ 24 ∷ []) ∷
+    gives (map refusalNumber refusals) (1 ∷ 2 ∷ 3 ∷ 4 ∷ 5 ∷ 6 ∷ 7 ∷ 8 ∷ 9 ∷ []) ∷
+    gives (refusalValues (WrongKind Expected.Money (Kind.Time Zone.WithTimeZone))) (8 ∷ 9 ∷ 1 ∷ []) ∷ gives (refusalValues (MissingSource here)) (7 ∷ 5 ∷ []) ∷
+    gives (refusalValues (NoRoom 3)) (3 ∷ []) ∷
+    gives (map (λ r. textNumber (Text′.Refused r)) refusals) (map refusalNumber refusals) ∷
+    gives (map (λ r. rangeNumber (Range′.Refused r)) refusals) (map refusalNumber refusals) ∷
+    gives (map (λ r. charsetNumber (Charset′.Refused r)) refusals) (map refusalNumber refusals) ∷
+    gives (map (λ r. integerNumber (Integer′.Refused r)) refusals) (map refusalNumber refusals) ∷
+    gives (map (λ r. truthNumber (Truth′.Refused r)) refusals) (map refusalNumber refusals) ∷
+    gives (map (λ r. nullnessNumber (Nullness′.Refused r)) refusals) (map refusalNumber refusals) ∷
+    gives (integerNumber (Integer′.Value (negsuc 4)) ∷ signAndSize (integerValues (Integer′.Value (negsuc 4)))) (0 ∷ 1 ∷ 5 ∷ []) ∷
+    gives (signAndSize (integerValues (Integer′.Refused (NotUtf8 here)))) (0 ∷ 7 ∷ 0 ∷ 5 ∷ []) ∷
+    gives (truthNumber (Truth′.Value false) ∷ truthValues (Truth′.Value false)) (0 ∷ 0 ∷ []) ∷
+    gives (nullnessNumber Nullness′.IsNull ∷ nullnessValues Nullness′.IsNull) (0 ∷ []) ∷ []
+
+-- [01 What is carried over] "a range that doesn't fit its slice, or a refusal, shows an empty part"
+abbrev pub views : List Fact
+views =
+    shows (Text′.Borrowed 1 3) "abc" "xyz" "bc" ∷ shows (Text′.Borrowed 3 3) "abc" "xyz" "" ∷ shows (Text′.Borrowed 2 1) "abc" "xyz" "" ∷
+    shows (Text′.Borrowed 0 4) "abc" "xyzw" "" ∷ shows (Text′.Borrowed 4 4) "abc" "xyzw" "" ∷ shows (Text′.Written 2) "abc" "xyz" "xy" ∷
+    shows (Text′.Written 4) "abcd" "xyz" "" ∷ shows (Text′.Refused (NoRoom 2)) "abc" "xyz" "" ∷
+    part-shows (Range′.Found 0 2) "abc" "ab" ∷ part-shows (Range′.Found 1 4) "abc" "" ∷ part-shows (Range′.Found 2 1) "abc" "" ∷
+    part-shows (Range′.Refused (InvalidMoney here)) "abc" "" ∷ name-shows (Charset′.Named 1 2) "abc" "b" ∷ name-shows (Charset′.Named 1 4) "abc" "" ∷
+    name-shows Charset′.Unnamed "abc" "" ∷ name-shows (Charset′.Refused (NotUtf8 here)) "abc" "" ∷ []
+
+pub facts-hold : T (allHold cutting && allHold places && allHold blanks && allHold kinds && allHold numbers && allHold views)
+unfolding within isMark isLetter isDecimal inName startsTag inTag digit allDigits lead utf8 more encode isScalar isSpace doubled oneByte mayEscape scalarBy pair lowHalf uescaped named segment segmentStep cut complete continues encloses argument upper isUnicode unicodeSpelling delimiter spelling answer one read bitBody bits tokenStart quoteToken temporalToken temporal partShown
+facts-hold = tt
