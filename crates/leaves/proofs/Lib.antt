@@ -1,3 +1,4 @@
+pub mod Ranges
 pub mod Leads
 pub mod Ascii
 pub mod Pushing

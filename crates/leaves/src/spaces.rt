@@ -6,21 +6,31 @@ ghost use lib.ListN.{drop};
 ghost use Rattle.meaning.specs.Chars.{isSpace, space};
 ghost use Rattle.meaning.specs.Steps.{gap};
 
-// Whether a scalar is white space: the ten ranges, none of which branches.
+// The low and the high ends of the ranges.
+const LOWS: [u32; 10] = [
+    0x9, 0x20, 0x85, 0xA0, 0x1680, 0x2000, 0x2028, 0x202F, 0x205F, 0x3000,
+];
+const HIGHS: [u32; 10] = [
+    0xD, 0x20, 0x85, 0xA0, 0x1680, 0x200A, 0x2029, 0x202F, 0x205F, 0x3000,
+];
+
+// Whether a scalar is white space: it lies in one of the ranges.
 // Rules out: the zero-width space taken for one; next line missed (must-fail: zero_width_is_space, next_line_missed).
 pub fn is_white_space(scalar: u32) -> bool
     ensures { λ r. ⌜ r ≡ isSpace scalar ⌝ }
 {
-    ((0x9 <= scalar) & (scalar <= 0xD))
-        | ((0x20 <= scalar) & (scalar <= 0x20))
-        | ((0x85 <= scalar) & (scalar <= 0x85))
-        | ((0xA0 <= scalar) & (scalar <= 0xA0))
-        | ((0x1680 <= scalar) & (scalar <= 0x1680))
-        | ((0x2000 <= scalar) & (scalar <= 0x200A))
-        | ((0x2028 <= scalar) & (scalar <= 0x2029))
-        | ((0x202F <= scalar) & (scalar <= 0x202F))
-        | ((0x205F <= scalar) & (scalar <= 0x205F))
-        | ((0x3000 <= scalar) & (scalar <= 0x3000))
+    let lows = LOWS;
+    let highs = HIGHS;
+    let mut i: usize = 0;
+    while i < 10 {
+        if lows[i] <= scalar {
+            if scalar <= highs[i] {
+                return true;
+            }
+        }
+        i += 1;
+    }
+    false
 }
 
 // How many bytes the white-space character at a place has; 0 if none stands there.
