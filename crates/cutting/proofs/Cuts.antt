@@ -24,14 +24,14 @@ use Rattle.cutting.specs.Marks.{markOf, closedOf}
 use Rattle.cutting.specs.Segments.{segmentOf}
 
 -- what a search's answer says of its course
-course-at : (r : Trace) (p : ℕ) → closedOf r ≡ At p → (stops r ≡ true) × (size r ≡ p)
+pub course-at : (r : Trace) (p : ℕ) → closedOf r ≡ At p → (stops r ≡ true) × (size r ≡ p)
 course-at r p e = go (stops r) refl e
   where
     go : (x : Bool) → stops r ≡ x → (if x then At (size r) else Unclosed) ≡ At p → (stops r ≡ true) × (size r ≡ p)
     go true s f = (s, cc)
     go false s f = let z : _≡_ {A = ℕ} 0 1 = cc in absurd (omega arith)
 
-course-unclosed : (r : Trace) → closedOf r ≡ Unclosed → stops r ≡ false
+pub course-unclosed : (r : Trace) → closedOf r ≡ Unclosed → stops r ≡ false
 course-unclosed r e = go (stops r) refl e
   where
     go : (x : Bool) → stops r ≡ x → (if x then At (size r) else Unclosed) ≡ Unclosed → stops r ≡ false
@@ -48,7 +48,7 @@ unfolding segmentOf segment
 segment-none σ l o e z = rw (← e, z)
 
 -- the mark of an opening of o bytes is its last byte, inside the text
-opened-mark : (l : List ℕ) (o : ℕ) → o ≡ opening l → (o ≡ 0 → ⊥) → isMark (l ! (o - 1)) ≡ true
+pub opened-mark : (l : List ℕ) (o : ℕ) → o ≡ opening l → (o ≡ 0 → ⊥) → isMark (l ! (o - 1)) ≡ true
 opened-mark l zero e z = absurd (z refl)
 opened-mark l (suc n) e z = let k : suc n - 1 ≡ n = omega arith in rw k (opening-mark l n (sym e))
 

@@ -10,7 +10,7 @@ use borrow.Author.Tests.{lt-ltb, not-true, not-false}
 use Rattle.meaning.specs.Bytes.{if_then_else_, _!_, span, isMark, inName}
 use Rattle.meaning.specs.Cutting.{named}
 
-span-length : (p : ℕ → Bool) (t : List ℕ) → span p t ≤ length t
+pub span-length : (p : ℕ → Bool) (t : List ℕ) → span p t ≤ length t
 span-length p [] = omega arith
 span-length p (b ∷ t) = go (p b) (span-length p t)
   where

@@ -106,6 +106,7 @@ module _ (x : Bool) (step : List ℕ → Step) (t : List ℕ) (f u : ℕ) where
     where
       room : length (part f u t) + f ≤ length t
       room = omega (arith, length-take (u - f) (drop f t), length-drop f t, b .ordered, b .inside)
+
       go : (y z : Bool) → stops course ≡ z → Bound (valueOf t (if y then borrowed f u else if z then refused (f + size course) else written (value course))) (length t)
       go true z h = omega (arith, room)
       go false true h = omega (arith, room, course-size x step ok (part f u t))

@@ -1,6 +1,7 @@
 // One unit of a body, for each of the three families.
 use crate::digits::digits_at;
 use crate::pieces::Piece;
+use crate::prefix::starts_at;
 use cutting::marks::Mark;
 use cutting::marks::mark_byte;
 use leaves::bytes::byte_at;
@@ -8,7 +9,6 @@ use leaves::utf8::is_scalar;
 ghost use mathlib.Core.Path.{_≡_};
 ghost use Prim.Native.Nat.{_+_, _-_, _≤_, _<_};
 ghost use lib.ListN.{length, drop};
-ghost use Rattle.meaning.specs.Bytes.{starts};
 ghost use Rattle.meaning.specs.Steps.{byteOf, mysqlTable, escapeTable, doubled, mysql, oneByte, scalarBy, escaped, lowHalf, uescaped};
 ghost use Rattle.cutting.specs.Marks.{markOf};
 ghost use Rattle.strings.specs.Pieces.{Is, IsBy};
@@ -160,30 +160,6 @@ fn escaped_unit(body: &[u8], at: usize) -> Piece
         return scalar_unit(body, at - 1, at + 1, 8);
     }
     byte_unit(1, letter)
-}
-
-// Whether a text stands at a place.
-pub(crate) fn starts_at(body: &[u8], at: usize, prefix: &[u8]) -> bool
-    ensures { λ r. ⌜ r ≡ starts (now (prefix .entry)) (drop at (now (body .entry))) ⌝ }
-{
-    let len = prefix.len();
-    if len == 0 {
-        return true;
-    }
-    if body.len() <= at {
-        return false;
-    }
-    if body.len() - at < len {
-        return false;
-    }
-    let mut i: usize = 0;
-    while i < len {
-        if body[at + i] != prefix[i] {
-            return false;
-        }
-        i += 1;
-    }
-    true
 }
 
 // The low half that a high half needs next, at a place, in a unit that begins at `start`.

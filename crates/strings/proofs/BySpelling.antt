@@ -1,0 +1,145 @@
+-- One segment, spelling by spelling: the body lies inside the text, what measuring it says is the segment's answer, and what writing it owes is the
+-- segment's. Assumes nothing.
+use mathlib.Core.Path.{_≡_, refl, ap, sym, _∙_, subst}
+use mathlib.Core.Bool.{Bool, true, false}
+use mathlib.Core.List.{List, [], _∷_}
+use Prim.Native.Nat.{ℕ, _-_, _≤_}
+use native.Mathlib.Omega.{arith}
+use lib.Dec.{eqb}
+use lib.ListN.{length, take, drop}
+use borrow.Author.Tests.{eq-eqb, ne-eqb}
+use Rattle.meaning.specs.declared.Settings.{Settings}
+use Rattle.meaning.specs.Bytes.{if_then_else_, part, has, backslash}
+use Rattle.meaning.specs.Spelling.{Spelling, unicode, spelling}
+use Rattle.meaning.specs.Reading.{Value, means, refused, valueOf, answer, read-as, one, alone}
+use Rattle.laws.proofs.Joining.{fails≢means}
+use Rattle.cutting.specs.declared.marks.Mark.{Mark}
+use Rattle.cutting.specs.declared.marks.Mark.the-variants.{Quote, DoubleQuote}
+use Rattle.strings.specs.declared.units.Family.the-variants as Family′
+use Rattle.strings.specs.declared.one.One.{One}
+use Rattle.strings.specs.declared.one.One.the-variants as One′
+use Rattle.strings.specs.declared.spelling.Spelled.{Spelled}
+use Rattle.strings.specs.declared.spelling.Spelled.the-variants.{Standard, Escape, Unicode, Dollar, Unspelt}
+use Rattle.strings.specs.Families.{courseOf}
+use Rattle.strings.specs.Pieces.{Puts}
+use Rattle.strings.specs.Spelled.{escapeOf, spelledOf, EscapeInside, Spells}
+use Rattle.strings.specs.Answers.{Inside, oneOf, Holds, Put}
+use Rattle.strings.proofs.Ones.{body-inside, means-put, spelled-body, spelled-one, spelled-holds, spelled-put}
+
+-- a NUL
+pub nul-one : (σ : Settings) (t : List ℕ) (x : Bool) → x ≡ has 0 t → x ≡ true → One′.Refused 0 ≡ oneOf (one σ t)
+unfolding one
+nul-one σ t x e q = rw (sym e ∙ q)
+
+-- WHERE THINGS LIE
+module _ (t : List ℕ) (s : Spelled) (spells : Spells t s (spelling t)) where
+  off′ : Settings
+  off′ = record { backslash = false }
+
+  pub standard-inside : (m : Mark) (f u : ℕ) → s ≡ Standard m f u → Inside (length t) f u
+  standard-inside m f u q = body-inside (length t) f u (spelled-body off′ t s spells (Standard m f u) q)
+
+  pub escape-inside : (f u : ℕ) → s ≡ Escape f u → Inside (length t) f u
+  escape-inside f u q = body-inside (length t) f u (spelled-body off′ t s spells (Escape f u) q)
+
+  pub unicode-inside : (f u a z : ℕ) → s ≡ Unicode f u a z → Inside (length t) f u
+  unicode-inside f u a z q = body-inside (length t) f u (spelled-body off′ t s spells (Unicode f u a z) q)
+
+  pub dollar-inside : (f u : ℕ) → s ≡ Dollar f u → Inside (length t) f u
+  dollar-inside f u q = body-inside (length t) f u (spelled-body off′ t s spells (Dollar f u) q)
+
+  pub character-inside : (f u a z : ℕ) → s ≡ Unicode f u a z → Inside (length t) a z
+  character-inside f u a z q = let i = subst (EscapeInside (length t)) q (spells .inside) in record { ordered = i .0; within = i .1 }
+
+-- the escape character by its part
+default-escape : (t : List ℕ) (a z : ℕ) → a ≡ z → escapeOf t a z ≡ backslash ∷ []
+default-escape t a z e = rw (eq-eqb a z e)
+
+chosen-escape : (t : List ℕ) (a z : ℕ) → (a ≡ z → ⊥) → escapeOf t a z ≡ take (z - a) (drop a t)
+chosen-escape t a z n = rw (ne-eqb a z n)
+
+module _ (σ : Settings) (t : List ℕ) (s : Spelled) (spells : Spells t s (spelling t)) where
+  -- MEASURED, in a text without a NUL
+  module _ (x : Bool) (nul : x ≡ has 0 t) (none : x ≡ false) (r : One) where
+    free : has 0 t ≡ false
+    free = sym nul ∙ none
+
+    pub standard-one : (m : Mark) (f u : ℕ) (e : List ℕ) → s ≡ Standard m f u
+        → r ≡ oneOf (answer f u (courseOf (Family′.Standard m (σ .backslash)) e (part f u t))) → r ≡ oneOf (one σ t)
+    standard-one m f u e q g = spelled-one σ t s spells free (Standard m f u) q r g
+
+    pub escape-one : (f u : ℕ) (e : List ℕ) → s ≡ Escape f u → r ≡ oneOf (answer f u (courseOf Family′.Escape e (part f u t))) → r ≡ oneOf (one σ t)
+    escape-one f u e q g = spelled-one σ t s spells free (Escape f u) q r g
+
+    unicode-by : (f u a z : ℕ) (e : List ℕ) → escapeOf t a z ≡ e → s ≡ Unicode f u a z
+        → r ≡ oneOf (answer f u (courseOf (Family′.Unicode Quote) e (part f u t))) → r ≡ oneOf (one σ t)
+    unicode-by f u a z e k q g =
+        spelled-one σ t s spells free (Unicode f u a z) q r (g ∙ ap (λ (y : List ℕ). oneOf (read-as σ t (unicode y f u))) (sym k))
+
+    pub default-one : (f u a z : ℕ) → s ≡ Unicode f u a z → a ≡ z
+        → r ≡ oneOf (answer f u (courseOf (Family′.Unicode Quote) (backslash ∷ []) (part f u t))) → r ≡ oneOf (one σ t)
+    default-one f u a z q h g = unicode-by f u a z (backslash ∷ []) (default-escape t a z h) q g
+
+    pub chosen-one : (f u a z : ℕ) → s ≡ Unicode f u a z → (a ≡ z → ⊥)
+        → r ≡ oneOf (answer f u (courseOf (Family′.Unicode Quote) (take (z - a) (drop a t)) (part f u t))) → r ≡ oneOf (one σ t)
+    chosen-one f u a z q h g = unicode-by f u a z (take (z - a) (drop a t)) (chosen-escape t a z h) q g
+
+  module _ (x : Bool) (nul : x ≡ has 0 t) (none : x ≡ false) where
+    pub dollar-one : (f u : ℕ) → s ≡ Dollar f u → One′.Borrowed f u ≡ oneOf (one σ t)
+    dollar-one f u q = spelled-one σ t s spells (sym nul ∙ none) (Dollar f u) q (One′.Borrowed f u) refl
+
+    pub unspelt-one : s ≡ Unspelt → One′.Refused 0 ≡ oneOf (one σ t)
+    unspelt-one q = spelled-one σ t s spells (sym nul ∙ none) Unspelt q (One′.Refused 0) refl
+
+  -- WRITTEN, where it means something and there is room
+  module _ (n : ℕ) (h : Holds (alone σ t) n) where
+    pub standard-holds : (m : Mark) (f u : ℕ) (e : List ℕ) → s ≡ Standard m f u
+        → Holds (valueOf t (answer f u (courseOf (Family′.Standard m (σ .backslash)) e (part f u t)))) n
+    standard-holds m f u e q = spelled-holds σ t s spells n h (Standard m f u) q
+
+    pub escape-holds : (f u : ℕ) (e : List ℕ) → s ≡ Escape f u → Holds (valueOf t (answer f u (courseOf Family′.Escape e (part f u t)))) n
+    escape-holds f u e q = spelled-holds σ t s spells n h (Escape f u) q
+
+    unicode-holds : (f u a z : ℕ) (e : List ℕ) → escapeOf t a z ≡ e → s ≡ Unicode f u a z
+        → Holds (valueOf t (answer f u (courseOf (Family′.Unicode Quote) e (part f u t)))) n
+    unicode-holds f u a z e k q =
+        subst (λ (y : List ℕ). Holds (valueOf t (read-as σ t (unicode y f u))) n) k (spelled-holds σ t s spells n h (Unicode f u a z) q)
+
+    pub default-holds : (f u a z : ℕ) → s ≡ Unicode f u a z → a ≡ z
+        → Holds (valueOf t (answer f u (courseOf (Family′.Unicode Quote) (backslash ∷ []) (part f u t)))) n
+    default-holds f u a z q k = unicode-holds f u a z (backslash ∷ []) (default-escape t a z k) q
+
+    pub chosen-holds : (f u a z : ℕ) → s ≡ Unicode f u a z → (a ≡ z → ⊥)
+        → Holds (valueOf t (answer f u (courseOf (Family′.Unicode Quote) (take (z - a) (drop a t)) (part f u t)))) n
+    chosen-holds f u a z q k = unicode-holds f u a z (take (z - a) (drop a t)) (chosen-escape t a z k) q
+
+    module _ (out after : List ℕ) (r : ℕ) where
+      pub standard-put : (m : Mark) (f u : ℕ) (e : List ℕ) → s ≡ Standard m f u
+          → Put (valueOf t (answer f u (courseOf (Family′.Standard m (σ .backslash)) e (part f u t)))) out r after → Put (alone σ t) out r after
+      standard-put m f u e q p = spelled-put σ t s spells n h (Standard m f u) q out after r p
+
+      pub escape-put : (f u : ℕ) (e : List ℕ) → s ≡ Escape f u
+          → Put (valueOf t (answer f u (courseOf Family′.Escape e (part f u t)))) out r after → Put (alone σ t) out r after
+      escape-put f u e q p = spelled-put σ t s spells n h (Escape f u) q out after r p
+
+      unicode-put : (f u a z : ℕ) (e : List ℕ) → escapeOf t a z ≡ e → s ≡ Unicode f u a z
+          → Put (valueOf t (answer f u (courseOf (Family′.Unicode Quote) e (part f u t)))) out r after → Put (alone σ t) out r after
+      unicode-put f u a z e k q p =
+          spelled-put σ t s spells n h (Unicode f u a z) q out after r (subst (λ (y : List ℕ). Put (valueOf t (read-as σ t (unicode y f u))) out r after) (sym k) p)
+
+      pub default-put : (f u a z : ℕ) → s ≡ Unicode f u a z → a ≡ z
+          → Put (valueOf t (answer f u (courseOf (Family′.Unicode Quote) (backslash ∷ []) (part f u t)))) out r after → Put (alone σ t) out r after
+      default-put f u a z q k p = unicode-put f u a z (backslash ∷ []) (default-escape t a z k) q p
+
+      pub chosen-put : (f u a z : ℕ) → s ≡ Unicode f u a z → (a ≡ z → ⊥)
+          → Put (valueOf t (answer f u (courseOf (Family′.Unicode Quote) (take (z - a) (drop a t)) (part f u t)))) out r after → Put (alone σ t) out r after
+      chosen-put f u a z q k p = unicode-put f u a z (take (z - a) (drop a t)) (chosen-escape t a z k) q p
+
+    pub unspelt-put : (out after : List ℕ) (r : ℕ) → s ≡ Unspelt → Put (alone σ t) out r after
+    unspelt-put out after r q = let k = spelled-holds σ t s spells n h Unspelt q in absurd (fails≢means 0 (k .all) (k .reads))
+
+  pub dollar-put : (out after : List ℕ) (r : ℕ) → Holds (alone σ t) (length out) → (f u : ℕ) → s ≡ Dollar f u
+      → Puts (take (u - f) (drop f t)) out r after → Put (alone σ t) out r after
+  dollar-put out after r h f u q p =
+      spelled-put σ t s spells (length out) h (Dollar f u) q out after r
+      (means-put (take (u - f) (drop f t)) out after r (spelled-holds σ t s spells (length out) h (Dollar f u) q) p)

@@ -1,0 +1,105 @@
+-- `strings::joined::write_joined` meets its contract. The loop's invariant: the buffer begins with what the segments before the cursor mean, and goes on as it
+-- was lent. The measure is what is left behind the cursor. Assumes nothing.
+use borrow.Author.Needs.{needs}
+use native.Mathlib.Omega.{arith}
+use Prim.Native.Nat.{_+_, _-_, _≤_}
+use lib.ListN.{length}
+use Rattle.strings.proofs.Joinings.{WritesAt, writes-start, writes-end, writes-remainder, writes-within, segment-holds, writes-turn, writes-fits, segment-ordered, segment-inside, cursor-less}
+use Rattle.strings.proofs.joined.write_joined.Statement.{statement}
+use Rattle.strings.proofs.joined.write_joined.Tie as tie
+
+abbrev Inv-loop : tie.InvT-loop
+Inv-loop text settings out₀ cursor₀ n₀ out cursor n = WritesAt settings text out₀ out (cursor .at) n
+
+abbrev μ-loop : tie.MeasureT-loop
+μ-loop text settings out₀ cursor₀ n₀ out cursor n = length text - cursor .at
+
+new-requires : tie.Need-new-requires Inv-loop μ-loop
+new-requires c κs = search needs
+
+loop-holds : tie.Need-loop-holds Inv-loop μ-loop
+loop-holds c = search writes-start
+
+next-requires : tie.Need-next-requires Inv-loop μ-loop
+next-requires c κs = search needs
+
+enum-known-start : tie.Need-enum-known-start Inv-loop μ-loop
+enum-known-start c = search needs
+
+sub-write-one : tie.Need-sub-write-one Inv-loop μ-loop
+sub-write-one c = search segment-ordered
+
+part-write-one-start : tie.Need-part-write-one-start Inv-loop μ-loop
+part-write-one-start c = search segment-ordered
+
+part-write-one-end : tie.Need-part-write-one-end Inv-loop μ-loop
+part-write-one-end c = search segment-inside
+
+sub-write-one-2 : tie.Need-sub-write-one-2 Inv-loop μ-loop
+sub-write-one-2 c = search writes-within
+
+part-write-one-start-2 : tie.Need-part-write-one-start-2 Inv-loop μ-loop
+part-write-one-start-2 c = search writes-within
+
+part-write-one-end-2 : tie.Need-part-write-one-end-2 Inv-loop μ-loop
+part-write-one-end-2 c = search needs
+
+write-one-requires : tie.Need-write-one-requires Inv-loop μ-loop
+write-one-requires c κs = search segment-holds
+
+fits : (c : tie.After-slice-known2 Inv-loop μ-loop) → c .before .before .before .before .before .before .before .before .before .loop .n + c .before .before .write-one .result ≤ length (c .before .before .before .before .before .before .before .before .before .loop .out)
+fits c = search writes-fits
+
+add-n : tie.Need-add-n Inv-loop μ-loop
+add-n c = let h = fits c in omega (arith, h)
+
+loop-less : tie.Need-loop-less Inv-loop μ-loop
+loop-less c = search cursor-less
+
+loop-again : tie.Need-loop-again Inv-loop μ-loop
+loop-again c = search writes-turn
+
+enum-told : tie.Need-enum-told Inv-loop μ-loop
+enum-told c = search needs
+
+same-length : tie.Need-same-length Inv-loop μ-loop
+same-length c = c .before .before .before .loop .inv .same
+
+returns : tie.Need-returns Inv-loop μ-loop
+returns c = search writes-end
+
+enum-told-2 : tie.Need-enum-told-2 Inv-loop μ-loop
+enum-told-2 c = search needs
+
+same-length-2 : tie.Need-same-length-2 Inv-loop μ-loop
+same-length-2 c = c .before .before .before .loop .inv .same
+
+returns-2 : tie.Need-returns-2 Inv-loop μ-loop
+returns-2 c = search writes-remainder
+
+pub write-joined-spec : {M : Type 1} → statement M
+write-joined-spec =
+    tie.close
+    (tie.spec
+    Inv-loop
+    μ-loop
+    new-requires
+    loop-holds
+    next-requires
+    enum-known-start
+    sub-write-one
+    part-write-one-start
+    part-write-one-end
+    sub-write-one-2
+    part-write-one-start-2
+    part-write-one-end-2
+    write-one-requires
+    add-n
+    loop-less
+    loop-again
+    enum-told
+    same-length
+    returns
+    enum-told-2
+    same-length-2
+    returns-2)

@@ -1,0 +1,169 @@
+// [01 Cutting, String reading] Joined text, measured whole before the first byte is written; each segment is written into the room the earlier ones left.
+// The reading of a string's text, and the view of its answer.
+use crate::one::One;
+use crate::one::measure_one;
+use crate::one::write_one;
+use cutting::cursor::Cursor;
+use cutting::cursor::Next;
+use cutting::segments::Segment;
+use cutting::segments::first_segment;
+use leaves::bytes::byte_at;
+use leaves::names::is_mark;
+use leaves::spaces::gap_at;
+use meaning::Read;
+use meaning::Settings;
+ghost use mathlib.Core.Path.{_≡_};
+ghost use lib.ListN.{length};
+ghost use Rattle.meaning.specs.Cutting.{cut, continues};
+ghost use Rattle.meaning.specs.Reading.{alone, joined, read};
+ghost use Rattle.meaning.specs.Answers.{partShown};
+ghost use Rattle.meaning.specs.Reads.{Reads, readShown};
+ghost use Rattle.strings.specs.Answers.{lengthOf, Holds, Put};
+
+// How long joined text's value is, or where reading stops.
+pub enum Joined {
+    Length(usize),
+    Refused(usize),
+}
+
+// Whether a quote mark follows the first segment, past white space.
+pub fn is_joined(text: &[u8], settings: Settings) -> bool
+    ensures { λ r. ⌜ r ≡ continues settings (now (text .entry)) ⌝ }
+{
+    match first_segment(text, settings) {
+        Segment::Found { open: _, len } => is_mark(byte_at(text, len + gap_at(text, len))),
+        Segment::Nothing => false,
+    }
+}
+
+// The length of one segment's value, or where it is refused.
+fn segment_length(text: &[u8], settings: Settings) -> Joined
+    ensures { λ r. ⌜ r ≡ lengthOf (alone settings (now (text .entry))) ⌝ }
+{
+    match measure_one(text, settings) {
+        One::Borrowed { from, until } => Joined::Length(until - from),
+        One::Written { len } => Joined::Length(len),
+        One::Refused { place } => Joined::Refused(place),
+    }
+}
+
+// Rules out: a later segment dropped; an E prefix on a third segment refused; a remainder passed over (must-fail: first_segment_only, third_prefix_refused, remainder_accepted).
+pub fn measure_joined(text: &[u8], settings: Settings) -> Joined
+    ensures { λ r. ⌜ r ≡ lengthOf (joined settings (cut settings (now (text .entry)))) ⌝ }
+{
+    let mut cursor = Cursor::new();
+    let mut n: usize = 0;
+    loop {
+        match cursor.next(text, settings) {
+            Next::Segment {
+                start,
+                open: _,
+                end,
+                next,
+            } => {
+                match segment_length(&text[start..end], settings) {
+                    Joined::Length(k) => {
+                        n += k;
+                    }
+                    Joined::Refused(p) => {
+                        return Joined::Refused(start + p);
+                    }
+                }
+                cursor = next;
+            }
+            Next::End => {
+                return Joined::Length(n);
+            }
+            Next::Remainder => {
+                return Joined::Refused(cursor.at);
+            }
+        }
+    }
+}
+
+// Writes joined text, for which there is room: the tail of the buffer is lent on to each segment.
+fn write_joined(text: &[u8], settings: Settings, out: &mut [u8]) -> usize
+    requires { ⌜ Holds (joined settings (cut settings (now text))) (length (now out)) ⌝ }
+    ensures { λ r. ⌜ Put (joined settings (cut settings (now (text .entry)))) (now (out .entry)) r (now (out .exit)) ⌝ }
+{
+    let mut cursor = Cursor::new();
+    let mut n: usize = 0;
+    loop {
+        match cursor.next(text, settings) {
+            Next::Segment {
+                start,
+                open: _,
+                end,
+                next,
+            } => {
+                n += write_one(&text[start..end], settings, &mut out[n..]);
+                cursor = next;
+            }
+            Next::End => {
+                return n;
+            }
+            Next::Remainder => {
+                return n;
+            }
+        }
+    }
+}
+
+// Reads a string's text: a part of it, so many bytes at the buffer's start, the place where reading stops, or the length for which there is no room.
+// Rules out: writing before a later segment refuses; a made-up length (must-fail: written_too_early, length_one_short).
+pub fn read_string(text: &[u8], settings: Settings, out: &mut [u8]) -> Read
+    ensures { λ r. ⌜ Reads (read settings (now (text .entry))) (now (out .entry)) r (now (out .exit)) ⌝ }
+{
+    if is_joined(text, settings) {
+        match measure_joined(text, settings) {
+            Joined::Length(n) => {
+                if out.len() < n {
+                    return Read::NoRoom { needed: n };
+                }
+                write_joined(text, settings, out);
+                return Read::Written { len: n };
+            }
+            Joined::Refused(place) => {
+                return Read::Refused { place };
+            }
+        }
+    }
+    match measure_one(text, settings) {
+        One::Borrowed { from, until } => Read::Borrowed { from, until },
+        One::Written { len } => {
+            if out.len() < len {
+                return Read::NoRoom { needed: len };
+            }
+            write_one(text, settings, out);
+            Read::Written { len }
+        }
+        One::Refused { place } => Read::Refused { place },
+    }
+}
+
+// Either the text's part or the buffer's; a range that does not fit its slice, or a refusal, shows an empty part.
+// Rules out: the buffer shown for a borrowed answer; a range past the end (must-fail: shows_the_other, end_past_the_slice).
+pub fn shown<'a>(text: &'a [u8], out: &'a [u8], answer: Read) -> &'a [u8]
+    ensures { λ r. ⌜ now r ≡ readShown (now (text .entry)) (now (out .entry)) answer ⌝ }
+{
+    match answer {
+        Read::Borrowed { from, until } => part_of(text, from, until),
+        Read::Written { len } => part_of(out, 0, len),
+        Read::Refused { place: _ } => &text[..0],
+        Read::NoRoom { needed: _ } => &text[..0],
+    }
+}
+
+// A part of a slice, empty where it does not fit.
+// Rules out: a part that ends past the slice; one that begins behind its end (must-fail: part_past_the_slice, part_backwards).
+pub fn part_of(bytes: &[u8], from: usize, until: usize) -> &[u8]
+    ensures { λ r. ⌜ now r ≡ partShown from until (now (bytes .entry)) ⌝ }
+{
+    if until < from {
+        return &bytes[..0];
+    }
+    if bytes.len() < until {
+        return &bytes[..0];
+    }
+    &bytes[from..until]
+}

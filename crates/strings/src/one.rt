@@ -1,0 +1,142 @@
+// [01 One segment] One segment, or a whole text that is read as one: borrowed, so many bytes to write, or refused.
+use crate::measuring::Measured;
+use crate::measuring::measure;
+use crate::pieces::put_bytes;
+use crate::spelling::Spelled;
+use crate::spelling::string_spelling;
+use crate::units::Family;
+use crate::writing::write;
+use cutting::marks::Mark;
+use meaning::Settings;
+ghost use mathlib.Core.Path.{_≡_};
+ghost use lib.ListN.{length};
+ghost use Rattle.meaning.specs.Bytes.{part, has};
+ghost use Rattle.meaning.specs.Reading.{valueOf, answer, one, alone};
+ghost use Rattle.strings.specs.Families.{courseOf};
+ghost use Rattle.strings.specs.Answers.{Inside, oneOf, Holds, Put};
+
+// What one segment means.
+pub enum One {
+    Borrowed { from: usize, until: usize },
+    Written { len: usize },
+    Refused { place: usize },
+}
+
+// [`string_literal_embeds_nul`] Whether a text holds a raw NUL.
+// Rules out: another byte looked for; the last byte not looked at (must-fail: one_is_nul, last_byte_passed).
+pub fn string_literal_embeds_nul(text: &[u8]) -> bool
+    ensures { λ r. ⌜ r ≡ has 0 (now (text .entry)) ⌝ }
+{
+    let mut i: usize = 0;
+    while i < text.len() {
+        if text[i] == 0 {
+            return true;
+        }
+        i += 1;
+    }
+    false
+}
+
+// The body from a place up to another, measured: the text's own part where it is plain.
+fn measure_body(text: &[u8], from: usize, until: usize, family: Family, escape: &[u8]) -> One
+    requires { ⌜ Inside (length (now text)) from until ⌝ }
+    ensures { λ r. ⌜ r ≡ oneOf (answer from until (courseOf family (now (escape .entry)) (part from until (now (text .entry))))) ⌝ }
+{
+    match measure(&text[from..until], family, escape) {
+        Measured::Plain => One::Borrowed { from, until },
+        Measured::Length(len) => One::Written { len },
+        Measured::Refused(place) => One::Refused {
+            place: from + place,
+        },
+    }
+}
+
+// What one segment means, or that it is refused and where.
+// Rules out: a raw NUL kept; the place counted from the body (must-fail: nul_is_read, place_in_the_body).
+pub fn measure_one(text: &[u8], settings: Settings) -> One
+    ensures { λ r. ⌜ r ≡ oneOf (one settings (now (text .entry))) ⌝ }
+{
+    if string_literal_embeds_nul(text) {
+        return One::Refused { place: 0 };
+    }
+    let backslash = settings.backslash;
+    match string_spelling(text) {
+        Spelled::Standard { mark, from, until } => {
+            measure_body(
+                text,
+                from,
+                until,
+                Family::Standard { mark, backslash },
+                text,
+            )
+        }
+        Spelled::Escape { from, until } => measure_body(text, from, until, Family::Escape, text),
+        Spelled::Unicode {
+            from,
+            until,
+            escape_from,
+            escape_until,
+        } => {
+            let mark = Mark::Quote;
+            if escape_from == escape_until {
+                return measure_body(text, from, until, Family::Unicode { mark }, b"\\");
+            }
+            let escape = &text[escape_from..escape_until];
+            measure_body(text, from, until, Family::Unicode { mark }, escape)
+        }
+        Spelled::Dollar { from, until } => One::Borrowed { from, until },
+        Spelled::Unspelt => One::Refused { place: 0 },
+    }
+}
+
+// Writes the value of the body from a place up to another.
+fn write_body(
+    text: &[u8],
+    from: usize,
+    until: usize,
+    family: Family,
+    escape: &[u8],
+    out: &mut [u8],
+) -> usize
+    requires { ⌜ Inside (length (now text)) from until ⌝ }
+    requires { ⌜ Holds (valueOf (now text) (answer from until (courseOf family (now escape) (part from until (now text))))) (length (now out)) ⌝ }
+    ensures { λ r. ⌜ Put (valueOf (now (text .entry)) (answer from until (courseOf family (now (escape .entry)) (part from until (now (text .entry)))))) (now (out .entry)) r (now (out .exit)) ⌝ }
+{
+    write(&text[from..until], family, escape, out)
+}
+
+// Writes what one segment means, for which there is room, and says how long it is.
+pub(crate) fn write_one(text: &[u8], settings: Settings, out: &mut [u8]) -> usize
+    requires { ⌜ Holds (alone settings (now text)) (length (now out)) ⌝ }
+    ensures { λ r. ⌜ Put (alone settings (now (text .entry))) (now (out .entry)) r (now (out .exit)) ⌝ }
+{
+    let backslash = settings.backslash;
+    match string_spelling(text) {
+        Spelled::Standard { mark, from, until } => {
+            write_body(
+                text,
+                from,
+                until,
+                Family::Standard { mark, backslash },
+                text,
+                out,
+            )
+        }
+        Spelled::Escape { from, until } => write_body(text, from, until, Family::Escape, text, out),
+        Spelled::Unicode {
+            from,
+            until,
+            escape_from,
+            escape_until,
+        } => {
+            let mark = Mark::Quote;
+            if escape_from == escape_until {
+                return write_body(text, from, until, Family::Unicode { mark }, b"\\", out);
+            }
+            let escape = &text[escape_from..escape_until];
+            write_body(text, from, until, Family::Unicode { mark }, escape, out)
+        }
+        Spelled::Dollar { from, until } => put_bytes(&text[from..until], out),
+        Spelled::Unspelt => 0,
+    }
+}
