@@ -1,15 +1,9 @@
 -- What the functions of this crate share, callees first.
-pub mod Alike
 pub mod Matching
 pub mod Putting
 pub mod Running
 pub mod UnitLaws
 pub mod Turns
-pub mod Enclosures
-pub mod Clausing
-pub mod Unicodes
-pub mod Dollars
-pub mod Spelt
 pub mod Ones
 pub mod BySpelling
 pub mod Views

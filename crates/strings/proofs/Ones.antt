@@ -27,10 +27,10 @@ use Rattle.strings.specs.declared.one.One.{One}
 use Rattle.strings.specs.declared.one.One.the-variants as One′
 use Rattle.strings.specs.declared.joined.Joined.{Joined}
 use Rattle.strings.specs.declared.joined.Joined.the-variants as Joined′
-use Rattle.strings.specs.declared.spelling.Spelled.{Spelled}
+use Rattle.spellings.specs.declared.spelling.Spelled.{Spelled}
 use Rattle.strings.specs.Families.{stepOf, checks, courseOf, measuredOf, Room, Written}
 use Rattle.strings.specs.Pieces.{Puts}
-use Rattle.strings.specs.Spelled.{spelledOf, Spells}
+use Rattle.spellings.specs.Spelled.{spelledOf, Spells}
 use Rattle.strings.specs.Answers.{Inside, oneOf, lengthOf, Holds, valueIn, Put}
 
 -- MEASURING A BODY. Its measure, as an answer on the text that holds it from f to u

@@ -2,12 +2,12 @@
 use crate::measuring::Measured;
 use crate::measuring::measure;
 use crate::pieces::put_bytes;
-use crate::spelling::Spelled;
-use crate::spelling::string_spelling;
 use crate::units::Family;
 use crate::writing::write;
 use cutting::marks::Mark;
 use meaning::Settings;
+use spellings::spelling::Spelled;
+use spellings::spelling::string_spelling;
 ghost use mathlib.Core.Path.{_≡_};
 ghost use lib.ListN.{length};
 ghost use Rattle.meaning.specs.Bytes.{part, has};

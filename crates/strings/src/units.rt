@@ -1,11 +1,11 @@
 // One unit of a body, for each of the three families.
 use crate::digits::digits_at;
 use crate::pieces::Piece;
-use crate::prefix::starts_at;
 use cutting::marks::Mark;
 use cutting::marks::mark_byte;
 use leaves::bytes::byte_at;
 use leaves::utf8::is_scalar;
+use spellings::prefix::starts_at;
 ghost use mathlib.Core.Path.{_≡_};
 ghost use Prim.Native.Nat.{_+_, _-_, _≤_, _<_};
 ghost use lib.ListN.{length, drop};

@@ -1,0 +1,232 @@
+// [01 One segment] How a text that is read as one is spelled, and from where to where its body goes.
+use crate::prefix::starts_at;
+use crate::uescape::Clause;
+use crate::uescape::is_enclosed;
+use crate::uescape::uescape_clause;
+use cutting::marks::Closing;
+use cutting::marks::Mark;
+use cutting::marks::closing_mark;
+use cutting::marks::mark_byte;
+use cutting::openings::opening_len;
+use leaves::bytes::byte_at;
+use leaves::names::is_dollar_tag_continue;
+use leaves::names::is_dollar_tag_start;
+ghost use mathlib.Core.Path.{_≡_};
+ghost use lib.ListN.{drop};
+ghost use Rattle.meaning.specs.Bytes.{span, inTag};
+ghost use Rattle.meaning.specs.Spelling.{isUnicode, unicodeSpelling, tagLength, delimiter, dollarBy, spelling};
+ghost use Rattle.cutting.specs.Marks.{markOf};
+ghost use Rattle.spellings.specs.Spelled.{introducedOf, otherOf, Spells};
+
+// A spelling with the place and the end of its body. A U& escape character lies in a part of the text; an empty part stands for the backslash.
+pub enum Spelled {
+    Standard {
+        mark: Mark,
+        from: usize,
+        until: usize,
+    },
+    Escape {
+        from: usize,
+        until: usize,
+    },
+    Unicode {
+        from: usize,
+        until: usize,
+        escape_from: usize,
+        escape_until: usize,
+    },
+    Dollar {
+        from: usize,
+        until: usize,
+    },
+    Unspelt,
+}
+
+// Whether a text begins with U&, in either case, and a mark.
+// Rules out: u refused; the & not asked for; another mark taken (must-fail: lower_u_refused, ampersand_at_the_front, any_mark_opens).
+pub fn is_unicode_lexeme(text: &[u8], mark: Mark) -> bool
+    ensures { λ r. ⌜ r ≡ isUnicode (markOf mark) (now (text .entry)) ⌝ }
+{
+    let first = byte_at(text, 0);
+    ((first == 85) | (first == 117))
+        & (byte_at(text, 1) == 38)
+        & (byte_at(text, 2) == mark_byte(mark))
+}
+
+// U& and a mark, closed by the first mark that is not doubled; then white space, or a UESCAPE clause that ends the text.
+// Rules out: a mark hidden by a backslash; the mark taken for a part of what follows it (must-fail: backslash_hides_in_unicode, clause_from_the_mark).
+pub fn unicode_lexeme(text: &[u8], mark: Mark) -> Spelled
+    ensures { λ r. ⌜ Spells (now (text .entry)) r (unicodeSpelling (markOf mark) (now (text .entry))) ⌝ }
+{
+    if !is_unicode_lexeme(text, mark) {
+        return Spelled::Unspelt;
+    }
+    match closing_mark(&text[3..], mark, false) {
+        Closing::At(p) => {
+            let until = 3 + p;
+            match uescape_clause(text, until + 1) {
+                Clause::Default => Spelled::Unicode {
+                    from: 3,
+                    until,
+                    escape_from: 0,
+                    escape_until: 0,
+                },
+                Clause::Chosen { start, end } => Spelled::Unicode {
+                    from: 3,
+                    until,
+                    escape_from: start,
+                    escape_until: end,
+                },
+                Clause::Bad => Spelled::Unspelt,
+            }
+        }
+        Closing::Unclosed => Spelled::Unspelt,
+    }
+}
+
+// How many bytes that a dollar tag may hold stand at a place.
+fn tag_run_len(text: &[u8], at: usize) -> usize
+    ensures { λ r. ⌜ r ≡ span inTag (drop at (now (text .entry))) ⌝ }
+{
+    let mut n: usize = 0;
+    if text.len() <= at {
+        return 0;
+    }
+    let left = text.len() - at;
+    while n < left {
+        if !is_dollar_tag_continue(text[at + n]) {
+            return n;
+        }
+        n += 1;
+    }
+    n
+}
+
+// How many bytes of a dollar tag stand at a place.
+fn tag_len(text: &[u8], at: usize) -> usize
+    ensures { λ r. ⌜ r ≡ tagLength (drop at (now (text .entry))) ⌝ }
+{
+    if is_dollar_tag_start(byte_at(text, at)) {
+        return tag_run_len(text, at);
+    }
+    0
+}
+
+// The bytes of a dollar delimiter at a place; 0 if none stands there.
+// Rules out: a tag that starts with $; another byte than $ at its end; the last $ left out (must-fail: tag_from_the_dollar, hash_ends_a_tag,
+// delimiter_without_its_end).
+pub fn dollar_open_delim_len(text: &[u8], at: usize) -> usize
+    ensures { λ r. ⌜ r ≡ delimiter (drop at (now (text .entry))) ⌝ }
+{
+    if byte_at(text, at) != 36 {
+        return 0;
+    }
+    let from = at + 1;
+    let tag = tag_len(text, from);
+    if byte_at(text, from + tag) != 36 {
+        return 0;
+    }
+    tag + 2
+}
+
+// Equal delimiters at both ends, not overlapping.
+// Rules out: the string ended at the first close; overlapping delimiters (must-fail: dollar_first_close, delimiters_overlap).
+fn dollar_quoted(text: &[u8]) -> Spelled
+    ensures { λ r. ⌜ Spells (now (text .entry)) r (dollarBy (now (text .entry)) (delimiter (now (text .entry)))) ⌝ }
+{
+    let len = dollar_open_delim_len(text, 0);
+    if len == 0 {
+        return Spelled::Unspelt;
+    }
+    let close = text.len() - len;
+    if close < len {
+        return Spelled::Unspelt;
+    }
+    if starts_at(text, close, &text[..len]) {
+        return Spelled::Dollar {
+            from: len,
+            until: close,
+        };
+    }
+    Spelled::Unspelt
+}
+
+// A charset introducer, and a string in either mark that ends the text.
+// Rules out: one mark taken for the other (must-fail: introduced_marks_swapped).
+fn introduced(text: &[u8]) -> Spelled
+    ensures { λ r. ⌜ Spells (now (text .entry)) r (introducedOf (now (text .entry))) ⌝ }
+{
+    let open = opening_len(text);
+    if open == 0 {
+        return Spelled::Unspelt;
+    }
+    let quote = text[open - 1];
+    if !is_enclosed(text, open - 1, quote) {
+        return Spelled::Unspelt;
+    }
+    let until = text.len() - 1;
+    if quote == 39 {
+        return Spelled::Standard {
+            mark: Mark::Quote,
+            from: open,
+            until,
+        };
+    }
+    Spelled::Standard {
+        mark: Mark::DoubleQuote,
+        from: open,
+        until,
+    }
+}
+
+// The spelling of a text by a charset introducer, U& or $.
+// Rules out: U& read with " (must-fail: double_quotes_in_unicode).
+fn other_spelling(text: &[u8]) -> Spelled
+    ensures { λ r. ⌜ Spells (now (text .entry)) r (otherOf (now (text .entry))) ⌝ }
+{
+    if byte_at(text, 0) == 95 {
+        return introduced(text);
+    }
+    if is_unicode_lexeme(text, Mark::Quote) {
+        return unicode_lexeme(text, Mark::Quote);
+    }
+    dollar_quoted(text)
+}
+
+// The spelling of a text, tried in document 01's order.
+// Rules out: N read as E; the mark taken for a part of an E body (must-fail: national_escapes, escape_from_its_mark).
+pub fn string_spelling(text: &[u8]) -> Spelled
+    ensures { λ r. ⌜ Spells (now (text .entry)) r (spelling (now (text .entry))) ⌝ }
+{
+    if text.len() == 0 {
+        return Spelled::Unspelt;
+    }
+    let first = text[0];
+    let until = text.len() - 1;
+    if is_enclosed(text, 0, 39) {
+        return Spelled::Standard {
+            mark: Mark::Quote,
+            from: 1,
+            until,
+        };
+    }
+    if is_enclosed(text, 0, 34) {
+        return Spelled::Standard {
+            mark: Mark::DoubleQuote,
+            from: 1,
+            until,
+        };
+    }
+    let prefixed = is_enclosed(text, 1, 39);
+    if ((first == 69) | (first == 101)) & prefixed {
+        return Spelled::Escape { from: 2, until };
+    }
+    if ((first == 78) | (first == 110)) & prefixed {
+        return Spelled::Standard {
+            mark: Mark::Quote,
+            from: 2,
+            until,
+        };
+    }
+    other_spelling(text)
+}
