@@ -27,6 +27,7 @@ pub enum Joined {
 }
 
 // Whether a quote mark follows the first segment, past white space.
+// Rules out: a text without a segment called joined; the white space at the text's start counted (must-fail: nothing_is_joined, gap_from_the_start).
 pub fn is_joined(text: &[u8], settings: Settings) -> bool
     ensures { λ r. ⌜ r ≡ continues settings (now (text .entry)) ⌝ }
 {
@@ -47,7 +48,8 @@ fn segment_length(text: &[u8], settings: Settings) -> Joined
     }
 }
 
-// Rules out: a later segment dropped; an E prefix on a third segment refused; a remainder passed over (must-fail: first_segment_only, third_prefix_refused, remainder_accepted).
+// The length of all segments' values, or where the first that is refused stops, or a remainder begins.
+// Rules out: segments not counted; a remainder passed over; the setting lost (must-fail: first_segment_only, remainder_accepted, setting_lost).
 pub fn measure_joined(text: &[u8], settings: Settings) -> Joined
     ensures { λ r. ⌜ r ≡ lengthOf (joined settings (cut settings (now (text .entry)))) ⌝ }
 {
@@ -142,7 +144,7 @@ pub fn read_string(text: &[u8], settings: Settings, out: &mut [u8]) -> Read
 }
 
 // Either the text's part or the buffer's; a range that does not fit its slice, or a refusal, shows an empty part.
-// Rules out: the buffer shown for a borrowed answer; a range past the end (must-fail: shows_the_other, end_past_the_slice).
+// Rules out: the buffer shown for a borrowed answer; written bytes shown from the second on (must-fail: shows_the_other, first_byte_not_shown).
 pub fn shown<'a>(text: &'a [u8], out: &'a [u8], answer: Read) -> &'a [u8]
     ensures { λ r. ⌜ now r ≡ readShown (now (text .entry)) (now (out .entry)) answer ⌝ }
 {
