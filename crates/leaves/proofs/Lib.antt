@@ -1,0 +1,5 @@
+pub mod Leads
+pub mod Pushing
+pub mod Encoding
+pub mod Gathering
+pub mod Spacing
