@@ -1,0 +1,4 @@
+// [01 Numbers] Numbers from their text: the radix prefix, i64, decimal text. What a public function answers is a definition of `meaning`.
+mod digits;
+pub mod int64;
+pub mod prefix;
