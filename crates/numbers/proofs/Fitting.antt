@@ -22,7 +22,7 @@ use Rattle.numbers.specs.declared.int64.Int64.{Int64}
 use Rattle.numbers.specs.declared.int64.Int64.the-variants as I
 use Rattle.numbers.proofs.Prefixes.{tail-part}
 use Rattle.numbers.proofs.Spelled.{Above}
-use Rattle.numbers.proofs.Parsing.{signedBy, parses}
+use Rattle.numbers.proofs.Parsing.{parsed-value, parsed-great}
 use Rattle.numbers.proofs.Signs.{Fitted, fits-size}
 use Rattle.numbers.proofs.Texts.{separated-ten, radix-apart, base-is, body-is}
 
@@ -43,12 +43,6 @@ refused-great l (spelt m) e n k = go (ltb m l) refl e
     go true h e = absurd (let z : _≡_ {A = ℕ} 0 1 = cc in let y : ⊥ = omega arith in y)
     go false h e = let z : m ≡ n = cc in let y = ltb-false m l h in omega arith
 
-great-none : (minus : Bool) (l : ℕ) (s : Spelt) → 2 ^ 63 < l → Above l s → within-bits 63 (signedBy minus s) ≡ none
-great-none minus l misspelt h k = refl
-great-none true l (spelt zero) h k = absurd (let z = k 0 refl in let y : ⊥ = omega arith in y)
-great-none true l (spelt (suc n)) h k = rw (le-ltb n (2 ^ 63) (let z = k (suc n) refl in omega arith))
-great-none false l (spelt n) h k = rw (le-ltb n (2 ^ 63) (let z = k n refl in omega arith))
-
 -- `read_signed`
 module _ (β cut s : ℕ) (t : List ℕ) (r : Magnitude) (small : β ≤ 16) (great : 2 ^ 63 < cut * β) (e : s ≡ signLength t)
     (f : r ≡ magnitudeOf (cut * β) (digitsFrom β 0 false (take (length t - s) (drop s t)))) where
@@ -59,13 +53,11 @@ module _ (β cut s : ℕ) (t : List ℕ) (r : Magnitude) (small : β ≤ 16) (gr
       → o ≡ int64Of (parsedApart 63 β t)
   signed-value m minus o k g h =
       h ∙ ap (λ (x : Bool). Fitted (signed x m)) g
-      ∙ ap (λ (x : Spelt). int64Of (within-bits 63 (signedBy (isMinus t) x))) (sym (value-spelt (cut * β) m (digitsFrom β 0 false (unsigned t)) (sym digits-are ∙ k)))
-      ∙ ap int64Of (sym (parses β small 63 t))
+      ∙ ap int64Of (sym (parsed-value β small 63 t m (value-spelt (cut * β) m (digitsFrom β 0 false (unsigned t)) (sym digits-are ∙ k))))
 
   pub signed-refused : r ≡ M.Refused → I.Refused ≡ int64Of (parsedApart 63 β t)
   signed-refused k =
-      ap int64Of (sym (parses β small 63 t ∙ great-none (isMinus t) (cut * β) (digitsFrom β 0 false (unsigned t)) great
-      (refused-great (cut * β) (digitsFrom β 0 false (unsigned t)) (sym digits-are ∙ k))))
+      ap int64Of (sym (parsed-great β small 63 (cut * β) t great (refused-great (cut * β) (digitsFrom β 0 false (unsigned t)) (sym digits-are ∙ k))))
 
 -- `read_radix`: a cut for any base, and the sign before the prefix
 pub cut-bounds : (β : ℕ) → 2 ≤ β → β ≤ 16

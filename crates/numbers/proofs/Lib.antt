@@ -2,6 +2,8 @@ pub mod Prefixes
 pub mod Spelled
 pub mod Magnitudes
 pub mod Parsing
+pub mod Carrying
+pub mod Halving
 pub mod Signs
 pub mod Texts
 pub mod Fitting

@@ -3,15 +3,17 @@
 use mathlib.Core.Path.{_≡_, refl, ap, sym, _∙_, subst}
 use mathlib.Core.Bool.{Bool, true, false, _&&_, _||_, not, and-false, or-true, false≢true}
 use mathlib.Core.List.{List, [], _∷_}
-use Prim.Native.Nat.{ℕ, zero, suc, _+_, _*_, _≤_, _<_}
+use Prim.Native.Nat.{ℕ, zero, suc, _+_, _*_, _^_, _≤_, _<_}
 use Prim.Native.Char.{code}
 use native.Mathlib.Omega.{arith}
 use borrow.Author.Tests.{lt-ltb, le-ltb, ltb-true, ltb-false, ne-eqb, eqb-true}
 use lib.Dec.{eqb, ltb, eqb·zero-suc, eqb·suc-suc, leb·suc-suc}
+use lib.IntN.{ℤ}
 use lib.ListN.{length, drop}
 use Rattle.meaning.specs.Bytes.{if_then_else_, _!_, ascii, has, within, digit, digits, number, allDigits}
-use Rattle.meaning.specs.Numbers.{placed, strip, Parsed, none, int, signed, within-bits, signLength, isMinus, parsed}
+use Rattle.meaning.specs.Numbers.{placed, strip, Parsed, none, int, fits, signed, within-bits, signLength, isMinus, parsed, unsigned}
 use Rattle.numbers.specs.Values.{Spelt, misspelt, spelt, digitsFrom, parsedApart}
+use Rattle.numbers.proofs.Spelled.{Above}
 
 abbrev pub signedBy : Bool → Spelt → Parsed
 signedBy m misspelt = none
@@ -137,3 +139,28 @@ module _ (β : ℕ) (small : β ≤ 16) where
       go true y ex ey = rw (eqb-true b 43 ex) (behind-sign k 43 t refl refl small)
       go false true ex ey = rw (eqb-true b 45 ey) (behind-sign k 45 t refl refl small)
       go false false ex ey = without-sign k b t (rw (ex, ey)) small
+
+  -- so of digits that make a number it is that number with its sign, and of no digits or too great a number it is none
+  pub parsed-value : (k : ℕ) (t : List ℕ) (m : ℕ) → digitsFrom β 0 false (unsigned t) ≡ spelt m
+      → parsedApart k β t ≡ within-bits k (int (signed (isMinus t) m))
+  parsed-value k t m e = parses k t ∙ ap (λ (x : Spelt). within-bits k (signedBy (isMinus t) x)) e
+
+  pub parsed-great : (k l : ℕ) (t : List ℕ) → 2 ^ k < l → Above l (digitsFrom β 0 false (unsigned t)) → parsedApart k β t ≡ none
+  parsed-great k l t h a = parses k t ∙ go (isMinus t) (digitsFrom β 0 false (unsigned t)) a
+    where
+      go : (minus : Bool) (s : Spelt) → Above l s → within-bits k (signedBy minus s) ≡ none
+      go minus misspelt a = refl
+      go true (spelt zero) a = absurd (let z = a 0 refl in let y : ⊥ = omega arith in y)
+      go true (spelt (suc n)) a = rw (le-ltb n (2 ^ k) (let z = a (suc n) refl in omega arith))
+      go false (spelt n) a = rw (le-ltb n (2 ^ k) (let z = a n refl in omega arith))
+
+  pub parsed-fits : (k : ℕ) (t : List ℕ) (z : ℤ) → parsedApart k β t ≡ int z → fits k z ≡ true
+  parsed-fits k t z e = go (signedBy (isMinus t) (digitsFrom β 0 false (unsigned t))) (sym (parses k t) ∙ e)
+    where
+      by : (y : ℤ) (x : Bool) → fits k y ≡ x → (if x then int y else none) ≡ int z → fits k z ≡ true
+      by y true f e = let q : y ≡ z = cc in rw q at f
+      by y false f e = cc
+
+      go : (x : Parsed) → within-bits k x ≡ int z → fits k z ≡ true
+      go none e = cc
+      go (int y) e = by y (fits k y) refl e
