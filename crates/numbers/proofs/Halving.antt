@@ -73,7 +73,7 @@ above-by m B hi lo p h k = go (eqb hi B) refl
         let q : suc B ≤ hi = lt-of-le-ne h (λ z. n (sym z)) in
         let z : suc B * m ≤ hi * m = mul-le-mul-right m q in omega arith
 
-below-half : (hi lo : ℕ) → hi < 2 ^ 63 → lo < 2 ^ 64 → joinedHalves hi lo < 2 ^ 127
+pub below-half : (hi lo : ℕ) → hi < 2 ^ 63 → lo < 2 ^ 64 → joinedHalves hi lo < 2 ^ 127
 below-half hi lo h l = digits-lt {q = hi} {m = 2 ^ 63} {r = lo} {c = 2 ^ 64} h l
 
 least-by : (hi lo : ℕ) → (eqb hi (2 ^ 63) && eqb lo 0) ≡ true → (hi ≡ 2 ^ 63) × (lo ≡ 0)

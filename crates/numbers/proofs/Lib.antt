@@ -4,6 +4,9 @@ pub mod Magnitudes
 pub mod Parsing
 pub mod Carrying
 pub mod Halving
+pub mod Dividing
+pub mod Decimals
+pub mod Answering
 pub mod Signs
 pub mod Texts
 pub mod Fitting

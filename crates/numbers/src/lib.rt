@@ -3,3 +3,4 @@ mod digits;
 mod halves;
 pub mod int64;
 pub mod prefix;
+mod printing;
