@@ -7,6 +7,8 @@ pub mod Halving
 pub mod Dividing
 pub mod Decimals
 pub mod Answering
+pub mod Separating
+pub mod DecimalText
 pub mod Signs
 pub mod Texts
 pub mod Fitting

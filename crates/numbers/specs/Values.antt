@@ -53,3 +53,7 @@ halvesOf (int z) = halvesBy (bitsOf z)
 
 unfoldable pub negatedHalves : ℕ → ℕ → Halves
 negatedHalves hi lo = if eqb hi (2 ^ 63) && eqb lo 0 then H.Refused else H.Value (negatedHigh hi lo) (negatedLow lo)
+
+-- the bits of a digit
+unfoldable pub bitsBy : ℕ → ℕ
+bitsBy β = if eqb β 16 then 4 else if eqb β 8 then 3 else 1
