@@ -3,8 +3,8 @@
 use mathlib.Core.Path.{_≡_, refl, ap, sym, _∙_, subst}
 use mathlib.Core.Bool.{Bool, true, false}
 use mathlib.Core.List.{List}
-use Prim.Native.Nat.{ℕ, zero, suc, _+_, _-_, _*_, _/_, _%_, _^_, _≤_, _<_}
-use native.Mathlib.Nat.{div-lt-iff-lt-mul, div-add-mod', div-eq-of-lt, mod-lt, add-mul, mul-assoc, mul-comm, mul-le-mul-right, mul-div-cancel, mul-mod-left, add-zero, le-add-right, lt-of-le-of-lt, pos-of-ne-zero}
+use Prim.Native.Nat.{ℕ, _+_, _-_, _*_, _/_, _%_, _^_, _≤_, _<_}
+use native.Mathlib.Nat.{div-lt-iff-lt-mul, div-add-mod', div-eq-of-lt, mod-lt, add-mul, mul-assoc, mul-comm, mul-le-mul-right, mul-div-cancel, mul-mod-left, add-zero, le-add-right, lt-of-le-of-lt}
 use native.Mathlib.Omega.{arith}
 use borrow.Author.Tests.{lt-ltb, le-ltb, ltb-true, ltb-false}
 use mir.Syntax.{w64}
@@ -13,7 +13,7 @@ use lib.Arith.{digits-lt, digits-div, digits-mod, mod-mul}
 use lib.Dec.{ltb}
 use lib.Pow.{pow-add, pow-pos}
 use lib.ListN.{length, getD}
-use Rattle.meaning.specs.Bytes.{if_then_else_, digit}
+use Rattle.meaning.specs.Bytes.{digit}
 use Rattle.meaning.specs.Halves.{joinedHalves}
 use Rattle.laws.proofs.Halves.{joinedHalves-lt}
 use Rattle.numbers.specs.Values.{Spelt, misspelt, spelt, digitsFrom, wideOf}

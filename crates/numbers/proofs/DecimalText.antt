@@ -2,7 +2,7 @@
 use mathlib.Core.Path.{_≡_, refl, ap, sym, _∙_, subst}
 use mathlib.Core.Bool.{Bool, true, false, not}
 use mathlib.Core.List.{List, _++_}
-use Prim.Native.Nat.{ℕ, zero, suc, _+_, _-_, _/_, _%_, _^_, _≤_, _<_}
+use Prim.Native.Nat.{ℕ, _+_, _-_, _/_, _%_, _^_, _≤_, _<_}
 use Prim.Native.Char.{code}
 use native.Mathlib.Nat.{div-add-mod', pos-of-ne-zero}
 use native.Mathlib.Omega.{arith}
@@ -15,7 +15,7 @@ use Rattle.meaning.specs.declared.Read.the-variants.{Borrowed, Written, Refused
 use Rattle.meaning.specs.Bytes.{if_then_else_, has}
 use Rattle.meaning.specs.Reading.{Answer, borrowed, written, refused}
 use Rattle.meaning.specs.Reads.{Reads}
-use Rattle.meaning.specs.Numbers.{signLength, isMinus, radixPrefix, placed, strip, Parsed, none, int, fits, within-bits, negatedBy, printed, printedBy, unsigned, baseOf, separated, radixValue, decimalOf}
+use Rattle.meaning.specs.Numbers.{signLength, isMinus, radixPrefix, placed, strip, Parsed, none, int, fits, within-bits, negatedBy, printedBy, unsigned, baseOf, separated, radixValue, decimalOf}
 use Rattle.meaning.specs.Halves.{joinedHalves, bitsOf, textOf}
 use Rattle.laws.proofs.Halves.{textOf-printed}
 use Rattle.numbers.specs.Values.{parsedApart, halvesOf, bitsBy}
@@ -24,15 +24,11 @@ use Rattle.numbers.specs.declared.halves.Halves.{Halves}
 use Rattle.numbers.specs.declared.halves.Halves.the-variants as H
 use Rattle.numbers.specs.declared.separators.Separators.{Separators}
 use Rattle.numbers.specs.declared.separators.Separators.the-variants.{Count, Misplaced}
-use Rattle.numbers.proofs.Texts.{IsBase, two, eight, ten, sixteen, separated-ten, radix-apart, base-is, base-known, body-is}
+use Rattle.numbers.proofs.Texts.{IsBase, two, eight, ten, sixteen, separated-ten, radix-apart, base-is, body-is}
 use Rattle.numbers.proofs.Answering.{reads-short, reads-wrote}
 use Rattle.numbers.proofs.Separating.{strip-le, has-none, has-some}
 
--- an answer that changes no byte
-pub reads-refused : (a : Answer) (out : List ℕ) → a ≡ refused 0 → Reads a out (Refused 0) out
-reads-refused a out e = rw e (record { answer = refl; buffer = refl })
-
-pub reads-as : {out after : List ℕ} {r : Read} (a b : Answer) → a ≡ b → Reads b out r after → Reads a out r after
+reads-as : {out after : List ℕ} {r : Read} (a b : Answer) → a ≡ b → Reads b out r after → Reads a out r after
 reads-as a b e p = rw e p
 
 -- `read_plain`: what the count says
@@ -66,7 +62,7 @@ module _ (t : List ℕ) (s : Separators) (e : s ≡ separatorsOf t) where
       unfolding plainOf
       some = let q : 0 < n = pos-of-ne-zero p in rw (counted .0, has-some t (let c = counted .1 in omega arith))
 
-      pub plain-size : length t - n ≡ length (strip t)
+      plain-size : length t - n ≡ length (strip t)
       plain-size = let h = strip-le t in let c = counted .1 in omega arith
 
       pub plain-within : n ≤ length t
@@ -94,11 +90,8 @@ within-fits z (int y) e = go (fits 127 y) refl e
 module _ (x : Parsed) (r : Halves) (e : r ≡ halvesOf (within-bits 127 x)) {out after : List ℕ} {o : Read} where
   pub radix-printed : (hi lo : ℕ) → r ≡ H.Value hi lo → Reads (written (textOf (joinedHalves hi lo))) out o after
       → Reads (printedBy (within-bits 127 x)) out o after
-  radix-printed hi lo k p = go (within-bits 127 x) (within-fits′ x) (sym e ∙ k)
+  radix-printed hi lo k p = go (within-bits 127 x) (λ z. within-fits z x) (sym e ∙ k)
     where
-      within-fits′ : (x : Parsed) (z : ℤ) → within-bits 127 x ≡ int z → fits 127 z ≡ true
-      within-fits′ x z = within-fits z x
-
       go : (y : Parsed) → ((z : ℤ) → y ≡ int z → fits 127 z ≡ true) → halvesOf y ≡ H.Value hi lo → Reads (printedBy y) out o after
       go none f e = absurd (let z : _≡_ {A = ℕ} 0 1 = cc in let y : ⊥ = omega arith in y)
       go (int z) f e =

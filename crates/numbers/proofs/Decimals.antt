@@ -2,7 +2,7 @@
 use mathlib.Core.Path.{_≡_, refl, ap, sym, _∙_, subst}
 use mathlib.Core.List.{List, [], _∷_, _++_, append-assoc, append-nil}
 use Prim.Native.Nat.{ℕ, zero, suc, _+_, _-_, _*_, _/_, _%_, _^_, _≤_, _<_}
-use native.Mathlib.Nat.{add-zero, add-suc, mod-eq-of-lt, lt-of-lt-of-le, le-div-iff-mul-le, div-div-eq-div-mul, pow-suc, pow-succ', mul-le-mul-right, zero-add, div-one}
+use native.Mathlib.Nat.{add-zero, add-suc, mod-eq-of-lt, lt-of-lt-of-le, le-div-iff-mul-le, div-div-eq-div-mul, pow-suc, pow-succ', zero-add, div-one}
 use native.Mathlib.Numerals.{add-one}
 use native.Mathlib.Omega.{arith}
 use mir.Syntax.{w64}
@@ -208,9 +208,6 @@ module _ {w : List ℕ} {size from i : ℕ} (h l : ℕ) {out : List ℕ} (c : Ch
         filling = fill-nine (c .filling) (omega (arith, c .exact)) (joinedHalves (p .hi) (p .lo)) (p .rest) (q .quotient) (q .left) new k e;
         exact = rw (q .quotient) (omega (arith, c .exact));
       }
-
-  pub chunk-after : from ≤ i
-  chunk-after = c .filling .after
 
   pub chunk-end : h ≡ 0 → (new : List ℕ) → drop from new ≡ lastOf (i - from) l ++ drop i out → drop from new ≡ w
   chunk-end z new e = e ∙ ap (λ (n : ℕ). lastOf (i - from) n ++ drop i out) (sym (low-only h l z)) ∙ c .filling .same

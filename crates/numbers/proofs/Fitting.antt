@@ -2,19 +2,19 @@
 use mathlib.Core.Path.{_≡_, refl, ap, sym, _∙_}
 use mathlib.Core.Bool.{Bool, true, false, not}
 use mathlib.Core.List.{List}
-use Prim.Native.Nat.{ℕ, zero, suc, _+_, _-_, _*_, _/_, _^_, _≤_, _<_}
+use Prim.Native.Nat.{ℕ, _+_, _-_, _*_, _/_, _^_, _≤_, _<_}
 use native.Mathlib.Nat.{lt-div-mul-add, div-mul-le-self}
 use native.Mathlib.Omega.{arith}
-use borrow.Author.Tests.{lt-ltb, le-ltb, ltb-false, eq-eqb, ne-eqb}
+use borrow.Author.Tests.{ltb-false, ne-eqb}
 use lib.Dec.{ltb}
-use lib.IntN.{ℤ, pos, negsuc, negℤ}
+use lib.IntN.{ℤ, negℤ}
 use lib.ListN.{length, take, drop}
 use mir.Syntax.{w64}
 use mir.Val.{SFits, toZ, ofZ}
 use mir.Facts.{toZ-ofZ}
 use Rattle.meaning.specs.declared.RadixPrefix.{RadixPrefix}
 use Rattle.meaning.specs.Bytes.{if_then_else_}
-use Rattle.meaning.specs.Numbers.{signLength, isMinus, radixPrefix, placed, strip, Parsed, none, int, fits, signed, within-bits, parsed, negatedBy, unsigned, baseOf, separated, radixValue, i64Of}
+use Rattle.meaning.specs.Numbers.{signLength, isMinus, radixPrefix, placed, strip, Parsed, none, int, signed, within-bits, parsed, negatedBy, unsigned, baseOf, i64Of}
 use Rattle.numbers.specs.Values.{int64Of, parsedApart, Spelt, misspelt, spelt, digitsFrom, magnitudeOf}
 use Rattle.numbers.specs.declared.digits.Magnitude.{Magnitude}
 use Rattle.numbers.specs.declared.digits.Magnitude.the-variants as M

@@ -80,11 +80,6 @@ least-by : (hi lo : ℕ) → (eqb hi (2 ^ 63) && eqb lo 0) ≡ true → (hi ≡ 
 least-by hi lo e =
     (eqb-true hi (2 ^ 63) (and-left (eqb hi (2 ^ 63)) (eqb lo 0) e), eqb-true lo 0 (and-right (eqb hi (2 ^ 63)) (eqb lo 0) e))
 
-above-half : (hi lo : ℕ) → 2 ^ 63 ≤ hi → (eqb hi (2 ^ 63) && eqb lo 0) ≡ false → 2 ^ 127 < joinedHalves hi lo
-above-half hi lo h e =
-    above-by (2 ^ 64) (2 ^ 63) hi lo (omega arith) h
-    (λ k. pos-of-ne-zero (λ z. false≢true (sym e ∙ rw (eq-eqb hi (2 ^ 63) k, eq-eqb lo 0 z))))
-
 -- `signed_halves`
 module _ (hi lo : ℕ) where
   pub plus-held : hi < 2 ^ 63 → Fits w64 lo → H.Value hi lo ≡ Held (signed false (joinedHalves hi lo))
@@ -102,15 +97,21 @@ module _ (hi lo : ℕ) where
       (held (negℤ (pos (joinedHalves hi lo))) (negatedHigh hi lo) (negatedLow lo) (small-negated (joinedHalves hi lo) s) (negatedLow-lt lo)
       (negated-halves (pos (joinedHalves hi lo)) hi lo (lt-ltb (joinedHalves hi lo) (2 ^ 127) s) (f .fits) (g .fits) refl))
 
-  pub minus-least : (eqb hi (2 ^ 63) && eqb lo 0) ≡ true → H.Value hi lo ≡ Held (signed true (joinedHalves hi lo))
-  minus-least e = let k = least-by hi lo e in rw (k .0, k .1)
+  pub minus-least : hi ≡ 2 ^ 63 → lo ≡ 0 → H.Value hi lo ≡ Held (signed true (joinedHalves hi lo))
+  minus-least h l = rw (h, l)
 
-  pub minus-over : 2 ^ 63 ≤ hi → (eqb hi (2 ^ 63) && eqb lo 0) ≡ false → H.Refused ≡ Held (signed true (joinedHalves hi lo))
-  minus-over h e = go (joinedHalves hi lo) (above-half hi lo h e)
+  minus-above : 2 ^ 63 ≤ hi → (hi ≡ 2 ^ 63 → 0 < lo) → H.Refused ≡ Held (signed true (joinedHalves hi lo))
+  minus-above h k = go (joinedHalves hi lo) (above-by (2 ^ 64) (2 ^ 63) hi lo (omega arith) h k)
     where
       go : (n : ℕ) → 2 ^ 127 < n → H.Refused ≡ Held (signed true n)
       go zero k = absurd (none-below (2 ^ 127) k)
       go (suc n) k = rw (le-ltb n (2 ^ 127) (le-of-suc-le-suc k))
+
+  pub minus-over : 2 ^ 63 ≤ hi → (hi ≡ 2 ^ 63 → ⊥) → H.Refused ≡ Held (signed true (joinedHalves hi lo))
+  minus-over h n = minus-above h (λ k. absurd (n k))
+
+  pub minus-under : 2 ^ 63 ≤ hi → (lo ≡ 0 → ⊥) → H.Refused ≡ Held (signed true (joinedHalves hi lo))
+  minus-under h n = minus-above h (λ k. pos-of-ne-zero n)
 
 -- WHAT THE HALVES SAY of the digits
 wide-value : (hi lo : ℕ) (s : Spelt) → wideOf s ≡ H.Value hi lo → s ≡ spelt (joinedHalves hi lo)

@@ -1,14 +1,14 @@
 -- Separators in decimal text: each between two digits, counted, and left out of a copy. Assumes nothing.
 use mathlib.Core.Path.{_≡_, refl, ap, sym, _∙_}
-use mathlib.Core.Bool.{Bool, true, false, _&&_, _||_, not, and-false}
+use mathlib.Core.Bool.{Bool, true, false, _&&_, _||_, and-false}
 use mathlib.Core.List.{List, [], _∷_, _++_}
 use Prim.Native.Nat.{ℕ, zero, suc, _+_, _-_, _≤_, _<_}
 use native.Mathlib.Nat.{zero-add, add-zero}
 use native.Mathlib.Numerals.{add-one, sub-one}
 use native.Mathlib.Omega.{arith}
-use borrow.Author.Tests.{eq-eqb, ne-eqb, le-ltb}
+use borrow.Author.Tests.{eq-eqb, ne-eqb}
 use lib.Dec.{eqb, ltb}
-use lib.ListN.{length, getD, take, drop, set, length-drop, length-set, drop-of-length-le, List·getD-eq-default}
+use lib.ListN.{length, getD, drop, set, length-drop, drop-of-length-le, List·getD-eq-default}
 use lib.Seq.{drop-cons, getD-drop, paste, paste-zero, paste-suc, length-paste, take-length}
 use Rattle.meaning.specs.Bytes.{if_then_else_, _!_, within, digit, has}
 use Rattle.meaning.specs.Numbers.{placed, strip}

@@ -1,6 +1,6 @@
 -- A number with its sign, as the machine holds it: within 64 bits, and its negation. Assumes nothing.
 use mathlib.Core.Path.{_≡_, refl, ap, sym, _∙_}
-use mathlib.Core.Bool.{Bool, true, false}
+use mathlib.Core.Bool.{true, false}
 use Prim.Native.Nat.{ℕ, zero, suc, _+_, _-_, _^_, _≤_, _<_}
 use native.Mathlib.Nat.{zero-add}
 use native.Mathlib.Numerals.{sub-one}
@@ -11,7 +11,6 @@ use lib.Signed.{mag}
 use mir.Syntax.{w64}
 use mir.Val.{SFits, toZ, ofZ}
 use mir.Facts.{toZ-pos, toZ-ofZ}
-use Rattle.meaning.specs.Bytes.{if_then_else_}
 use Rattle.meaning.specs.Numbers.{int, fits, signed, within-bits}
 use Rattle.numbers.specs.Values.{int64Of}
 use Rattle.numbers.specs.declared.int64.Int64.{Int64}

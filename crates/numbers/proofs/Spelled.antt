@@ -1,21 +1,19 @@
 -- Digits of a base with `_` between two of them: what they are to the definitions, and what a loop over them keeps. One argument for every
 -- base up to 16, and for every way to hold the number. Assumes nothing.
-use mathlib.Core.Path.{_≡_, refl, ap, sym, _∙_}
-use mathlib.Core.Bool.{Bool, true, false, _&&_, _||_, not, and-false}
+use mathlib.Core.Path.{_≡_, refl, sym, _∙_}
+use mathlib.Core.Bool.{Bool, true, false, _&&_, and-false}
 use mathlib.Core.List.{List, [], _∷_}
-use Prim.Native.Nat.{ℕ, zero, suc, _+_, _*_, _≤_, _<_}
+use Prim.Native.Nat.{ℕ, _+_, _*_, _≤_, _<_}
 use Prim.Native.Char.{code}
-use native.Mathlib.Nat.{le-trans, mul-le-mul-left, mul-le-mul-right, mul-one, le-add-right}
+use native.Mathlib.Nat.{le-trans, mul-le-mul-left, mul-one, le-add-right}
 use native.Mathlib.Numerals.{add-one}
 use native.Mathlib.Omega.{arith}
-use borrow.Author.Tests.{lt-ltb, le-ltb, ltb-true, ltb-false, eq-eqb, ne-eqb, eqb-true}
+use borrow.Author.Tests.{lt-ltb, le-ltb, eq-eqb, ne-eqb}
 use lib.Dec.{eqb, ltb}
 use lib.ListN.{length, drop, getD, drop-of-length-le}
 use lib.Seq.{drop-cons}
-use Rattle.meaning.specs.Bytes.{if_then_else_, _!_, digit, digits, number, allDigits, within}
-use Rattle.meaning.specs.Numbers.{placed, strip}
-use Rattle.numbers.specs.Values.{Spelt, misspelt, spelt, digitsFrom, magnitudeOf}
-use Rattle.numbers.specs.declared.digits.Magnitude.the-variants as M
+use Rattle.meaning.specs.Bytes.{if_then_else_, _!_, digit}
+use Rattle.numbers.specs.Values.{Spelt, misspelt, spelt, digitsFrom}
 
 -- ONE BYTE: a digit, `_`, another
 module _ (β v : ℕ) (a : Bool) (i : ℕ) (t : List ℕ) (at : i < length t) where

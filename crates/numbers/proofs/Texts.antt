@@ -1,16 +1,16 @@
 -- A text by its base: in base ten, and behind a radix prefix. Assumes nothing.
-use mathlib.Core.Path.{_≡_, refl, ap, sym, _∙_}
-use mathlib.Core.Bool.{Bool, true, false, _&&_, _||_, not}
+use mathlib.Core.Path.{_≡_, refl, ap, _∙_}
+use mathlib.Core.Bool.{Bool, true, false, not}
 use mathlib.Core.List.{List, [], _∷_}
-use Prim.Native.Nat.{ℕ, zero, suc, _-_, _≤_, _<_}
+use Prim.Native.Nat.{ℕ, _-_, _≤_}
 use Prim.Native.Char.{code}
 use native.Mathlib.Omega.{arith}
-use borrow.Author.Tests.{eq-eqb, ne-eqb, eqb-true}
+use borrow.Author.Tests.{ne-eqb, eqb-true}
 use lib.Dec.{eqb, ltb}
 use lib.ListN.{length, take, drop}
 use Rattle.meaning.specs.declared.RadixPrefix.{RadixPrefix}
 use Rattle.meaning.specs.Bytes.{if_then_else_, _!_, ascii, has, within, digit}
-use Rattle.meaning.specs.Numbers.{signLength, isMinus, baseBy, prefixBy, radixPrefix, placed, strip, Parsed, none, parsed, within-bits, negatedBy, unsigned, baseOf, bodyOf, separated, radixValue}
+use Rattle.meaning.specs.Numbers.{signLength, isMinus, baseBy, radixPrefix, placed, strip, none, parsed, within-bits, negatedBy, unsigned, baseOf, bodyOf, separated, radixValue}
 use Rattle.numbers.specs.Values.{parsedApart}
 use Rattle.numbers.proofs.Prefixes.{tail-part}
 

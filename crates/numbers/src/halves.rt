@@ -14,8 +14,9 @@ pub enum Halves {
     Refused,
 }
 
-// The number that the digits of base 2, 8 or 16 make, of which each has `bits` bits. Refused: no digit, another byte, `_` at an end or beside `_`,
-// a number that 128 bits do not hold.
+// The number that the digits of base 2, 8 or 16 make, of which each has `bits` bits, with `_` between two of them. Refused: no digit, another byte, `_`
+// at an end or beside `_`, a number that 128 bits do not hold.
+// Rules out: bits pushed out of the high half; the wrong bits carried into it (must-fail: bits_pushed_out, wrong_carry).
 pub(crate) fn read_halves(text: &[u8], base: u64, bits: u64) -> Halves
     requires { ⌜ (base ≡ 2 ^ bits) × (0 < bits) × (bits ≤ 4) ⌝ }
     ensures { λ r. ⌜ r ≡ wideOf (digitsFrom base 0 false (now (text .entry))) ⌝ }
@@ -28,8 +29,8 @@ pub(crate) fn read_halves(text: &[u8], base: u64, bits: u64) -> Halves
     while i < text.len() {
         let d = leaves::digits::hex_value(text[i]) as u64;
         if d < base {
-            let out = hi >> keep;
-            if out != 0 {
+            let lost = hi >> keep;
+            if lost != 0 {
                 return Halves::Refused;
             }
             hi = hi * base + (lo >> keep);
@@ -55,14 +56,16 @@ pub(crate) fn read_halves(text: &[u8], base: u64, bits: u64) -> Halves
     }
 }
 
-// The low half of the negation.
+// The low half of the negation, which wraps.
+// Rules out: the complement less one (must-fail: low_off_by_one).
 pub(crate) fn negated_low(lo: u64) -> u64
     ensures { λ r. ⌜ r ≡ negatedLow lo ⌝ }
 {
     std::num::wrapping_sub_u64(0, lo)
 }
 
-// The high half of the negation, which the low half borrows from unless it is zero.
+// The high half of the negation, which wraps, and which the low half borrows from unless it is zero.
+// Rules out: no carry into the high half (must-fail: no_carry_into_high).
 pub(crate) fn negated_high(hi: u64, lo: u64) -> u64
     ensures { λ r. ⌜ r ≡ negatedHigh hi lo ⌝ }
 {
@@ -74,6 +77,8 @@ pub(crate) fn negated_high(hi: u64, lo: u64) -> u64
 }
 
 // The 128 bits of the number with this sign and this magnitude, if it is a signed number of 128 bits.
+// Rules out: limits off by one, on each side (must-fail: halves_least_refused, halves_below_least_accepted, halves_greatest_refused,
+// halves_above_greatest_accepted).
 fn signed_halves(minus: bool, hi: u64, lo: u64) -> Halves
     ensures { λ r. ⌜ r ≡ halvesOf (within-bits 127 (int (signed minus (joinedHalves hi lo)))) ⌝ }
 {
@@ -84,18 +89,22 @@ fn signed_halves(minus: bool, hi: u64, lo: u64) -> Halves
                 lo: negated_low(lo),
             };
         }
-        if (hi == 0x8000_0000_0000_0000) & (lo == 0) {
-            return Halves::Value { hi: hi, lo: lo };
+        if hi != 0x8000_0000_0000_0000 {
+            return Halves::Refused;
         }
-        return Halves::Refused;
-    }
-    if hi < 0x8000_0000_0000_0000 {
+        if lo != 0 {
+            return Halves::Refused;
+        }
         return Halves::Value { hi: hi, lo: lo };
     }
-    Halves::Refused
+    if 0x8000_0000_0000_0000 <= hi {
+        return Halves::Refused;
+    }
+    Halves::Value { hi: hi, lo: lo }
 }
 
 // The halves of the negation; -2^127 is refused before it.
+// Rules out: -2^127 behind a minus accepted (must-fail: least_behind_minus_accepted).
 fn negated_halves(hi: u64, lo: u64) -> Halves
     ensures { λ r. ⌜ r ≡ negatedHalves hi lo ⌝ }
 {

@@ -17,6 +17,7 @@ pub enum Int64 {
 }
 
 // The number with this sign and this magnitude, if 64 bits hold it.
+// Rules out: limits off by one, on each side (must-fail: least_refused, below_least_accepted, greatest_refused, above_greatest_accepted).
 fn with_sign(minus: bool, magnitude: u64) -> Int64
     ensures { λ r. ⌜ r ≡ int64Of (within-bits 63 (int (signed minus magnitude))) ⌝ }
 {
@@ -36,6 +37,7 @@ fn with_sign(minus: bool, magnitude: u64) -> Int64
 }
 
 // The negation, if 64 bits hold it.
+// Rules out: -2^63 negated (must-fail: least_negated).
 fn negated(value: i64) -> Int64
     ensures { λ r. ⌜ r ≡ int64Of (within-bits 63 (int (negℤ value))) ⌝ }
 {
@@ -45,7 +47,7 @@ fn negated(value: i64) -> Int64
     Int64::Value(0 - value)
 }
 
-// A sign or none, then digits of a base with `_` between two of them.
+// A sign or none, then digits of a base with `_` between two of them. `cut` times the base is above 2^63, so that what it refuses no sign makes fit.
 fn read_signed(text: &[u8], base: u64, cut: u64) -> Int64
     requires { ⌜ (2 ≤ base) × (base ≤ 16) × (2 ^ 63 < cut * base) × (cut * base ≤ 2 ^ 64) ⌝ }
     ensures { λ r. ⌜ r ≡ int64Of (parsedApart 63 base (now (text .entry))) ⌝ }
@@ -72,7 +74,10 @@ fn read_radix(minus: bool, body: &[u8], base: u64) -> Int64
     }
 }
 
-// The i64 that a text spells: decimal, or with a sign or none, a radix prefix and a second sign or none. Refused: anything else, and what 64 bits do not hold.
+// The i64 that a text spells: in base ten a sign or none and digits; else a sign or none, a radix prefix, a second sign or none and digits. Refused:
+// any other text, and what 64 bits do not hold.
+// Rules out: a second sign in base ten; a second sign behind a prefix passed over; the first sign not put to a radix value; a base-ten limit that comes
+// a digit too early (must-fail: sign_eaten_twice, second_sign_eaten_twice, first_sign_ignored, cut_too_early).
 pub fn read_i64(text: &[u8]) -> Int64
     ensures { λ r. ⌜ r ≡ int64Of (i64Of (now (text .entry))) ⌝ }
 {

@@ -1,7 +1,6 @@
 -- `numbers::digits::read_digits` meets its contract. The loop's invariant: the digits that are left, read on from the number at hand, give what all
 -- give, and that number is below the limit. The measure is what is left of the length. Assumes nothing.
-use mathlib.Core.Path.{_≡_}
-use Prim.Native.Nat.{ℕ, _-_}
+use Prim.Native.Nat.{_-_}
 use borrow.Author.Needs.{needs}
 use native.Mathlib.Omega.{arith}
 use lib.ListN.{length}

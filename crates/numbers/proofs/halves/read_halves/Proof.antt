@@ -30,8 +30,8 @@ hex-value-requires c κs = search needs
 cast-d : tie.Need-cast-d Inv-loop μ-loop
 cast-d c = search needs
 
-shr-out : tie.Need-shr-out Inv-loop μ-loop
-shr-out c = omega arith
+shr-lost : tie.Need-shr-lost Inv-loop μ-loop
+shr-lost c = omega arith
 
 returns : tie.Need-returns Inv-loop μ-loop
 returns c = search carried-over
@@ -95,7 +95,7 @@ read-halves-spec =
     shared-slice-read-hex-value
     hex-value-requires
     cast-d
-    shr-out
+    shr-lost
     returns
     mul-hi
     shr-hi

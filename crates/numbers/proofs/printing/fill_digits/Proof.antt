@@ -1,12 +1,11 @@
 -- `numbers::printing::fill_digits` meets its contract. The loop's invariant: the digits of the halves at hand, as many as there is room before the place,
 -- are still to come. The measure is what the halves are. Assumes nothing.
-use native.Mathlib.Omega.{arith}
 use mathlib.Core.List.{_++_}
 use lib.ListN.{length, drop}
 use borrow.Author.Needs.{needs}
 use Rattle.meaning.specs.Numbers.{digitsOf}
 use Rattle.meaning.specs.Halves.{joinedHalves}
-use Rattle.numbers.proofs.Decimals.{Chunking, chunk-start, chunk-room, chunk-on, chunk-after, chunk-end, billion-less}
+use Rattle.numbers.proofs.Decimals.{Chunking, chunk-start, chunk-room, chunk-on, chunk-end, billion-less}
 use Rattle.numbers.proofs.printing.fill_digits.Statement.{statement}
 use Rattle.numbers.proofs.printing.fill_digits.Tie as tie
 
