@@ -20,7 +20,7 @@ pub struct Parted {
 }
 
 // The number divided by a billion: the low half goes by two limbs of 32 bits.
-// Rules out: a limb that is not what the one before left (must-fail: wrong_limb).
+// Rules out: what is left taken by another divisor (must-fail: wrong_rest).
 fn by_billion(hi: u64, lo: u64) -> Parted
     ensures { λ r. ⌜ Parts (joinedHalves hi lo) r ⌝ }
 {

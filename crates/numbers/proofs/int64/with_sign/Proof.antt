@@ -21,19 +21,19 @@ sub-t7 c = less-fits (c .before .before .before .args .magnitude - 1) (omega ari
 returns-2 : tie.Need-returns-2
 returns-2 c =
     rw (c .before .before .if1 .taken, less-back (c .before .before .before .args .magnitude - 1) (omega arith))
-    (minus-value _ (c .before .if2 .left) (c .if3 .taken))
+    (minus-value (c .before .before .before .args .magnitude) (c .before .if2 .left) (omega arith))
 
 returns-3 : tie.Need-returns-3
-returns-3 c = rw (c .before .before .if1 .taken) (minus-great _ (c .if3 .left))
+returns-3 c = rw (c .before .before .if1 .taken) (minus-great (c .before .before .before .args .magnitude) (omega arith))
 
 cast-t8 : tie.Need-cast-t8
 cast-t8 c = search needs
 
 returns-4 : tie.Need-returns-4
-returns-4 c = rw (c .before .if1 .left) (plus-value _ (c .if4 .taken))
+returns-4 c = rw (c .before .if1 .left) (plus-value (c .before .before .args .magnitude) (omega arith))
 
 returns-5 : tie.Need-returns-5
-returns-5 c = rw (c .before .if1 .left) (plus-great _ (c .if4 .left))
+returns-5 c = rw (c .before .if1 .left) (plus-great (c .before .before .args .magnitude) (omega arith))
 
 pub with-sign-spec : {M : Type 1} → statement M
 with-sign-spec =

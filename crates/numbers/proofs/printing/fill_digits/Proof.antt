@@ -3,6 +3,7 @@
 use mathlib.Core.List.{_++_}
 use lib.ListN.{length, drop}
 use borrow.Author.Needs.{needs}
+use native.Mathlib.Omega.{arith}
 use Rattle.meaning.specs.Numbers.{digitsOf}
 use Rattle.meaning.specs.Halves.{joinedHalves}
 use Rattle.numbers.proofs.Decimals.{Chunking, chunk-start, chunk-room, chunk-on, chunk-end, billion-less}
@@ -22,7 +23,8 @@ by-billion-requires : tie.Need-by-billion-requires Inv-loop μ-loop
 by-billion-requires c κs = search needs
 
 sub-i : tie.Need-sub-i Inv-loop μ-loop
-sub-i c = search chunk-room
+sub-i c =
+    omega (arith, chunk-room (c .before .before .loop .h) (c .before .before .loop .l) (c .before .before .loop .inv) (c .before .loop-test .taken))
 
 fill-low-requires : tie.Need-fill-low-requires Inv-loop μ-loop
 fill-low-requires c κs = search needs
