@@ -115,12 +115,20 @@ module _ {β : ℕ} {t : List ℕ} {hi lo : ℕ} {a : Bool} {i : ℕ} (r : Carry
       carried-product = record { fits = lt-of-le-of-lt (le-add-right (hi * β) (lo / 2 ^ (64 - b))) (carried-high .fits) }
 
       pub carried-low : Fits w64 (lo * 2 ^ b % 2 ^ 64 + d)
-      carried-low = record { fits = subst (λ (x : ℕ). lo * x % 2 ^ 64 + d < 2 ^ 64) w (carry-low (2 ^ 64) β (2 ^ (64 - b)) hi lo d split (omega arith) (pow-pos (64 - b)) h) }
+      carried-low = record {
+        fits =
+            subst (λ (x : ℕ). lo * x % 2 ^ 64 + d < 2 ^ 64) w
+            (carry-low (2 ^ 64) β (2 ^ (64 - b)) hi lo d split (omega arith) (pow-pos (64 - b)) h);
+      }
+
+      carried-sum : joinedHalves (hi * β + lo / 2 ^ (64 - b)) (lo * 2 ^ b % 2 ^ 64 + d) ≡ joinedHalves hi lo * β + d
+      carried-sum =
+          subst (λ (x : ℕ). joinedHalves (hi * β + lo / 2 ^ (64 - b)) (lo * x % 2 ^ 64 + d) ≡ joinedHalves hi lo * β + d) w
+          (carry-sum (2 ^ 64) β (2 ^ (64 - b)) hi lo d split (omega arith) (pow-pos (64 - b)))
 
       pub carried-on : Carrying β t (hi * β + lo / 2 ^ (64 - b)) (lo * 2 ^ b % 2 ^ 64 + d) true (i + 1)
       carried-on = record {
-        reading = subst (λ (v : ℕ). Reading β t v true (i + 1)) (sym (subst (λ (x : ℕ). (hi * β + lo / 2 ^ (64 - b)) * 2 ^ 64 + (lo * x % 2 ^ 64 + d) ≡ (hi * 2 ^ 64 + lo) * β + d) w
-            (carry-sum (2 ^ 64) β (2 ^ (64 - b)) hi lo d split (omega arith) (pow-pos (64 - b))))) (digit-on (r .reading) at e h);
+        reading = subst (λ (v : ℕ). Reading β t v true (i + 1)) (sym carried-sum) (digit-on (r .reading) at e h);
         high = carried-high .fits;
         low = carried-low .fits;
       }

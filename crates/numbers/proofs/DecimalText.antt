@@ -25,6 +25,7 @@ use Rattle.numbers.specs.declared.halves.Halves.the-variants as H
 use Rattle.numbers.specs.declared.separators.Separators.{Separators}
 use Rattle.numbers.specs.declared.separators.Separators.the-variants.{Count, Misplaced}
 use Rattle.numbers.proofs.Texts.{IsBase, two, eight, ten, sixteen, separated-ten, radix-apart, base-is, body-is}
+use Rattle.numbers.proofs.Parsing.{within-fits}
 use Rattle.numbers.proofs.Answering.{reads-short, reads-wrote}
 use Rattle.numbers.proofs.Separating.{strip-le, has-none, has-some}
 
@@ -79,18 +80,10 @@ module _ (t : List ℕ) (s : Separators) (e : s ≡ separatorsOf t) where
       plain-wrote out new h g = rw some (reads-wrote (strip t) out (length t - n) plain-size h new (rw (plain-size) g))
 
 -- `read_radix_text`
-within-fits : (z : ℤ) (x : Parsed) → within-bits 127 x ≡ int z → fits 127 z ≡ true
-within-fits z none e = cc
-within-fits z (int y) e = go (fits 127 y) refl e
-  where
-    go : (x : Bool) → fits 127 y ≡ x → (if x then int y else none) ≡ int z → fits 127 z ≡ true
-    go true f e = let q : y ≡ z = cc in rw q at f
-    go false f e = cc
-
 module _ (x : Parsed) (r : Halves) (e : r ≡ halvesOf (within-bits 127 x)) {out after : List ℕ} {o : Read} where
   pub radix-printed : (hi lo : ℕ) → r ≡ H.Value hi lo → Reads (written (textOf (joinedHalves hi lo))) out o after
       → Reads (printedBy (within-bits 127 x)) out o after
-  radix-printed hi lo k p = go (within-bits 127 x) (λ z. within-fits z x) (sym e ∙ k)
+  radix-printed hi lo k p = go (within-bits 127 x) (λ z. within-fits 127 z x) (sym e ∙ k)
     where
       go : (y : Parsed) → ((z : ℤ) → y ≡ int z → fits 127 z ≡ true) → halvesOf y ≡ H.Value hi lo → Reads (printedBy y) out o after
       go none f e = absurd (let z : _≡_ {A = ℕ} 0 1 = cc in let y : ⊥ = omega arith in y)
@@ -134,7 +127,8 @@ module _ (t : List ℕ) where
       go true = refl
       go false = refl
 
-module _ (t : List ℕ) (s : ℕ) (p : RadixPrefix) (e : s ≡ signLength t) (q : p ≡ radixPrefix (take (length t - s) (drop s t))) {out after : List ℕ} {r : Read} where
+module _ (t : List ℕ) (s : ℕ) (p : RadixPrefix) (e : s ≡ signLength t) (q : p ≡ radixPrefix (take (length t - s) (drop s t)))
+    {out after : List ℕ} {r : Read} where
   pub decimal-ten : p .base ≡ 10 → Reads (plainOf t) out r after → Reads (decimalOf t) out r after
   decimal-ten k h = reads-as (decimalOf t) (plainOf t) (text-ten t (sym (base-is t s p e q) ∙ k)) h
 

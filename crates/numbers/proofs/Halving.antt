@@ -184,7 +184,8 @@ negated-held z f = go (eqb (bitsOf z / 2 ^ 64) (2 ^ 63) && eqb (bitsOf z % 2 ^ 6
         refuse z f (sym (div-add-mod' (bitsOf z) (2 ^ 64)) ∙ rw (k .0, k .1))
     go false e =
         held (negℤ z) (negatedHigh (bitsOf z / 2 ^ 64) (bitsOf z % 2 ^ 64)) (negatedLow (bitsOf z % 2 ^ 64)) (keep z f e) (negatedLow-lt (bitsOf z % 2 ^ 64))
-        (negated-halves z (bitsOf z / 2 ^ 64) (bitsOf z % 2 ^ 64) f (div-lt-iff-lt-mul (lit< tt) .1 (bitsOf-lt z f)) (mod-lt (bitsOf z) (lit< tt)) (div-add-mod' (bitsOf z) (2 ^ 64)))
+        (negated-halves z (bitsOf z / 2 ^ 64) (bitsOf z % 2 ^ 64) f (div-lt-iff-lt-mul (lit< tt) .1 (bitsOf-lt z f)) (mod-lt (bitsOf z) (lit< tt))
+        (div-add-mod' (bitsOf z) (2 ^ 64)))
 
 -- `read_radix_halves`
 module _ (minus : Bool) (hi lo : ℕ) (o : Halves) where

@@ -18,6 +18,15 @@ abbrev pub signedBy : Bool → Spelt → Parsed
 signedBy m misspelt = none
 signedBy m (spelt n) = int (signed m n)
 
+-- what passes the test of k bits is within them
+pub within-fits : (k : ℕ) (z : ℤ) (x : Parsed) → within-bits k x ≡ int z → fits k z ≡ true
+within-fits k z none e = cc
+within-fits k z (int y) e = go (fits k y) refl e
+  where
+    go : (x : Bool) → fits k y ≡ x → (if x then int y else none) ≡ int z → fits k z ≡ true
+    go true f e = let q : y ≡ z = cc in rw q at f
+    go false f e = cc
+
 -- `_` is no digit, and a digit is not `_`
 not-apart : (β b : ℕ) → β ≤ 16 → digit b < β → eqb b 95 ≡ false
 unfolding digit within
@@ -154,12 +163,4 @@ module _ (β : ℕ) (small : β ≤ 16) where
       go false (spelt n) a = rw (le-ltb n (2 ^ k) (let z = a n refl in omega arith))
 
   pub parsed-fits : (k : ℕ) (t : List ℕ) (z : ℤ) → parsedApart k β t ≡ int z → fits k z ≡ true
-  parsed-fits k t z e = go (signedBy (isMinus t) (digitsFrom β 0 false (unsigned t))) (sym (parses k t) ∙ e)
-    where
-      by : (y : ℤ) (x : Bool) → fits k y ≡ x → (if x then int y else none) ≡ int z → fits k z ≡ true
-      by y true f e = let q : y ≡ z = cc in rw q at f
-      by y false f e = cc
-
-      go : (x : Parsed) → within-bits k x ≡ int z → fits k z ≡ true
-      go none e = cc
-      go (int y) e = by y (fits k y) refl e
+  parsed-fits k t z e = within-fits k z (signedBy (isMinus t) (digitsFrom β 0 false (unsigned t))) (sym (parses k t) ∙ e)
