@@ -1,0 +1,14 @@
+pub mod Prefixes
+pub mod Spelled
+pub mod Magnitudes
+pub mod Parsing
+pub mod Carrying
+pub mod Halving
+pub mod Dividing
+pub mod Decimals
+pub mod Answering
+pub mod Separating
+pub mod DecimalText
+pub mod Signs
+pub mod Texts
+pub mod Fitting

@@ -1,0 +1,64 @@
+-- The sign and the radix prefix at the front of a text. Assumes nothing.
+use mathlib.Core.Path.{_≡_, refl, ap, sym, _∙_}
+use mathlib.Core.Bool.{Bool, true, false}
+use mathlib.Core.List.{List, [], _∷_}
+use Prim.Native.Nat.{ℕ, suc, _-_, _≤_, _<_}
+use native.Mathlib.Nat.{le-of-eq}
+use Prim.Native.Char.{code}
+use native.Mathlib.Omega.{arith}
+use borrow.Author.Tests.{eq-eqb, ne-eqb}
+use lib.Dec.{eqb}
+use lib.ListN.{length, getD, take, drop, length-drop}
+use lib.Seq.{take-all}
+use Rattle.meaning.specs.Bytes.{if_then_else_, _!_, ascii, has}
+use Rattle.meaning.specs.Numbers.{signLength, isMinus, baseBy, prefixBy, radixPrefix}
+
+-- a sign, or none, from the tests on the first byte
+pub no-sign : (t : List ℕ) → length t ≡ 0 → 0 ≡ signLength t
+unfolding signLength
+no-sign [] h = refl
+no-sign (b ∷ t) h = absurd (omega arith)
+
+pub no-minus : (t : List ℕ) → length t ≡ 0 → false ≡ isMinus t
+unfolding isMinus
+no-minus [] h = refl
+no-minus (b ∷ t) h = absurd (omega arith)
+
+pub sign-inside : (t : List ℕ) (s : ℕ) → s ≡ signLength t → s ≤ length t
+unfolding signLength
+sign-inside [] s e = omega arith
+sign-inside (b ∷ t) s e = rw e (go (has b (ascii "+-")))
+  where
+    go : (x : Bool) → (if x then 1 else 0) ≤ suc (length t)
+    go true = omega arith
+    go false = omega arith
+
+-- a part up to the end, as the code lends it
+pub tail-part : (s : ℕ) (t : List ℕ) → take (length t - s) (drop s t) ≡ drop s t
+tail-part s t = take-all (length t - s) (drop s t) (le-of-eq (length-drop s t))
+
+-- base ten: a short text, another first byte, another second one
+pub ten-short : (t : List ℕ) → length t < 2 → prefixBy 10 ≡ radixPrefix t
+unfolding radixPrefix baseBy
+ten-short [] h = refl
+ten-short (b ∷ []) h = go (eqb b (code "0"))
+  where
+    go : (x : Bool) → prefixBy 10 ≡ prefixBy (if x then 10 else 10)
+    go true = refl
+    go false = refl
+ten-short (b ∷ c ∷ t) h = absurd (omega arith)
+
+pub ten-first : (t : List ℕ) → (getD t 0 0 ≡ 48 → ⊥) → prefixBy 10 ≡ radixPrefix t
+unfolding radixPrefix
+ten-first t n = rw (ne-eqb (t ! 0) (code "0") n)
+
+module _ (t : List ℕ) (β : ℕ) (z : getD t 0 0 ≡ 48) (e : β ≡ baseBy (getD t 1 0)) where
+  by-second : prefixBy β ≡ radixPrefix t
+  unfolding radixPrefix
+  by-second = rw (eq-eqb (t ! 0) (code "0") z, e)
+
+  pub ten-second : β ≡ 10 → prefixBy 10 ≡ radixPrefix t
+  ten-second k = ap prefixBy (sym k) ∙ by-second
+
+  pub radix-second : (β ≡ 10 → ⊥) → record { base = β; start = 2 } ≡ radixPrefix t
+  radix-second k = ap (λ (x : Bool). record { base = β; start = if x then 0 else 2 }) (sym (ne-eqb β 10 k)) ∙ by-second

@@ -1,0 +1,59 @@
+-- What the functions between a text and its number answer. Assumes nothing.
+use mathlib.Core.Bool.{Bool, true, false, _&&_}
+use mathlib.Core.List.{List, [], _∷_}
+use Prim.Native.Nat.{ℕ, _+_, _*_, _/_, _%_, _^_}
+use Prim.Native.Char.{code}
+use lib.Dec.{eqb, ltb}
+use Rattle.meaning.specs.Bytes.{if_then_else_, digit}
+use Rattle.meaning.specs.Numbers.{Parsed, none, int, placed, strip, parsed}
+use Rattle.numbers.specs.declared.digits.Magnitude.{Magnitude}
+use Rattle.numbers.specs.declared.digits.Magnitude.the-variants as M
+use Rattle.meaning.specs.Halves.{bitsOf, negatedLow, negatedHigh}
+use Rattle.numbers.specs.declared.halves.Halves.{Halves}
+use Rattle.numbers.specs.declared.halves.Halves.the-variants as H
+use Rattle.numbers.specs.declared.int64.Int64.{Int64}
+use Rattle.numbers.specs.declared.int64.Int64.the-variants as I
+
+abbrev pub int64Of : Parsed → Int64
+int64Of none = I.Refused
+int64Of (int z) = I.Value z
+
+-- `parsed` of a text whose separators are placed
+unfoldable pub parsedApart : ℕ → ℕ → List ℕ → Parsed
+parsedApart k β t = if placed β 0 t then parsed k β (strip t) else none
+
+-- DIGITS WITH SEPARATORS: a number, or none
+pub data Spelt : Type 0 where
+  misspelt : Spelt
+  spelt : ℕ → Spelt
+
+-- the digits of base β that go on from v, with `_` between two of them; `behind` says that a digit stands before
+abbrev pub digitsFrom : ℕ → ℕ → Bool → List ℕ → Spelt
+digitsFrom β v behind [] = if behind then spelt v else misspelt
+digitsFrom β v behind (b ∷ t) =
+    if ltb (digit b) β then digitsFrom β (v * β + digit b) true t
+    else if eqb b (code "_") && behind then digitsFrom β v false t else misspelt
+
+-- a number below l
+abbrev pub magnitudeOf : ℕ → Spelt → Magnitude
+magnitudeOf l misspelt = M.Refused
+magnitudeOf l (spelt n) = if ltb n l then M.Value n else M.Refused
+
+-- IN TWO HALVES: 128 bits, a number below 2^128, a signed one, and the negation, with -2^127 refused
+abbrev pub halvesBy : ℕ → Halves
+halvesBy n = H.Value (n / 2 ^ 64) (n % 2 ^ 64)
+
+abbrev pub wideOf : Spelt → Halves
+wideOf misspelt = H.Refused
+wideOf (spelt n) = if ltb n (2 ^ 128) then halvesBy n else H.Refused
+
+abbrev pub halvesOf : Parsed → Halves
+halvesOf none = H.Refused
+halvesOf (int z) = halvesBy (bitsOf z)
+
+unfoldable pub negatedHalves : ℕ → ℕ → Halves
+negatedHalves hi lo = if eqb hi (2 ^ 63) && eqb lo 0 then H.Refused else H.Value (negatedHigh hi lo) (negatedLow lo)
+
+-- the bits of a digit
+unfoldable pub bitsBy : ℕ → ℕ
+bitsBy β = if eqb β 16 then 4 else if eqb β 8 then 3 else 1
