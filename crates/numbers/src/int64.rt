@@ -17,7 +17,7 @@ pub enum Int64 {
 }
 
 // The number with this sign and this magnitude, if 64 bits hold it.
-// Rules out: limits off by one, on each side (must-fail: least_refused, below_least_accepted, greatest_refused, above_greatest_accepted).
+// Rules out: limits off by one, on each side (must-fail: below_least_accepted, above_greatest_accepted).
 fn with_sign(minus: bool, magnitude: u64) -> Int64
     ensures { λ r. ⌜ r ≡ int64Of (within-bits 63 (int (signed minus magnitude))) ⌝ }
 {
@@ -37,7 +37,7 @@ fn with_sign(minus: bool, magnitude: u64) -> Int64
 }
 
 // The negation, if 64 bits hold it.
-// Rules out: -2^63 negated (must-fail: least_negated).
+// Rules out: -2^63 negated.
 fn negated(value: i64) -> Int64
     ensures { λ r. ⌜ r ≡ int64Of (within-bits 63 (int (negℤ value))) ⌝ }
 {
@@ -77,7 +77,7 @@ fn read_radix(minus: bool, body: &[u8], base: u64) -> Int64
 // The i64 that a text spells: in base ten a sign or none and digits; else a sign or none, a radix prefix, a second sign or none and digits. Refused:
 // any other text, and what 64 bits do not hold.
 // Rules out: a second sign in base ten; a second sign behind a prefix passed over; the first sign not put to a radix value; a base-ten limit that comes
-// a digit too early (must-fail: sign_eaten_twice, second_sign_eaten_twice, first_sign_ignored, cut_too_early).
+// a digit too early.
 pub fn read_i64(text: &[u8]) -> Int64
     ensures { λ r. ⌜ r ≡ int64Of (i64Of (now (text .entry))) ⌝ }
 {

@@ -4,7 +4,7 @@ ghost use Rattle.meaning.specs.Numbers.{signLength, isMinus, baseBy, radixPrefi
 use meaning::RadixPrefix;
 
 // The bytes of a sign at the front, 0 or 1.
-// Rules out: a plus that is no sign (must-fail: plus_is_no_sign).
+// Rules out: a plus that is no sign.
 pub(crate) fn sign_len(text: &[u8]) -> usize
     ensures { λ r. ⌜ r ≡ signLength (now (text .entry)) ⌝ }
 {
@@ -45,8 +45,7 @@ pub(crate) fn base_by(byte: u8) -> u32
 
 // The base that a text's first two bytes choose, and where the digits begin. It looks at no sign; without a prefix the base is ten and the digits
 // begin at 0.
-// Rules out: prefixes in lower case only; a second 0 taken for octal; the letter taken for a digit; a prefix behind another byte than 0 (must-fail:
-// lower_case_only, octal_by_zero, body_from_letter, prefix_behind_one).
+// Rules out: prefixes in lower case only; a second 0 taken for octal; the letter taken for a digit; a prefix behind another byte than 0 (must-fail: lower_case_only).
 pub fn split_radix_prefix(text: &[u8]) -> RadixPrefix
     ensures { λ r. ⌜ r ≡ radixPrefix (now (text .entry)) ⌝ }
 {

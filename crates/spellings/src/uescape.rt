@@ -9,8 +9,7 @@ ghost use Rattle.meaning.specs.Spelling.{encloses, legalEscape, upper};
 ghost use Rattle.spellings.specs.Clauses.{allHigh, isKeyword, argumentOf, clauseOf};
 
 // Whether a mark stands at a place and, as another byte, at the text's end.
-// Rules out: one mark taken for both; a mark before the last byte taken; ' closed by " (must-fail: mark_encloses_itself, last_but_one_closes,
-// other_mark_closes).
+// Rules out: one mark taken for both; a mark before the last byte taken; ' closed by " (must-fail: mark_encloses_itself).
 pub fn is_enclosed(text: &[u8], at: usize, mark: u8) -> bool
     ensures { λ r. ⌜ r ≡ encloses at mark (now (text .entry)) ⌝ }
 {
@@ -38,7 +37,7 @@ fn later_bytes(bytes: &[u8], from: usize) -> bool
 }
 
 // Whether some bytes are one character that may be an escape: no hex digit, +, quote mark or white space.
-// Rules out: a hex digit, + or white space taken; two characters taken (must-fail: hex_digit_escapes, plus_escapes, space_escapes, two_characters).
+// Rules out: a hex digit, + or white space taken; two characters taken (must-fail: hex_digit_escapes, two_characters).
 pub fn is_legal_uescape_char(bytes: &[u8]) -> bool
     ensures { λ r. ⌜ r ≡ legalEscape (now (bytes .entry)) ⌝ }
 {
@@ -63,8 +62,7 @@ pub enum Argument {
 }
 
 // Whether a quoted argument holds a legal escape character, and nothing else.
-// Rules out: a doubled quote taken for a character; one of two characters taken; an argument in " (must-fail: doubled_quote_escapes, first_of_two_passed,
-// double_quotes_argue).
+// Rules out: a doubled quote taken for a character; one of two characters taken; an argument in " (must-fail: doubled_quote_escapes).
 pub fn uescape_argument(argument: &[u8]) -> Argument
     ensures { λ r. ⌜ r ≡ argumentOf (now (argument .entry)) ⌝ }
 {
@@ -117,8 +115,7 @@ pub enum Clause {
 }
 
 // What follows a place.
-// Rules out: no white space before UESCAPE; UESCAP taken for the word; the closing mark taken for a part of the character (must-fail: no_space_before_the_word,
-// word_of_six, clause_without_its_mark).
+// Rules out: no white space before UESCAPE; UESCAP taken for the word; the closing mark taken for a part of the character (must-fail: no_space_before_the_word).
 pub fn uescape_clause(text: &[u8], at: usize) -> Clause
     ensures { λ r. ⌜ r ≡ clauseOf (now (text .entry)) at ⌝ }
 {

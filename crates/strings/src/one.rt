@@ -23,7 +23,7 @@ pub enum One {
 }
 
 // [`string_literal_embeds_nul`] Whether a text holds a raw NUL.
-// Rules out: another byte looked for; the last byte not looked at (must-fail: one_is_nul, last_byte_passed).
+// Rules out: another byte looked for; the last byte not looked at (must-fail: one_is_nul).
 pub fn string_literal_embeds_nul(text: &[u8]) -> bool
     ensures { λ r. ⌜ r ≡ has 0 (now (text .entry)) ⌝ }
 {
