@@ -27,7 +27,7 @@ pub enum Next {
 
 impl Cursor {
     // At a text's front.
-    // Rules out: a byte passed over; a text passed over (must-fail: starts_behind_a_byte).
+    // Rules out: a byte passed over; a text passed over.
     pub fn new() -> Self
         ensures { λ r. ⌜ r .at ≡ 0 ⌝ }
     {
@@ -36,7 +36,7 @@ impl Cursor {
 
     // What stands at the cursor.
     // Rules out: white space left before the next segment; a remainder passed over; a place counted from the segment; a remainder where nothing is left
-    // (must-fail: gap_not_skipped, remainder_ends).
+    // (must-fail: gap_not_skipped).
     pub fn next(self, text: &[u8], settings: Settings) -> Next
         ensures { λ r. ⌜ r ≡ nextOf settings (now (text .entry)) (self .at) ⌝ }
     {

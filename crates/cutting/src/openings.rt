@@ -9,7 +9,7 @@ ghost use Rattle.meaning.specs.Cutting.{named, opening};
 ghost use Rattle.cutting.specs.Openings.{isLetterPrefix};
 
 // How many bytes of a charset name stand at a place.
-// Rules out: bytes passed over; bytes counted past the end (must-fail: name_by_pairs).
+// Rules out: bytes passed over; bytes counted past the end.
 pub fn name_len(text: &[u8], at: usize) -> usize
     ensures { λ r. ⌜ r ≡ span inName (drop at (now (text .entry))) ⌝ }
 {

@@ -21,7 +21,7 @@ pub fn hex_value(byte: u8) -> u8
 }
 
 // Whether a byte is a digit of a base.
-// Rules out: 8 taken for octal; every base taken for hex (must-fail: base_is_a_digit).
+// Rules out: 8 taken for octal; every base taken for hex.
 pub fn is_radix_digit(byte: u8, base: u8) -> bool
     ensures { λ r. ⌜ r ≡ ltb (digit byte) base ⌝ }
 {

@@ -3,7 +3,7 @@ ghost use mathlib.Core.Path.{_≡_};
 ghost use Rattle.meaning.specs.Bytes.{isMark, isLetter, isDecimal, inName, startsTag, inTag};
 
 // A quote mark, ' or ".
-// Rules out: ` taken for a mark; one mark missed (must-fail: backtick_is_a_mark).
+// Rules out: ` taken for a mark; one mark missed.
 pub fn is_mark(byte: u8) -> bool
     ensures { λ r. ⌜ r ≡ isMark byte ⌝ }
 {
@@ -11,7 +11,7 @@ pub fn is_mark(byte: u8) -> bool
 }
 
 // An ASCII letter.
-// Rules out: @ or { taken for letters (must-fail: at_is_a_letter).
+// Rules out: @ or { taken for letters.
 pub fn is_letter(byte: u8) -> bool
     ensures { λ r. ⌜ r ≡ isLetter byte ⌝ }
 {
@@ -19,7 +19,7 @@ pub fn is_letter(byte: u8) -> bool
 }
 
 // A decimal digit.
-// Rules out: / or : taken for digits (must-fail: slash_is_decimal).
+// Rules out: / or : taken for digits.
 pub fn is_decimal(byte: u8) -> bool
     ensures { λ r. ⌜ r ≡ isDecimal byte ⌝ }
 {
@@ -27,7 +27,7 @@ pub fn is_decimal(byte: u8) -> bool
 }
 
 // A byte of a charset name: an ASCII letter, a digit or _.
-// Rules out: - taken into names; every byte taken into names (must-fail: hyphen_in_name).
+// Rules out: - taken into names; every byte taken into names.
 pub fn is_charset_name_byte(byte: u8) -> bool
     ensures { λ r. ⌜ r ≡ inName byte ⌝ }
 {
@@ -43,7 +43,7 @@ pub fn is_dollar_tag_start(byte: u8) -> bool
 }
 
 // A later byte of a dollar tag: also a digit.
-// Rules out: digits left out; anything but digits left out (must-fail: no_digit_in_tag).
+// Rules out: digits left out; anything but digits left out.
 pub fn is_dollar_tag_continue(byte: u8) -> bool
     ensures { λ r. ⌜ r ≡ inTag byte ⌝ }
 {

@@ -53,7 +53,7 @@ pub fn is_white_space(scalar: u32) -> bool
 }
 
 // How many bytes the white-space character at a place has; 0 if none stands there.
-// Rules out: the character at the start asked, or its width told (must-fail: start_asked).
+// Rules out: the character at the start asked, or its width told.
 pub fn space_at(text: &[u8], at: usize) -> usize
     ensures { λ r. ⌜ r ≡ space (drop at (now (text .entry))) ⌝ }
 {

@@ -136,7 +136,7 @@ pub fn utf8_from(tail: Utf8Tail, bytes: &[u8]) -> Utf8Tail
 }
 
 // Whether nothing is due and nothing is broken.
-// Rules out: an unfinished sequence taken for whole; no text whole (must-fail: unfinished_accepted).
+// Rules out: an unfinished sequence taken for whole; no text whole.
 pub fn is_whole(tail: Utf8Tail) -> bool
     ensures { λ r. ⌜ r ≡ whole (dueOf tail) ⌝ }
 {
@@ -154,7 +154,7 @@ pub fn is_whole(tail: Utf8Tail) -> bool
 }
 
 // Whether a slice is UTF-8.
-// Rules out: a slice that begins inside a sequence accepted; all refused (must-fail: begins_inside).
+// Rules out: a slice that begins inside a sequence accepted; all refused.
 pub fn is_utf8(bytes: &[u8]) -> bool
     ensures { λ r. ⌜ r ≡ utf8 (now (bytes .entry)) ⌝ }
 {
@@ -162,7 +162,7 @@ pub fn is_utf8(bytes: &[u8]) -> bool
 }
 
 // How many bytes the character has that a byte begins; 0 if it begins none.
-// Rules out: C0 or C1, or a byte above F4, said to begin one; three for four (must-fail: c0_begins_two).
+// Rules out: C0 or C1, or a byte above F4, said to begin one; three for four.
 pub fn utf8_width(byte: u8) -> usize
     ensures { λ r. ⌜ r ≡ width byte ⌝ }
 {
@@ -224,7 +224,7 @@ fn is_due(tail: Utf8Tail) -> bool
 }
 
 // The number that the bytes of the character at a place make; 0 where none begins there, or one of its bytes is missing or not as due.
-// Rules out: later bytes of five bits; a later byte passed over (must-fail: five_bits).
+// Rules out: later bytes of five bits; a later byte passed over.
 pub fn scalar_at(text: &[u8], at: usize) -> u32
     ensures { λ r. ⌜ r ≡ scalarOf (drop at (now (text .entry))) ⌝ }
 {
@@ -251,7 +251,7 @@ pub fn scalar_at(text: &[u8], at: usize) -> u32
 }
 
 // How many bytes a scalar's encoding has.
-// Rules out: three for four; 7FF hex in three (must-fail: three_for_four).
+// Rules out: three for four; 7FF hex in three.
 pub fn utf8_len(scalar: u32) -> usize
     ensures { λ r. ⌜ r ≡ length (encode scalar) ⌝ }
 {
@@ -268,7 +268,7 @@ pub fn utf8_len(scalar: u32) -> usize
 }
 
 // Whether a number is a Unicode scalar value.
-// Rules out: low surrogates, or numbers above 10FFFF, taken for scalars (must-fail: low_half_is_scalar).
+// Rules out: low surrogates, or numbers above 10FFFF, taken for scalars.
 pub fn is_scalar(number: u32) -> bool
     ensures { λ r. ⌜ r ≡ isScalar number ⌝ }
 {

@@ -18,7 +18,7 @@ use meaning::Read;
 
 // Decimal text in base ten: the text less `_`, borrowed if it has none. Refused at place 0: a misplaced `_`. Refused, borrowed and without room the
 // buffer is as it was lent.
-// Rules out: a text with `_` borrowed; a made-up length; a place that is not the definition's (must-fail: separator_borrowed).
+// Rules out: a text with `_` borrowed; a made-up length; a place that is not the definition's.
 fn read_plain(text: &[u8], out: &mut [u8]) -> Read
     ensures { λ r. ⌜ Reads (plainOf (now (text .entry))) (now (out .entry)) r (now (out .exit)) ⌝ }
 {
@@ -66,7 +66,7 @@ fn read_radix_text(minus: bool, body: &[u8], base: u64, bits: u64, out: &mut [u8
 
 // The decimal text that a text stands for: in base ten the text less `_`; with a radix the number, printed in at most 40 bytes. Refused at place 0: a
 // misplaced `_`, and with a radix what is no number of 128 bits. Refused, borrowed and without room the buffer is as it was lent.
-// Rules out: the first sign not put to a radix value; the second sign passed over (must-fail: text_second_sign_eaten).
+// Rules out: the first sign not put to a radix value; the second sign passed over.
 pub fn read_decimal(text: &[u8], out: &mut [u8]) -> Read
     ensures { λ r. ⌜ Reads (decimalOf (now (text .entry))) (now (out .entry)) r (now (out .exit)) ⌝ }
 {

@@ -65,7 +65,7 @@ pub(crate) fn negated_low(lo: u64) -> u64
 }
 
 // The high half of the negation, which wraps, and which the low half borrows from unless it is zero.
-// Rules out: no carry into the high half (must-fail: no_carry_into_high).
+// Rules out: no carry into the high half.
 pub(crate) fn negated_high(hi: u64, lo: u64) -> u64
     ensures { λ r. ⌜ r ≡ negatedHigh hi lo ⌝ }
 {

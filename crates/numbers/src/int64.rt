@@ -17,7 +17,7 @@ pub enum Int64 {
 }
 
 // The number with this sign and this magnitude, if 64 bits hold it.
-// Rules out: limits off by one, on each side (must-fail: below_least_accepted, above_greatest_accepted).
+// Rules out: limits off by one, on each side.
 fn with_sign(minus: bool, magnitude: u64) -> Int64
     ensures { λ r. ⌜ r ≡ int64Of (within-bits 63 (int (signed minus magnitude))) ⌝ }
 {

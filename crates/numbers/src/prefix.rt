@@ -45,7 +45,7 @@ pub(crate) fn base_by(byte: u8) -> u32
 
 // The base that a text's first two bytes choose, and where the digits begin. It looks at no sign; without a prefix the base is ten and the digits
 // begin at 0.
-// Rules out: prefixes in lower case only; a second 0 taken for octal; the letter taken for a digit; a prefix behind another byte than 0 (must-fail: lower_case_only).
+// Rules out: prefixes in lower case only; a second 0 taken for octal; the letter taken for a digit; a prefix behind another byte than 0.
 pub fn split_radix_prefix(text: &[u8]) -> RadixPrefix
     ensures { λ r. ⌜ r ≡ radixPrefix (now (text .entry)) ⌝ }
 {

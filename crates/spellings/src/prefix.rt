@@ -4,7 +4,7 @@ ghost use lib.ListN.{drop};
 ghost use Rattle.meaning.specs.Bytes.{starts};
 
 // Whether a text stands at a place.
-// Rules out: bytes passed over; one byte asked for all (must-fail: prefix_by_pairs).
+// Rules out: bytes passed over; one byte asked for all.
 pub fn starts_at(body: &[u8], at: usize, prefix: &[u8]) -> bool
     ensures { λ r. ⌜ r ≡ starts (now (prefix .entry)) (drop at (now (body .entry))) ⌝ }
 {

@@ -43,7 +43,7 @@ pub enum Spelled {
 }
 
 // Whether a text begins with U&, in either case, and a mark.
-// Rules out: u refused; the & not asked for; another mark taken (must-fail: lower_u_refused).
+// Rules out: u refused; the & not asked for; another mark taken.
 pub fn is_unicode_lexeme(text: &[u8], mark: Mark) -> bool
     ensures { λ r. ⌜ r ≡ isUnicode (markOf mark) (now (text .entry)) ⌝ }
 {
@@ -54,7 +54,7 @@ pub fn is_unicode_lexeme(text: &[u8], mark: Mark) -> bool
 }
 
 // U& and a mark, closed by the first mark that is not doubled; then white space, or a UESCAPE clause that ends the text.
-// Rules out: a mark hidden by a backslash; the mark taken for a part of what follows it (must-fail: backslash_hides_in_unicode).
+// Rules out: a mark hidden by a backslash; the mark taken for a part of what follows it.
 pub fn unicode_lexeme(text: &[u8], mark: Mark) -> Spelled
     ensures { λ r. ⌜ Spells (now (text .entry)) r (unicodeSpelling (markOf mark) (now (text .entry))) ⌝ }
 {
@@ -113,7 +113,7 @@ fn tag_len(text: &[u8], at: usize) -> usize
 }
 
 // The bytes of a dollar delimiter at a place; 0 if none stands there.
-// Rules out: a tag that starts with $; another byte than $ at its end; the last $ left out (must-fail: tag_from_the_dollar).
+// Rules out: a tag that starts with $; another byte than $ at its end; the last $ left out.
 pub fn dollar_open_delim_len(text: &[u8], at: usize) -> usize
     ensures { λ r. ⌜ r ≡ delimiter (drop at (now (text .entry))) ⌝ }
 {
@@ -151,7 +151,7 @@ fn dollar_quoted(text: &[u8]) -> Spelled
 }
 
 // A charset introducer, and a string in either mark that ends the text.
-// Rules out: one mark taken for the other (must-fail: introduced_marks_swapped).
+// Rules out: one mark taken for the other.
 fn introduced(text: &[u8]) -> Spelled
     ensures { λ r. ⌜ Spells (now (text .entry)) r (introducedOf (now (text .entry))) ⌝ }
 {
@@ -179,7 +179,7 @@ fn introduced(text: &[u8]) -> Spelled
 }
 
 // The spelling of a text by a charset introducer, U& or $.
-// Rules out: U& read with " (must-fail: double_quotes_in_unicode).
+// Rules out: U& read with ".
 fn other_spelling(text: &[u8]) -> Spelled
     ensures { λ r. ⌜ Spells (now (text .entry)) r (otherOf (now (text .entry))) ⌝ }
 {

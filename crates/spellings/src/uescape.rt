@@ -9,7 +9,7 @@ ghost use Rattle.meaning.specs.Spelling.{encloses, legalEscape, upper};
 ghost use Rattle.spellings.specs.Clauses.{allHigh, isKeyword, argumentOf, clauseOf};
 
 // Whether a mark stands at a place and, as another byte, at the text's end.
-// Rules out: one mark taken for both; a mark before the last byte taken; ' closed by " (must-fail: mark_encloses_itself).
+// Rules out: one mark taken for both; a mark before the last byte taken; ' closed by ".
 pub fn is_enclosed(text: &[u8], at: usize, mark: u8) -> bool
     ensures { λ r. ⌜ r ≡ encloses at mark (now (text .entry)) ⌝ }
 {
@@ -37,7 +37,7 @@ fn later_bytes(bytes: &[u8], from: usize) -> bool
 }
 
 // Whether some bytes are one character that may be an escape: no hex digit, +, quote mark or white space.
-// Rules out: a hex digit, + or white space taken; two characters taken (must-fail: hex_digit_escapes, two_characters).
+// Rules out: a hex digit, + or white space taken; two characters taken (must-fail: two_characters).
 pub fn is_legal_uescape_char(bytes: &[u8]) -> bool
     ensures { λ r. ⌜ r ≡ legalEscape (now (bytes .entry)) ⌝ }
 {

@@ -27,7 +27,7 @@ pub enum Joined {
 }
 
 // Whether a quote mark follows the first segment, past white space.
-// Rules out: a text without a segment called joined; the white space at the text's start counted (must-fail: nothing_is_joined).
+// Rules out: a text without a segment called joined; the white space at the text's start counted.
 pub fn is_joined(text: &[u8], settings: Settings) -> bool
     ensures { λ r. ⌜ r ≡ continues settings (now (text .entry)) ⌝ }
 {
@@ -49,7 +49,7 @@ fn segment_length(text: &[u8], settings: Settings) -> Joined
 }
 
 // The length of all segments' values, or where the first that is refused stops, or a remainder begins.
-// Rules out: segments not counted; a remainder passed over; the setting lost (must-fail: first_segment_only, remainder_accepted).
+// Rules out: segments not counted; a remainder passed over; the setting lost (must-fail: first_segment_only).
 pub fn measure_joined(text: &[u8], settings: Settings) -> Joined
     ensures { λ r. ⌜ r ≡ lengthOf (joined settings (cut settings (now (text .entry)))) ⌝ }
 {
@@ -112,7 +112,7 @@ fn write_joined(text: &[u8], settings: Settings, out: &mut [u8]) -> usize
 }
 
 // Reads a string's text: a part of it, so many bytes at the buffer's start, the place where reading stops, or the length for which there is no room.
-// Rules out: writing before a later segment refuses; a made-up length (must-fail: written_too_early, length_one_short).
+// Rules out: writing before a later segment refuses; a made-up length (must-fail: written_too_early).
 pub fn read_string(text: &[u8], settings: Settings, out: &mut [u8]) -> Read
     ensures { λ r. ⌜ Reads (read settings (now (text .entry))) (now (out .entry)) r (now (out .exit)) ⌝ }
 {
@@ -144,7 +144,7 @@ pub fn read_string(text: &[u8], settings: Settings, out: &mut [u8]) -> Read
 }
 
 // Either the text's part or the buffer's; a range that does not fit its slice, or a refusal, shows an empty part.
-// Rules out: the buffer shown for a borrowed answer; written bytes shown from the second on (must-fail: shows_the_other).
+// Rules out: the buffer shown for a borrowed answer; written bytes shown from the second on.
 pub fn shown<'a>(text: &'a [u8], out: &'a [u8], answer: Read) -> &'a [u8]
     ensures { λ r. ⌜ now r ≡ readShown (now (text .entry)) (now (out .entry)) answer ⌝ }
 {
@@ -157,7 +157,7 @@ pub fn shown<'a>(text: &'a [u8], out: &'a [u8], answer: Read) -> &'a [u8]
 }
 
 // A part of a slice, empty where it does not fit.
-// Rules out: a part that ends past the slice; one that begins behind its end (must-fail: part_past_the_slice).
+// Rules out: a part that ends past the slice; one that begins behind its end.
 pub fn part_of(bytes: &[u8], from: usize, until: usize) -> &[u8]
     ensures { λ r. ⌜ now r ≡ partShown from until (now (bytes .entry)) ⌝ }
 {

@@ -44,7 +44,7 @@ fn next_tail(checked: bool, tail: Utf8Tail, piece: Piece, byte: u8, escape: &[u8
     tail
 }
 
-// Rules out: a body with a doubled mark called plain; a refusal placed behind its unit (must-fail: doubled_is_plain).
+// Rules out: a body with a doubled mark called plain; a refusal placed behind its unit.
 pub fn measure(body: &[u8], family: Family, escape: &[u8]) -> Measured
     ensures { λ r. ⌜ r ≡ measuredOf (courseOf family (now (escape .entry)) (now (body .entry))) ⌝ }
 {

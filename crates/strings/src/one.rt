@@ -23,7 +23,7 @@ pub enum One {
 }
 
 // [`string_literal_embeds_nul`] Whether a text holds a raw NUL.
-// Rules out: another byte looked for; the last byte not looked at (must-fail: one_is_nul).
+// Rules out: another byte looked for; the last byte not looked at.
 pub fn string_literal_embeds_nul(text: &[u8]) -> bool
     ensures { λ r. ⌜ r ≡ has 0 (now (text .entry)) ⌝ }
 {
@@ -52,7 +52,7 @@ fn measure_body(text: &[u8], from: usize, until: usize, family: Family, escape: 
 }
 
 // What one segment means, or that it is refused and where.
-// Rules out: a raw NUL kept; the place counted from the body (must-fail: nul_is_read, place_in_the_body).
+// Rules out: a raw NUL kept; the place counted from the body.
 pub fn measure_one(text: &[u8], settings: Settings) -> One
     ensures { λ r. ⌜ r ≡ oneOf (one settings (now (text .entry))) ⌝ }
 {

@@ -216,7 +216,7 @@ fn uescaped_unit(body: &[u8], start: usize, at: usize, escape: &[u8]) -> Piece
 }
 
 // The unit at a place of a body.
-// Rules out: `\%` without its backslash; \400 accepted; a surrogate alone accepted (must-fail: percent_alone, lone_half).
+// Rules out: `\%` without its backslash; \400 accepted; a surrogate alone accepted (must-fail: lone_half).
 pub(crate) fn unit_at(body: &[u8], at: usize, family: Family, escape: &[u8]) -> Piece
     requires { ⌜ at < length (now body) ⌝ }
     ensures { λ r. ⌜ IsBy (now (escape .entry)) r (stepOf family (now (escape .entry)) (drop at (now (body .entry)))) ⌝ }
