@@ -7,13 +7,13 @@ use native.Mathlib.Numerals.{add-one}
 use native.Mathlib.Omega.{arith}
 use lib.Dec.{eqb}
 use lib.ListN.{length, take, drop, length-drop}
-use lib.Seq.{take-all}
 use Rattle.meaning.specs.declared.Settings.{Settings}
 use Rattle.meaning.specs.Bytes.{if_then_else_, _!_, isMark}
 use Rattle.meaning.specs.Walk.{Trace, walk, size, stops}
 use Rattle.meaning.specs.Steps.{closingStep}
 use Rattle.meaning.specs.Cutting.{opening, hides, closedAt, segment}
 use Rattle.laws.proofs.Tests.{true→T}
+use Rattle.laws.proofs.Lists.{part-tail}
 use Rattle.laws.proofs.Walks.{stops-inside}
 use Rattle.laws.proofs.Openings.{opening-mark, mark-inside}
 use Rattle.cutting.specs.declared.marks.Mark.{Mark}
@@ -37,10 +37,6 @@ course-unclosed r e = go (stops r) refl e
     go : (x : Bool) → stops r ≡ x → (if x then At (size r) else Unclosed) ≡ Unclosed → stops r ≡ false
     go true s f = let z : _≡_ {A = ℕ} 0 1 = cc in absurd (omega arith)
     go false s f = s
-
--- the part from a place to the end
-pub part-tail : (l : List ℕ) (k : ℕ) → take (length l - k) (drop k l) ≡ drop k l
-part-tail l k = take-all (length l - k) (drop k l) (omega (arith, length-drop k l))
 
 -- no opening, no segment
 pub segment-none : (σ : Settings) (l : List ℕ) (o : ℕ) → o ≡ opening l → o ≡ 0 → Nothing ≡ segmentOf σ l

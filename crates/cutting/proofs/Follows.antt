@@ -8,13 +8,13 @@ use borrow.Author.Tests.{lt-ltb, le-ltb}
 use Rattle.meaning.specs.declared.Settings.{Settings}
 use Rattle.meaning.specs.Steps.{gap}
 use Rattle.meaning.specs.Cutting.{opening, segment}
+use Rattle.laws.proofs.Lists.{part-tail}
 use Rattle.laws.proofs.Gaps.{gap-fits}
 use Rattle.laws.proofs.Openings.{segment-fits}
 use Rattle.cutting.specs.declared.cursor.Next.the-variants as Next′
 use Rattle.cutting.specs.declared.segments.Segment.{Segment}
 use Rattle.cutting.specs.declared.segments.Segment.the-variants.{Found, Nothing}
 use Rattle.cutting.specs.Segments.{foundBy, segmentOf, nextOf}
-use Rattle.cutting.proofs.Cuts.{part-tail}
 
 -- what a first segment is made of: its opening, and its bytes, of which there is one at least
 record Parts (σ : Settings) (t : List ℕ) (o n : ℕ) : Type 0 where

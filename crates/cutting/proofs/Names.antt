@@ -1,64 +1,14 @@
--- Runs of bytes at a place of a text, and a charset's name with its mark. Assumes nothing.
+-- A charset's name with its mark. Assumes nothing.
 use mathlib.Core.Path.{_≡_, sym, ap, _∙_}
-use mathlib.Core.Bool.{Bool, true, false, not, and-false}
-use mathlib.Core.List.{List, [], _∷_}
-use Prim.Native.Nat.{ℕ, suc, _+_, _-_, _≤_, _<_}
+use mathlib.Core.Bool.{Bool, true, false, and-false}
+use mathlib.Core.List.{List}
+use Prim.Native.Nat.{ℕ, suc, _+_}
 use native.Mathlib.Omega.{arith}
-use lib.ListN.{length, drop, length-drop, drop-of-length-le}
-use lib.Seq.{drop-cons, getD-drop}
-use borrow.Author.Tests.{lt-ltb, not-true, not-false}
-use Rattle.meaning.specs.Bytes.{if_then_else_, _!_, span, isMark, inName}
+use lib.ListN.{drop}
+use lib.Seq.{getD-drop}
+use borrow.Author.Tests.{lt-ltb}
+use Rattle.meaning.specs.Bytes.{_!_, span, isMark, inName}
 use Rattle.meaning.specs.Cutting.{named}
-
-pub span-length : (p : ℕ → Bool) (t : List ℕ) → span p t ≤ length t
-span-length p [] = omega arith
-span-length p (b ∷ t) = go (p b) (span-length p t)
-  where
-    go : (x : Bool) → span p t ≤ length t → (if x then suc (span p t) else 0) ≤ suc (length t)
-    go true h = omega arith
-    go false h = omega arith
-
--- a run that is not empty lies inside the text
-pub span-inside : (p : ℕ → Bool) (l : List ℕ) (at n : ℕ) → n ≡ span p (drop at l) → (n ≡ 0 → ⊥) → at + n ≤ length l
-span-inside p l at n e z = omega (arith, span-length p (drop at l), length-drop at l)
-
--- THE RUN SO FAR: n bytes from `at` pass the test
-pub record RunSoFar (p : ℕ → Bool) (l : List ℕ) (at n : ℕ) : Type 0 where
-  pub run : span p (drop at l) ≡ n + span p (drop (at + n) l)
-  pub within : at + n ≤ length l
-
-module _ (p : ℕ → Bool) (l : List ℕ) (at : ℕ) where
-  pub run-none : at < length l → RunSoFar p l at 0
-  run-none h =
-      let z : at + 0 ≡ at = omega arith in
-      record {
-        run = let s : span p (drop at l) ≡ 0 + span p (drop at l) = omega arith in s ∙ ap (λ (k : ℕ). 0 + span p (drop k l)) (sym z);
-        within = omega arith;
-      }
-
-  span-at : (i : ℕ) → i < length l → span p (drop i l) ≡ (if p (l ! i) then suc (span p (drop (suc i) l)) else 0)
-  span-at i h = ap (span p) (drop-cons l i 0 h)
-
-  module _ (n : ℕ) (s : RunSoFar p l at n) where
-    pub run-more : n < length l - at → (x : Bool) → x ≡ p (l ! (at + n)) → not x ≡ false → RunSoFar p l at (n + 1)
-    run-more h x e t =
-        let z : suc (at + n) ≡ at + (n + 1) = omega arith in
-        let f : span p (drop (at + n) l) ≡ suc (span p (drop (at + (n + 1)) l)) = span-at (at + n) (omega arith) ∙ rw (sym e ∙ not-false x t, z) in
-        record { run = omega (arith, s .run, f); within = omega arith }
-
-    pub run-stop : n < length l - at → (x : Bool) → x ≡ p (l ! (at + n)) → not x ≡ true → n ≡ span p (drop at l)
-    run-stop h x e t =
-        let f : span p (drop (at + n) l) ≡ 0 = span-at (at + n) (omega arith) ∙ rw (sym e ∙ not-true x t) in
-        omega (arith, s .run, f)
-
-    pub run-end : length l - at ≤ n → n ≡ span p (drop at l)
-    run-end h =
-        let i : length l ≤ at + n = omega (arith, s .within) in
-        let f : span p (drop (at + n) l) ≡ 0 = ap (span p) (drop-of-length-le l i) in
-        omega (arith, s .run, f)
-
-  pub run-past : length l ≤ at → 0 ≡ span p (drop at l)
-  run-past h = sym (ap (span p) (drop-of-length-le l h))
 
 -- A NAME AND A MARK, by the length of the name
 module _ (l : List ℕ) (at n : ℕ) (e : n ≡ span inName (drop at l)) where

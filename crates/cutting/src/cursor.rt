@@ -1,8 +1,8 @@
 // A cursor by value that goes from segment to segment, past the white space behind each.
 use crate::segments::Segment;
 use crate::segments::first_segment;
-use leaves::spaces::gap_at;
 use meaning::Settings;
+use spaces::gap_at;
 ghost use mathlib.Core.Path.{_≡_};
 ghost use Rattle.cutting.specs.Segments.{nextOf};
 
@@ -27,7 +27,7 @@ pub enum Next {
 
 impl Cursor {
     // At a text's front.
-    // Rules out: a byte passed over; a text passed over.
+    // Rules out: a byte passed over; a text passed over (must-fail: first_of_each, second_of_each).
     pub fn new() -> Self
         ensures { λ r. ⌜ r .at ≡ 0 ⌝ }
     {
@@ -36,7 +36,7 @@ impl Cursor {
 
     // What stands at the cursor.
     // Rules out: white space left before the next segment; a remainder passed over; a place counted from the segment; a remainder where nothing is left
-    // (must-fail: gap_not_skipped).
+    // (must-fail: gap_not_skipped, remainder_ends).
     pub fn next(self, text: &[u8], settings: Settings) -> Next
         ensures { λ r. ⌜ r ≡ nextOf settings (now (text .entry)) (self .at) ⌝ }
     {

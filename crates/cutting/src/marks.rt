@@ -12,7 +12,7 @@ pub enum Mark {
 }
 
 // A mark's byte.
-// Rules out: one mark taken for the other; ` taken for a mark.
+// Rules out: one mark taken for the other; ` taken for a mark (must-fail: first_of_each, second_of_each).
 pub fn mark_byte(mark: Mark) -> u8
     ensures { λ r. ⌜ r ≡ markOf mark ⌝ }
 {
@@ -31,7 +31,7 @@ pub enum Closing {
 
 // The first mark of a body that is not doubled; with `hides` a backslash hides the byte behind it.
 // Rules out: a mark doubled by another byte than the next; a hidden mark taken for the closing one; a byte passed over; a byte hidden past the end
-// (must-fail: hidden_mark_closes).
+// (must-fail: doubled_by_the_byte_after, later_e_refused).
 pub fn closing_mark(body: &[u8], mark: Mark, hides: bool) -> Closing
     ensures { λ r. ⌜ r ≡ closedOf (walk (closingStep hides (markOf mark)) 0 (now (body .entry))) ⌝ }
 {

@@ -1,31 +1,12 @@
 // What opens a segment.
 use leaves::bytes::byte_at;
-use leaves::names::is_charset_name_byte;
 use leaves::names::is_mark;
+use leaves::runs::NameClass;
+use leaves::runs::run_len;
 ghost use mathlib.Core.Path.{_≡_};
 ghost use lib.ListN.{drop};
-ghost use Rattle.meaning.specs.Bytes.{span, inName};
 ghost use Rattle.meaning.specs.Cutting.{named, opening};
 ghost use Rattle.cutting.specs.Openings.{isLetterPrefix};
-
-// How many bytes of a charset name stand at a place.
-// Rules out: bytes passed over; bytes counted past the end.
-pub fn name_len(text: &[u8], at: usize) -> usize
-    ensures { λ r. ⌜ r ≡ span inName (drop at (now (text .entry))) ⌝ }
-{
-    let mut n: usize = 0;
-    if text.len() <= at {
-        return 0;
-    }
-    let left = text.len() - at;
-    while n < left {
-        if !is_charset_name_byte(text[at + n]) {
-            return n;
-        }
-        n += 1;
-    }
-    n
-}
 
 // E, N, B or X, in either case.
 fn is_letter_prefix(byte: u8) -> bool
@@ -45,7 +26,7 @@ fn is_letter_prefix(byte: u8) -> bool
 fn introducer_len(text: &[u8], at: usize) -> usize
     ensures { λ r. ⌜ r ≡ named (drop at (now (text .entry))) ⌝ }
 {
-    let n = name_len(text, at);
+    let n = run_len(text, at, NameClass::Charset);
     if n == 0 {
         return 0;
     }
@@ -56,7 +37,7 @@ fn introducer_len(text: &[u8], at: usize) -> usize
 }
 
 // The bytes of the opening at a text's front, with its mark; 0 if no segment opens there.
-// Rules out: a prefix before "; a name of no byte; Y taken for a prefix; U without & (must-fail: prefix_before_double_quote).
+// Rules out: a prefix before "; a name of no byte; Y taken for a prefix; U without & (must-fail: first_of_each, second_of_each).
 pub fn opening_len(text: &[u8]) -> usize
     ensures { λ r. ⌜ r ≡ opening (now (text .entry)) ⌝ }
 {

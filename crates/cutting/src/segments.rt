@@ -39,7 +39,7 @@ fn mark_of(byte: u8) -> Mark
 
 // The first segment; its body is what lies behind the opening and before the last byte.
 // Rules out: the closing mark left out of the length; a segment without its closing mark; a ' closed by "; a byte hidden in N segments; the mark looked
-// for behind the opening (must-fail: unclosed_is_found).
+// for behind the opening (must-fail: mark_left_out, unclosed_is_found).
 pub fn first_segment(text: &[u8], settings: Settings) -> Segment
     ensures { λ r. ⌜ r ≡ segmentOf settings (now (text .entry)) ⌝ }
 {

@@ -1,11 +1,11 @@
 // Reads one string literal from standard input, at the backslash setting off, and writes its value; or the place at which reading stops. All the bytes of
 // the input are the literal's, a line end behind it too.
+use leaves::views::shown;
 use libc::STDIN_FILENO;
 use libc::STDOUT_FILENO;
 use meaning::Read;
 use meaning::Settings;
 use strings::joined::read_string;
-use strings::joined::shown;
 ghost use mathlib.Core.Path.{_≡_};
 ghost use lib.ListN.{length};
 

@@ -1,6 +1,10 @@
 -- Theorems over the definitions of `meaning`, callees first.
 pub mod Tests
+pub mod Lists
+pub mod Alike
+pub mod Enclosures
 pub mod Utf8
+pub mod Leads
 pub mod Encode
 pub mod Sequences
 pub mod Digits

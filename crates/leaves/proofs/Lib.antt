@@ -1,7 +1,3 @@
-pub mod Ranges
-pub mod Leads
-pub mod Ascii
-pub mod Pushing
-pub mod Encoding
-pub mod Gathering
-pub mod Spacing
+pub mod RunSteps
+pub mod Shown
+pub mod Putting

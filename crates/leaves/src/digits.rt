@@ -4,7 +4,7 @@ ghost use lib.Dec.{ltb};
 ghost use Rattle.meaning.specs.Bytes.{digit};
 
 // The digit that a byte is, 0 to 15; 16 if it is none.
-// Rules out: a to f read in one case only; `:` taken for a digit; a to f off by one (must-fail: upper_case_only).
+// Rules out: a to f read in one case only; `:` taken for a digit; a to f off by one (must-fail: first_of_each, second_of_each).
 pub fn hex_value(byte: u8) -> u8
     ensures { λ r. ⌜ r ≡ digit byte ⌝ }
 {
@@ -21,7 +21,7 @@ pub fn hex_value(byte: u8) -> u8
 }
 
 // Whether a byte is a digit of a base.
-// Rules out: 8 taken for octal; every base taken for hex.
+// Rules out: 8 taken for octal; every base taken for hex (must-fail: tag_from_81, tag_starts_with_dollar).
 pub fn is_radix_digit(byte: u8, base: u8) -> bool
     ensures { λ r. ⌜ r ≡ ltb (digit byte) base ⌝ }
 {

@@ -1,6 +1,8 @@
-// The leaves of reading: bytes, digits, name and tag bytes, white space, UTF-8. Each answers for every input; none asks its caller for anything.
+// The leaves of reading: bytes, digits, name and tag bytes and their runs, whole texts, parts and views. Each answers for every input; none asks its caller for anything.
 pub mod bytes;
 pub mod digits;
 pub mod names;
-pub mod spaces;
-pub mod utf8;
+pub mod puts;
+pub mod runs;
+pub mod texts;
+pub mod views;

@@ -3,7 +3,7 @@ ghost use mathlib.Core.Path.{_≡_};
 ghost use Rattle.meaning.specs.Bytes.{isMark, isLetter, isDecimal, inName, startsTag, inTag};
 
 // A quote mark, ' or ".
-// Rules out: ` taken for a mark; one mark missed.
+// Rules out: ` taken for a mark; one mark missed (must-fail: first_of_each, second_of_each).
 pub fn is_mark(byte: u8) -> bool
     ensures { λ r. ⌜ r ≡ isMark byte ⌝ }
 {
@@ -12,7 +12,7 @@ pub fn is_mark(byte: u8) -> bool
 
 // An ASCII letter.
 // Rules out: @ or { taken for letters.
-pub fn is_letter(byte: u8) -> bool
+pub(crate) fn is_letter(byte: u8) -> bool
     ensures { λ r. ⌜ r ≡ isLetter byte ⌝ }
 {
     ((65 <= byte) & (byte <= 90)) | ((97 <= byte) & (byte <= 122))
@@ -20,7 +20,7 @@ pub fn is_letter(byte: u8) -> bool
 
 // A decimal digit.
 // Rules out: / or : taken for digits.
-pub fn is_decimal(byte: u8) -> bool
+pub(crate) fn is_decimal(byte: u8) -> bool
     ensures { λ r. ⌜ r ≡ isDecimal byte ⌝ }
 {
     (48 <= byte) & (byte <= 57)
@@ -28,14 +28,14 @@ pub fn is_decimal(byte: u8) -> bool
 
 // A byte of a charset name: an ASCII letter, a digit or _.
 // Rules out: - taken into names; every byte taken into names.
-pub fn is_charset_name_byte(byte: u8) -> bool
+pub(crate) fn is_charset_name_byte(byte: u8) -> bool
     ensures { λ r. ⌜ r ≡ inName byte ⌝ }
 {
     is_letter(byte) | is_decimal(byte) | (byte == 95)
 }
 
 // The first byte of a dollar tag: a letter, _ or a byte from 80 hex.
-// Rules out: $ taken into tags; 80 hex left out of them (must-fail: dollar_starts_tag).
+// Rules out: $ taken into tags; 80 hex left out of them (must-fail: tag_from_81, tag_starts_with_dollar).
 pub fn is_dollar_tag_start(byte: u8) -> bool
     ensures { λ r. ⌜ r ≡ startsTag byte ⌝ }
 {
@@ -43,7 +43,7 @@ pub fn is_dollar_tag_start(byte: u8) -> bool
 }
 
 // A later byte of a dollar tag: also a digit.
-// Rules out: digits left out; anything but digits left out.
+// Rules out: digits left out; anything but digits left out (must-fail: no_digit_in_tag, only_digits_in_tag).
 pub fn is_dollar_tag_continue(byte: u8) -> bool
     ensures { λ r. ⌜ r ≡ inTag byte ⌝ }
 {

@@ -103,7 +103,7 @@ fn signed_halves(minus: bool, hi: u64, lo: u64) -> Halves
 }
 
 // The halves of the negation; -2^127 is refused before it.
-// Rules out: -2^127 behind a minus accepted (must-fail: least_behind_minus_accepted).
+// Rules out: -2^127 behind a minus accepted.
 fn negated_halves(hi: u64, lo: u64) -> Halves
     ensures { λ r. ⌜ r ≡ negatedHalves hi lo ⌝ }
 {

@@ -22,12 +22,13 @@ use Rattle.cutting.specs.declared.marks.Mark.the-variants.{Quote, DoubleQuote}
 use Rattle.cutting.specs.declared.marks.Closing.{Closing}
 use Rattle.cutting.specs.declared.marks.Closing.the-variants.{At, Unclosed}
 use Rattle.cutting.specs.Marks.{markOf, closedOf}
-use Rattle.cutting.proofs.Cuts.{course-at, course-unclosed, part-tail}
-use Rattle.spellings.specs.declared.uescape.Clause.{Clause}
-use Rattle.spellings.specs.declared.uescape.Clause.the-variants.{Default, Chosen, Bad}
+use Rattle.laws.proofs.Lists.{part-tail}
+use Rattle.cutting.proofs.Cuts.{course-at, course-unclosed}
+use Rattle.uescape.specs.declared.Clause.{Clause}
+use Rattle.uescape.specs.declared.Clause.the-variants.{Default, Chosen, Bad}
 use Rattle.spellings.specs.declared.spelling.Spelled.{Spelled}
 use Rattle.spellings.specs.declared.spelling.Spelled.the-variants.{Unicode, Unspelt}
-use Rattle.spellings.specs.Clauses.{isKeyword, legalBy, argumentOf, chosenAt, clauseAt, clauseOf}
+use Rattle.uescape.specs.Clauses.{isKeyword, legalBy, argumentOf, chosenAt, clauseAt, clauseOf}
 use Rattle.spellings.specs.Spelled.{Spells}
 
 -- THE ESCAPE CHARACTER. What a clause makes of a body from 3 up to u

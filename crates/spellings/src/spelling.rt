@@ -1,19 +1,19 @@
 // [01 One segment] How a text that is read as one is spelled, and from where to where its body goes.
-use crate::prefix::starts_at;
-use crate::uescape::Clause;
-use crate::uescape::is_enclosed;
-use crate::uescape::uescape_clause;
 use cutting::marks::Closing;
 use cutting::marks::Mark;
 use cutting::marks::closing_mark;
 use cutting::marks::mark_byte;
 use cutting::openings::opening_len;
 use leaves::bytes::byte_at;
-use leaves::names::is_dollar_tag_continue;
 use leaves::names::is_dollar_tag_start;
+use leaves::runs::NameClass;
+use leaves::runs::run_len;
+use leaves::texts::is_enclosed;
+use leaves::texts::starts_at;
+use uescape::Clause;
+use uescape::uescape_clause;
 ghost use mathlib.Core.Path.{_≡_};
 ghost use lib.ListN.{drop};
-ghost use Rattle.meaning.specs.Bytes.{span, inTag};
 ghost use Rattle.meaning.specs.Spelling.{isUnicode, unicodeSpelling, tagLength, delimiter, dollarBy, spelling};
 ghost use Rattle.cutting.specs.Marks.{markOf};
 ghost use Rattle.spellings.specs.Spelled.{introducedOf, otherOf, Spells};
@@ -43,7 +43,7 @@ pub enum Spelled {
 }
 
 // Whether a text begins with U&, in either case, and a mark.
-// Rules out: u refused; the & not asked for; another mark taken.
+// Rules out: u refused; the & not asked for; another mark taken (must-fail: first_of_each, second_of_each).
 pub fn is_unicode_lexeme(text: &[u8], mark: Mark) -> bool
     ensures { λ r. ⌜ r ≡ isUnicode (markOf mark) (now (text .entry)) ⌝ }
 {
@@ -54,7 +54,7 @@ pub fn is_unicode_lexeme(text: &[u8], mark: Mark) -> bool
 }
 
 // U& and a mark, closed by the first mark that is not doubled; then white space, or a UESCAPE clause that ends the text.
-// Rules out: a mark hidden by a backslash; the mark taken for a part of what follows it.
+// Rules out: a mark hidden by a backslash; the mark taken for a part of what follows it (must-fail: delimiters_overlap, dollar_first_close).
 pub fn unicode_lexeme(text: &[u8], mark: Mark) -> Spelled
     ensures { λ r. ⌜ Spells (now (text .entry)) r (unicodeSpelling (markOf mark) (now (text .entry))) ⌝ }
 {
@@ -84,36 +84,18 @@ pub fn unicode_lexeme(text: &[u8], mark: Mark) -> Spelled
     }
 }
 
-// How many bytes that a dollar tag may hold stand at a place.
-fn tag_run_len(text: &[u8], at: usize) -> usize
-    ensures { λ r. ⌜ r ≡ span inTag (drop at (now (text .entry))) ⌝ }
-{
-    let mut n: usize = 0;
-    if text.len() <= at {
-        return 0;
-    }
-    let left = text.len() - at;
-    while n < left {
-        if !is_dollar_tag_continue(text[at + n]) {
-            return n;
-        }
-        n += 1;
-    }
-    n
-}
-
 // How many bytes of a dollar tag stand at a place.
 fn tag_len(text: &[u8], at: usize) -> usize
     ensures { λ r. ⌜ r ≡ tagLength (drop at (now (text .entry))) ⌝ }
 {
     if is_dollar_tag_start(byte_at(text, at)) {
-        return tag_run_len(text, at);
+        return run_len(text, at, NameClass::DollarTag);
     }
     0
 }
 
 // The bytes of a dollar delimiter at a place; 0 if none stands there.
-// Rules out: a tag that starts with $; another byte than $ at its end; the last $ left out.
+// Rules out: a tag that starts with $; another byte than $ at its end; the last $ left out (must-fail: first_of_each, second_of_each).
 pub fn dollar_open_delim_len(text: &[u8], at: usize) -> usize
     ensures { λ r. ⌜ r ≡ delimiter (drop at (now (text .entry))) ⌝ }
 {
@@ -129,7 +111,7 @@ pub fn dollar_open_delim_len(text: &[u8], at: usize) -> usize
 }
 
 // Equal delimiters at both ends, not overlapping.
-// Rules out: the string ended at the first close; overlapping delimiters (must-fail: dollar_first_close, delimiters_overlap).
+// Rules out: the string ended at the first close; overlapping delimiters (must-fail: delimiters_overlap, dollar_first_close).
 fn dollar_quoted(text: &[u8]) -> Spelled
     ensures { λ r. ⌜ Spells (now (text .entry)) r (dollarBy (now (text .entry)) (delimiter (now (text .entry)))) ⌝ }
 {
@@ -193,7 +175,7 @@ fn other_spelling(text: &[u8]) -> Spelled
 }
 
 // The spelling of a text, tried in document 01's order.
-// Rules out: N read as E; the mark taken for a part of an E body (must-fail: national_escapes).
+// Rules out: N read as E; the mark taken for a part of an E body (must-fail: escape_from_its_mark, national_escapes).
 pub fn string_spelling(text: &[u8]) -> Spelled
     ensures { λ r. ⌜ Spells (now (text .entry)) r (spelling (now (text .entry))) ⌝ }
 {

@@ -15,13 +15,13 @@ use Rattle.meaning.specs.Reading.{Value, means, refused, valueOf, answer, read-
 use Rattle.laws.proofs.Joining.{fails≢means}
 use Rattle.cutting.specs.declared.marks.Mark.{Mark}
 use Rattle.cutting.specs.declared.marks.Mark.the-variants.{Quote, DoubleQuote}
-use Rattle.strings.specs.declared.units.Family.the-variants as Family′
+use Rattle.escapes.specs.declared.units.Family.the-variants as Family′
 use Rattle.strings.specs.declared.one.One.{One}
 use Rattle.strings.specs.declared.one.One.the-variants as One′
 use Rattle.spellings.specs.declared.spelling.Spelled.{Spelled}
 use Rattle.spellings.specs.declared.spelling.Spelled.the-variants.{Standard, Escape, Unicode, Dollar, Unspelt}
-use Rattle.strings.specs.Families.{courseOf}
-use Rattle.strings.specs.Pieces.{Puts}
+use Rattle.escapes.specs.Families.{courseOf}
+use Rattle.leaves.specs.Puts.{Puts}
 use Rattle.spellings.specs.Spelled.{escapeOf, spelledOf, EscapeInside, Spells}
 use Rattle.strings.specs.Answers.{Inside, oneOf, Holds, Put}
 use Rattle.strings.proofs.Ones.{body-inside, means-put, spelled-body, spelled-one, spelled-holds, spelled-put}

@@ -19,17 +19,18 @@ use Rattle.laws.proofs.Short.{course-size, body-means, body-goes}
 use Rattle.laws.proofs.StepBounds.{Steady, standard-steady, escape-steady, unicode-steady}
 use Rattle.cutting.specs.Marks.{markOf}
 use Rattle.cutting.specs.declared.marks.Mark.the-variants.{Quote, DoubleQuote}
-use Rattle.strings.specs.declared.units.Family.{Family}
-use Rattle.strings.specs.declared.units.Family.the-variants as Family′
-use Rattle.strings.specs.declared.measuring.Measured.{Measured}
-use Rattle.strings.specs.declared.measuring.Measured.the-variants as Measured′
+use Rattle.escapes.specs.declared.units.Family.{Family}
+use Rattle.escapes.specs.declared.units.Family.the-variants as Family′
+use Rattle.escapes.specs.declared.measuring.Measured.{Measured}
+use Rattle.escapes.specs.declared.measuring.Measured.the-variants as Measured′
 use Rattle.strings.specs.declared.one.One.{One}
 use Rattle.strings.specs.declared.one.One.the-variants as One′
 use Rattle.strings.specs.declared.joined.Joined.{Joined}
 use Rattle.strings.specs.declared.joined.Joined.the-variants as Joined′
 use Rattle.spellings.specs.declared.spelling.Spelled.{Spelled}
-use Rattle.strings.specs.Families.{stepOf, checks, courseOf, measuredOf, Room, Written}
-use Rattle.strings.specs.Pieces.{Puts}
+use Rattle.escapes.specs.Families.{stepOf, checks, courseOf, measuredOf}
+use Rattle.strings.specs.Rooms.{Room, Written}
+use Rattle.leaves.specs.Puts.{Puts}
 use Rattle.spellings.specs.Spelled.{spelledOf, Spells}
 use Rattle.strings.specs.Answers.{Inside, oneOf, lengthOf, Holds, valueIn, Put}
 

@@ -1,4 +1,2 @@
-pub mod Digits
-pub mod Pieces
-pub mod Families
 pub mod Answers
+pub mod Rooms

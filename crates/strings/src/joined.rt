@@ -1,5 +1,5 @@
 // [01 Cutting, String reading] Joined text, measured whole before the first byte is written; each segment is written into the room the earlier ones left.
-// The reading of a string's text, and the view of its answer.
+// The reading of a string's text.
 use crate::one::One;
 use crate::one::measure_one;
 use crate::one::write_one;
@@ -9,15 +9,14 @@ use cutting::segments::Segment;
 use cutting::segments::first_segment;
 use leaves::bytes::byte_at;
 use leaves::names::is_mark;
-use leaves::spaces::gap_at;
 use meaning::Read;
 use meaning::Settings;
+use spaces::gap_at;
 ghost use mathlib.Core.Path.{_≡_};
 ghost use lib.ListN.{length};
 ghost use Rattle.meaning.specs.Cutting.{cut, continues};
 ghost use Rattle.meaning.specs.Reading.{alone, joined, read};
-ghost use Rattle.meaning.specs.Answers.{partShown};
-ghost use Rattle.meaning.specs.Reads.{Reads, readShown};
+ghost use Rattle.meaning.specs.Reads.{Reads};
 ghost use Rattle.strings.specs.Answers.{lengthOf, Holds, Put};
 
 // How long joined text's value is, or where reading stops.
@@ -27,8 +26,8 @@ pub enum Joined {
 }
 
 // Whether a quote mark follows the first segment, past white space.
-// Rules out: a text without a segment called joined; the white space at the text's start counted.
-pub fn is_joined(text: &[u8], settings: Settings) -> bool
+// Rules out: a text without a segment called joined; the white space at the text's start counted (must-fail: first_segment_only).
+fn is_joined(text: &[u8], settings: Settings) -> bool
     ensures { λ r. ⌜ r ≡ continues settings (now (text .entry)) ⌝ }
 {
     match first_segment(text, settings) {
@@ -50,7 +49,7 @@ fn segment_length(text: &[u8], settings: Settings) -> Joined
 
 // The length of all segments' values, or where the first that is refused stops, or a remainder begins.
 // Rules out: segments not counted; a remainder passed over; the setting lost (must-fail: first_segment_only).
-pub fn measure_joined(text: &[u8], settings: Settings) -> Joined
+fn measure_joined(text: &[u8], settings: Settings) -> Joined
     ensures { λ r. ⌜ r ≡ lengthOf (joined settings (cut settings (now (text .entry)))) ⌝ }
 {
     let mut cursor = Cursor::new();
@@ -112,7 +111,7 @@ fn write_joined(text: &[u8], settings: Settings, out: &mut [u8]) -> usize
 }
 
 // Reads a string's text: a part of it, so many bytes at the buffer's start, the place where reading stops, or the length for which there is no room.
-// Rules out: writing before a later segment refuses; a made-up length (must-fail: written_too_early).
+// Rules out: writing before a later segment refuses; a made-up length (must-fail: length_one_short, written_too_early).
 pub fn read_string(text: &[u8], settings: Settings, out: &mut [u8]) -> Read
     ensures { λ r. ⌜ Reads (read settings (now (text .entry))) (now (out .entry)) r (now (out .exit)) ⌝ }
 {
@@ -141,31 +140,4 @@ pub fn read_string(text: &[u8], settings: Settings, out: &mut [u8]) -> Read
         }
         One::Refused { place } => Read::Refused { place },
     }
-}
-
-// Either the text's part or the buffer's; a range that does not fit its slice, or a refusal, shows an empty part.
-// Rules out: the buffer shown for a borrowed answer; written bytes shown from the second on.
-pub fn shown<'a>(text: &'a [u8], out: &'a [u8], answer: Read) -> &'a [u8]
-    ensures { λ r. ⌜ now r ≡ readShown (now (text .entry)) (now (out .entry)) answer ⌝ }
-{
-    match answer {
-        Read::Borrowed { from, until } => part_of(text, from, until),
-        Read::Written { len } => part_of(out, 0, len),
-        Read::Refused { place: _ } => &text[..0],
-        Read::NoRoom { needed: _ } => &text[..0],
-    }
-}
-
-// A part of a slice, empty where it does not fit.
-// Rules out: a part that ends past the slice; one that begins behind its end.
-pub fn part_of(bytes: &[u8], from: usize, until: usize) -> &[u8]
-    ensures { λ r. ⌜ now r ≡ partShown from until (now (bytes .entry)) ⌝ }
-{
-    if until < from {
-        return &bytes[..0];
-    }
-    if bytes.len() < until {
-        return &bytes[..0];
-    }
-    &bytes[from..until]
 }

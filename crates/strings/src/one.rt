@@ -1,18 +1,19 @@
 // [01 One segment] One segment, or a whole text that is read as one: borrowed, so many bytes to write, or refused.
-use crate::measuring::Measured;
-use crate::measuring::measure;
-use crate::pieces::put_bytes;
-use crate::units::Family;
 use crate::writing::write;
 use cutting::marks::Mark;
+use escapes::measuring::Measured;
+use escapes::measuring::measure;
+use escapes::units::Family;
+use leaves::puts::put_bytes;
+use leaves::texts::string_literal_embeds_nul;
 use meaning::Settings;
 use spellings::spelling::Spelled;
 use spellings::spelling::string_spelling;
 ghost use mathlib.Core.Path.{_≡_};
 ghost use lib.ListN.{length};
-ghost use Rattle.meaning.specs.Bytes.{part, has};
+ghost use Rattle.meaning.specs.Bytes.{part};
 ghost use Rattle.meaning.specs.Reading.{valueOf, answer, one, alone};
-ghost use Rattle.strings.specs.Families.{courseOf};
+ghost use Rattle.escapes.specs.Families.{courseOf};
 ghost use Rattle.strings.specs.Answers.{Inside, oneOf, Holds, Put};
 
 // What one segment means.
@@ -20,21 +21,6 @@ pub enum One {
     Borrowed { from: usize, until: usize },
     Written { len: usize },
     Refused { place: usize },
-}
-
-// [`string_literal_embeds_nul`] Whether a text holds a raw NUL.
-// Rules out: another byte looked for; the last byte not looked at.
-pub fn string_literal_embeds_nul(text: &[u8]) -> bool
-    ensures { λ r. ⌜ r ≡ has 0 (now (text .entry)) ⌝ }
-{
-    let mut i: usize = 0;
-    while i < text.len() {
-        if text[i] == 0 {
-            return true;
-        }
-        i += 1;
-    }
-    false
 }
 
 // The body from a place up to another, measured: the text's own part where it is plain.
@@ -53,7 +39,7 @@ fn measure_body(text: &[u8], from: usize, until: usize, family: Family, escape: 
 
 // What one segment means, or that it is refused and where.
 // Rules out: a raw NUL kept; the place counted from the body.
-pub fn measure_one(text: &[u8], settings: Settings) -> One
+pub(crate) fn measure_one(text: &[u8], settings: Settings) -> One
     ensures { λ r. ⌜ r ≡ oneOf (one settings (now (text .entry))) ⌝ }
 {
     if string_literal_embeds_nul(text) {

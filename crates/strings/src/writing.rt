@@ -1,12 +1,60 @@
 // Writes a body's value: one pass for every family, into room that measuring found.
-use crate::pieces::piece_more;
-use crate::pieces::put_piece;
-use crate::units::Family;
-use crate::units::unit_at;
-ghost use mathlib.Core.Path.{_≡_};
+use escapes::pieces::Piece;
+use escapes::pieces::piece_more;
+use escapes::units::Family;
+use escapes::units::unit_at;
+use leaves::puts::put_bytes;
+use scalars::encoding::encode_utf8;
+ghost use mathlib.Core.List.{[], _∷_};
 ghost use lib.ListN.{length};
-ghost use Rattle.strings.specs.Families.{courseOf, Room, Written};
+ghost use Rattle.leaves.specs.Puts.{Puts};
+ghost use Rattle.escapes.specs.Pieces.{bytesOf, Sound};
+ghost use Rattle.escapes.specs.Families.{courseOf};
+ghost use Rattle.strings.specs.Rooms.{Room, Written};
 
+// Puts the bytes that a unit stands for at the buffer's start, and says how many; where there is no room it puts nothing and says 0.
+fn put_piece(piece: Piece, byte: u8, escape: &[u8], out: &mut [u8]) -> usize
+    requires { ⌜ Sound piece ⌝ }
+    ensures { λ r. ⌜ Puts (bytesOf piece byte (now (escape .entry))) (now (out .entry)) r (now (out .exit)) ⌝ }
+{
+    match piece {
+        Piece::Keep => put_byte(byte, out),
+        Piece::Byte {
+            more: _,
+            byte: value,
+        } => put_byte(value, out),
+        Piece::Two {
+            more: _,
+            first,
+            second,
+        } => put_two(first, second, out),
+        Piece::Scalar { more: _, scalar } => encode_utf8(scalar, out),
+        Piece::Escape { more: _ } => put_bytes(escape, out),
+        Piece::Refused => 0,
+    }
+}
+
+fn put_byte(byte: u8, out: &mut [u8]) -> usize
+    ensures { λ r. ⌜ Puts (byte ∷ []) (now (out .entry)) r (now (out .exit)) ⌝ }
+{
+    if out.len() < 1 {
+        return 0;
+    }
+    out[0] = byte;
+    1
+}
+
+fn put_two(first: u8, second: u8, out: &mut [u8]) -> usize
+    ensures { λ r. ⌜ Puts (first ∷ second ∷ []) (now (out .entry)) r (now (out .exit)) ⌝ }
+{
+    if out.len() < 2 {
+        return 0;
+    }
+    out[0] = first;
+    out[1] = second;
+    2
+}
+// Writes a body's value, for which there is room, and says how long it is.
 pub(crate) fn write(body: &[u8], family: Family, escape: &[u8], out: &mut [u8]) -> usize
     requires { ⌜ Room (courseOf family (now escape) (now body)) (length (now out)) ⌝ }
     ensures { λ r. ⌜ Written (courseOf family (now (escape .entry)) (now (body .entry))) (now (out .entry)) r (now (out .exit)) ⌝ }

@@ -5,16 +5,17 @@ use native.Mathlib.Omega.{arith}
 use lib.ListN.{length}
 use denote.Ref.{now}
 use Rattle.meaning.specs.Bytes.{inName}
-use Rattle.cutting.proofs.Names.{span-inside, named-empty, named-marked, named-unmarked}
+use Rattle.leaves.proofs.RunSteps.{span-inside}
+use Rattle.cutting.proofs.Names.{named-empty, named-marked, named-unmarked}
 use Rattle.cutting.proofs.openings.introducer_len.Statement.{statement}
 use Rattle.cutting.proofs.openings.introducer_len.Tie as tie
 
 -- the name lies inside the text
-inside : (c : tie.Else1) → c .before .before .before .args .at + c .before .name-len .result ≤ length (now (c .before .before .before .args .text))
-inside c = span-inside inName _ _ _ (c .before .name-len .ensures) (c .if1 .left)
+inside : (c : tie.Else1) → c .before .before .before .args .at + c .before .run-len .result ≤ length (now (c .before .before .before .args .text))
+inside c = span-inside inName _ _ _ (c .before .run-len .ensures) (c .if1 .left)
 
-name-len-requires : tie.Need-name-len-requires
-name-len-requires c κs = search needs
+run-len-requires : tie.Need-run-len-requires
+run-len-requires c κs = search needs
 
 returns : tie.Need-returns
 returns c = search named-empty
@@ -41,7 +42,7 @@ pub introducer-len-spec : {M : Type 1} → statement M
 introducer-len-spec =
     tie.close
     (tie.spec
-    name-len-requires
+    run-len-requires
     returns
     add-byte-at
     byte-at-requires

@@ -10,8 +10,8 @@ byte-at-requires c κs = search needs
 is-dollar-tag-start-requires : tie.Need-is-dollar-tag-start-requires
 is-dollar-tag-start-requires c κs = search needs
 
-tag-run-len-requires : tie.Need-tag-run-len-requires
-tag-run-len-requires c κs = search needs
+run-len-requires : tie.Need-run-len-requires
+run-len-requires c κs = search needs
 
 returns : tie.Need-returns
 returns c = search tag-run
@@ -22,4 +22,4 @@ returns-2 c = search tag-none
 pub tag-len-spec : {M : Type 1} → statement M
 tag-len-spec =
     tie.close
-    (tie.spec byte-at-requires is-dollar-tag-start-requires tag-run-len-requires returns returns-2)
+    (tie.spec byte-at-requires is-dollar-tag-start-requires run-len-requires returns returns-2)

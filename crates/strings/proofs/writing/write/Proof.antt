@@ -8,9 +8,9 @@ use denote.Ref.{now}
 use lib.ListN.{length}
 use Rattle.meaning.specs.Bytes.{_!_}
 use Rattle.laws.proofs.Passes.{Writing, writing-none}
-use Rattle.strings.specs.Pieces.{moreOf, bytesOf}
-use Rattle.strings.specs.Families.{stepOf}
-use Rattle.strings.proofs.Turns.{written-fits, written-answer, written-turn, written-end}
+use Rattle.escapes.specs.Pieces.{moreOf, bytesOf}
+use Rattle.escapes.specs.Families.{stepOf}
+use Rattle.strings.proofs.WriteTurns.{written-fits, written-answer, written-turn, written-end}
 use Rattle.strings.proofs.writing.write.Statement.{statement}
 use Rattle.strings.proofs.writing.write.Tie as tie
 
@@ -38,7 +38,7 @@ loop-holds : tie.Need-loop-holds Inv-loop μ-loop
 loop-holds c = writing-none _ _ _
 
 unit-at-requires : tie.Need-unit-at-requires Inv-loop μ-loop
-unit-at-requires c κs = c .loop-test .taken
+unit-at-requires c κs = search needs
 
 shared-slice-read-put-piece : tie.Need-shared-slice-read-put-piece Inv-loop μ-loop
 shared-slice-read-put-piece c = omega arith

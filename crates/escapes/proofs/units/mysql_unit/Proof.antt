@@ -1,0 +1,40 @@
+-- `escapes::units::mysql_unit` meets its contract. Assumes nothing.
+use Rattle.escapes.proofs.UnitLaws.{mysql-end, mysql-letter, mysql-kept, mysql-self}
+use borrow.Author.Needs.{needs}
+use Rattle.escapes.proofs.units.mysql_unit.Statement.{statement}
+use Rattle.escapes.proofs.units.mysql_unit.Tie as tie
+
+returns : tie.Need-returns
+returns c = mysql-end _ _ (c .if1 .taken)
+
+shared-slice-read-letter : tie.Need-shared-slice-read-letter
+shared-slice-read-letter c = search needs
+
+mysql-letter-requires : tie.Need-mysql-letter-requires
+mysql-letter-requires c κs = search needs
+
+cast-t9 : tie.Need-cast-t9
+cast-t9 c = search needs
+
+returns-2 : tie.Need-returns-2
+returns-2 c = mysql-letter _ _ (c .before .before .before .if1 .left) _ (c .before .mysql-letter .ensures) (c .if2 .taken)
+
+returns-3 : tie.Need-returns-3
+returns-3 c =
+    mysql-kept _ _ (c .before .before .before .before .if1 .left) _ (c .before .before .mysql-letter .ensures) (c .before .if2 .left) (c .if3 .taken)
+
+returns-4 : tie.Need-returns-4
+returns-4 c =
+    mysql-self _ _ (c .before .before .before .before .if1 .left) _ (c .before .before .mysql-letter .ensures) (c .before .if2 .left) (c .if3 .left)
+
+pub mysql-unit-spec : {M : Type 1} → statement M
+mysql-unit-spec =
+    tie.close
+    (tie.spec
+    returns
+    shared-slice-read-letter
+    mysql-letter-requires
+    cast-t9
+    returns-2
+    returns-3
+    returns-4)

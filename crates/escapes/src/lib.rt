@@ -1,0 +1,6 @@
+// [01 One segment] The escape families: what stands at a place of a body, and how long a body's value is. One enum names the family, one function reads a
+// unit, and one pass measures them all.
+mod digits;
+pub mod measuring;
+pub mod pieces;
+pub mod units;

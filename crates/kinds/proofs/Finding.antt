@@ -1,0 +1,105 @@
+-- Where a byte first and last stands in a text, and where a text stands in another: what each loop knows at its place, and each way out. Assumes nothing.
+use mathlib.Core.Path.{_≡_, refl, sym, ap, _∙_}
+use mathlib.Core.Bool.{Bool, true, false, not}
+use mathlib.Core.List.{List, [], _∷_}
+use Prim.Native.Nat.{ℕ, zero, suc, _+_, _-_, _≤_, _<_}
+use native.Mathlib.Nat.{zero-add}
+use native.Mathlib.Omega.{arith}
+use lib.Dec.{eqb}
+use lib.ListN.{length, drop, drop-of-length-le}
+use lib.Seq.{drop-cons, drop-length}
+use borrow.Author.Tests.{eq-eqb, ne-eqb}
+use Rattle.meaning.specs.Bytes.{_!_, starts}
+use Rattle.meaning.specs.Kinds.{firstOf, lastBy, pastLast, foundBy, found}
+use Rattle.leaves.proofs.RunSteps.{RunSoFar, run-more, run-stop, run-end}
+
+-- THE FIRST q: a run of other bytes, i of them so far
+abbrev pub other : ℕ → ℕ → Bool
+other q b = not (eqb b q)
+
+pub first-none : (q : ℕ) (l : List ℕ) → RunSoFar (other q) l 0 0
+first-none q l = record { run = sym (zero-add (firstOf q l)); within = omega arith }
+
+module _ (q : ℕ) (l : List ℕ) (i : ℕ) (s : RunSoFar (other q) l 0 i) where
+  pub first-end : length l ≤ i → i ≡ firstOf q l
+  first-end h = run-end (other q) l 0 i s (omega arith)
+
+  pub first-here : i < length l → l ! i ≡ q → i ≡ firstOf q l
+  first-here h e = run-stop (other q) l 0 i s (omega arith) false (rw (zero-add i, eq-eqb (l ! i) q e)) refl
+
+  pub first-more : i < length l → (l ! i ≡ q → ⊥) → RunSoFar (other q) l 0 (i + 1)
+  first-more h n = run-more (other q) l 0 i s (omega arith) true (rw (zero-add i, ne-eqb (l ! i) q n)) refl
+
+-- THE LAST q: from i on there is none
+pub record LastBefore (q : ℕ) (l : List ℕ) (i : ℕ) : Type 0 where
+  pub none : pastLast q (drop i l) ≡ 0
+  pub within : i ≤ length l
+
+last-suc : (x : Bool) (n : ℕ) → lastBy x (suc n) ≡ suc (suc n)
+last-suc true n = refl
+last-suc false n = refl
+
+last-behind : (q : ℕ) (l : List ℕ) (i k : ℕ) → pastLast q (drop i l) ≡ suc k → pastLast q l ≡ suc (i + k)
+last-behind q l zero k e = rw (zero-add k) e
+last-behind q [] (suc i) k e = absurd (omega arith)
+last-behind q (b ∷ l) (suc i) k e = rw (last-behind q l i k e, last-suc (eqb b q) (i + k)) (omega arith)
+
+pub last-start : (q : ℕ) (l : List ℕ) → LastBefore q l (length l)
+last-start q l = record { none = rw (drop-length l); within = omega arith }
+
+module _ (q : ℕ) (l : List ℕ) (i : ℕ) (s : LastBefore q l i) where
+  pub last-none : i ≤ 0 → 0 ≡ pastLast q l
+  last-none h = let z : i ≡ 0 = omega arith in sym (rw z at (s .none))
+
+  module _ (h : 0 < i) where
+    last-at : pastLast q (drop (i - 1) l) ≡ lastBy (eqb (l ! (i - 1)) q) 0
+    last-at =
+        let z : suc (i - 1) ≡ i = omega arith in
+        ap (pastLast q) (drop-cons l (i - 1) 0 (omega (arith, s .within)))
+        ∙ ap (lastBy (eqb (l ! (i - 1)) q)) (ap (λ (j : ℕ). pastLast q (drop j l)) z ∙ s .none)
+
+    pub last-here : l ! (i - 1) ≡ q → i ≡ pastLast q l
+    last-here e = omega (arith, last-behind q l (i - 1) 0 (last-at ∙ rw (eq-eqb (l ! (i - 1)) q e)))
+
+    pub last-less : (l ! (i - 1) ≡ q → ⊥) → LastBefore q l (i - 1)
+    last-less n = record { none = last-at ∙ rw (ne-eqb (l ! (i - 1)) q n); within = omega (arith, s .within) }
+
+-- A TEXT p: it stands nowhere from `at` up to i. What is found d bytes further on
+abbrev further : ℕ → ℕ → ℕ
+further d zero = 0
+further d (suc k) = suc (d + k)
+
+further-none : (n : ℕ) → further 0 n ≡ n
+further-none zero = refl
+further-none (suc k) = ap suc (zero-add k)
+
+further-next : (d n : ℕ) → further d (foundBy false n) ≡ further (suc d) n
+further-next d zero = refl
+further-next d (suc k) = omega arith
+
+pub record FoundBehind (p l : List ℕ) (at i : ℕ) : Type 0 where
+  pub rest : found p (drop at l) ≡ further (i - at) (found p (drop i l))
+  pub from : at ≤ i
+
+pub found-start : (p l : List ℕ) (at : ℕ) → FoundBehind p l at at
+found-start p l at =
+    let z : at - at ≡ 0 = omega arith in record { rest = rw z (sym (further-none (found p (drop at l)))); from = omega arith }
+
+module _ (p l : List ℕ) (at i : ℕ) (s : FoundBehind p l at i) where
+  pub found-none : length l ≤ i → 0 ≡ found p (drop at l)
+  found-none h = sym (s .rest ∙ rw (drop-of-length-le l h))
+
+  module _ (h : i < length l) (x : Bool) (ex : x ≡ starts p (drop i l)) where
+    found-at : found p (drop i l) ≡ foundBy x (found p (drop (suc i) l))
+    found-at =
+        ap (found p) (drop-cons l i 0 h)
+        ∙ ap (λ (y : Bool). foundBy y (found p (drop (suc i) l))) (sym (ex ∙ ap (starts p) (drop-cons l i 0 h)))
+
+    pub found-here : x ≡ true → i - at + 1 ≡ found p (drop at l)
+    found-here t = let z : suc (i - at + 0) ≡ i - at + 1 = omega arith in sym (s .rest ∙ rw (found-at, t) z)
+
+    pub found-more : x ≡ false → FoundBehind p l at (i + 1)
+    found-more t =
+        let y : suc i ≡ i + 1 = omega arith in
+        let z : suc (i - at) ≡ i + 1 - at = omega (arith, s .from) in
+        record { rest = s .rest ∙ rw (found-at, t, further-next (i - at) (found p (drop (suc i) l)), y, z); from = omega (arith, s .from) }

@@ -1,0 +1,157 @@
+// [01 Numbers and the other kinds, Temporal] The string in a temporal text, and its reading with the setting off.
+use leaves::bytes::byte_at;
+use leaves::names::is_dollar_tag_continue;
+use leaves::texts::starts_at;
+use meaning::Read;
+use meaning::Settings;
+use spellings::spelling::dollar_open_delim_len;
+use strings::joined::read_string;
+ghost use mathlib.Core.Path.{_≡_};
+ghost use lib.ListN.{drop};
+ghost use Rattle.meaning.specs.Kinds.{firstOf, pastLast, found, dollarToken, tokenStart, quoteToken, temporalToken, temporal};
+ghost use Rattle.meaning.specs.Reads.{Reads};
+ghost use Rattle.meaning.specs.Spelling.{delimiter};
+ghost use Rattle.kinds.specs.Tokens.{tokenOf};
+
+// The string token of a temporal text, from a place up to another; or that there is none.
+pub enum Token {
+    Found { from: usize, until: usize },
+    Nothing,
+}
+
+// The place of the first such byte; the length if there is none.
+fn first_of(text: &[u8], byte: u8) -> usize
+    ensures { λ r. ⌜ r ≡ firstOf byte (now (text .entry)) ⌝ }
+{
+    let mut i: usize = 0;
+    while i < text.len() {
+        if text[i] == byte {
+            return i;
+        }
+        i += 1;
+    }
+    i
+}
+
+// One past the place of the last such byte, sought from the end; 0 if there is none.
+// Rules out: the first such byte taken for the last (must-fail: opening_closes_itself).
+fn past_last(text: &[u8], byte: u8) -> usize
+    ensures { λ r. ⌜ r ≡ pastLast byte (now (text .entry)) ⌝ }
+{
+    let mut i = text.len();
+    while 0 < i {
+        if text[i - 1] == byte {
+            return i;
+        }
+        i -= 1;
+    }
+    0
+}
+
+// One more than the bytes between a place and where a text next stands; 0 if it stands nowhere behind. A delimiter has its $ at its ends alone: no byte is
+// compared more than twice.
+fn found_from(text: &[u8], at: usize, wanted: &[u8]) -> usize
+    ensures { λ r. ⌜ r ≡ found (now (wanted .entry)) (drop at (now (text .entry))) ⌝ }
+{
+    let mut i = at;
+    while i < text.len() {
+        if starts_at(text, i, wanted) {
+            return i - at + 1;
+        }
+        i += 1;
+    }
+    0
+}
+
+// The dollar token at a place, to its first close.
+// Rules out: the opening delimiter taken for the close; a token to its last close (must-fail: opening_closes_itself).
+fn dollar_token(text: &[u8], at: usize) -> Token
+    ensures { λ r. ⌜ r ≡ tokenOf (dollarToken at (drop at (now (text .entry))) (delimiter (drop at (now (text .entry))))) ⌝ }
+{
+    let len = dollar_open_delim_len(text, at);
+    if len == 0 {
+        return Token::Nothing;
+    }
+    let body = at + len;
+    let found = found_from(text, body, &text[at..body]);
+    if found == 0 {
+        return Token::Nothing;
+    }
+    Token::Found {
+        from: at,
+        until: body + (found - 1) + len,
+    }
+}
+
+// Where a token begins whose first quote mark is given: at an E before the mark, unless a tag byte stands before the E.
+// Rules out: DATE'..' read as an E string (must-fail: keyword_lends_its_e).
+fn token_start(text: &[u8], quote: usize) -> usize
+    ensures { λ r. ⌜ r ≡ tokenStart quote (now (text .entry)) ⌝ }
+{
+    if quote == 0 {
+        return quote;
+    }
+    let before = quote - 1;
+    let letter = byte_at(text, before);
+    if !((letter == 69) | (letter == 101)) {
+        return quote;
+    }
+    if before == 0 {
+        return before;
+    }
+    if is_dollar_tag_continue(byte_at(text, before - 1)) {
+        return quote;
+    }
+    before
+}
+
+// The token whose first quote mark is given, to the last one.
+fn quote_token(text: &[u8], quote: usize) -> Token
+    ensures { λ r. ⌜ r ≡ tokenOf (quoteToken quote (now (text .entry))) ⌝ }
+{
+    if text.len() <= quote {
+        return Token::Nothing;
+    }
+    Token::Found {
+        from: token_start(text, quote),
+        until: past_last(text, 39),
+    }
+}
+
+// The string token: by $ if a $ precedes any ', otherwise by '.
+fn temporal_token(text: &[u8]) -> Token
+    ensures { λ r. ⌜ r ≡ tokenOf (temporalToken (now (text .entry))) ⌝ }
+{
+    let dollar = first_of(text, 36);
+    let quote = first_of(text, 39);
+    if dollar < quote {
+        return dollar_token(text, dollar);
+    }
+    quote_token(text, quote)
+}
+
+// Reads a temporal text: its string token, read as a string with the setting off, at the token's place of the text.
+// Rules out: a backslash active in '..'; a range told within the token (must-fail: range_within_the_token, setting_on).
+pub fn read_temporal(text: &[u8], out: &mut [u8]) -> Read
+    ensures { λ r. ⌜ Reads (temporal (now (text .entry))) (now (out .entry)) r (now (out .exit)) ⌝ }
+{
+    match temporal_token(text) {
+        Token::Found { from, until } => {
+            match read_string(&text[from..until], Settings { backslash: false }, out) {
+                Read::Borrowed {
+                    from: start,
+                    until: end,
+                } => Read::Borrowed {
+                    from: from + start,
+                    until: from + end,
+                },
+                Read::Written { len } => Read::Written { len },
+                Read::Refused { place } => Read::Refused {
+                    place: from + place,
+                },
+                Read::NoRoom { needed } => Read::NoRoom { needed },
+            }
+        }
+        Token::Nothing => Read::Refused { place: 0 },
+    }
+}

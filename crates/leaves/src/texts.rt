@@ -1,0 +1,59 @@
+// What a whole text is asked: another text at a place of it, a mark at both its ends, a raw NUL.
+ghost use mathlib.Core.Path.{_≡_};
+ghost use lib.ListN.{drop};
+ghost use Rattle.meaning.specs.Bytes.{has, starts};
+ghost use Rattle.meaning.specs.Spelling.{encloses};
+
+// Whether a text stands at a place.
+// Rules out: bytes passed over; one byte asked for all (must-fail: first_of_each, second_of_each).
+pub fn starts_at(body: &[u8], at: usize, prefix: &[u8]) -> bool
+    ensures { λ r. ⌜ r ≡ starts (now (prefix .entry)) (drop at (now (body .entry))) ⌝ }
+{
+    let len = prefix.len();
+    if len == 0 {
+        return true;
+    }
+    if body.len() <= at {
+        return false;
+    }
+    if body.len() - at < len {
+        return false;
+    }
+    let mut i: usize = 0;
+    while i < len {
+        if body[at + i] != prefix[i] {
+            return false;
+        }
+        i += 1;
+    }
+    true
+}
+
+// Whether a mark stands at a place and, as another byte, at the text's end.
+// Rules out: one mark taken for both; a mark before the last byte taken; ' closed by " (must-fail: first_of_each, second_of_each).
+pub fn is_enclosed(text: &[u8], at: usize, mark: u8) -> bool
+    ensures { λ r. ⌜ r ≡ encloses at mark (now (text .entry)) ⌝ }
+{
+    if text.len() <= at {
+        return false;
+    }
+    if text.len() - at < 2 {
+        return false;
+    }
+    (text[at] == mark) & (text[text.len() - 1] == mark)
+}
+
+// [`string_literal_embeds_nul`] Whether a text holds a raw NUL.
+// Rules out: another byte looked for; the last byte not looked at (must-fail: first_of_each, second_of_each).
+pub fn string_literal_embeds_nul(text: &[u8]) -> bool
+    ensures { λ r. ⌜ r ≡ has 0 (now (text .entry)) ⌝ }
+{
+    let mut i: usize = 0;
+    while i < text.len() {
+        if text[i] == 0 {
+            return true;
+        }
+        i += 1;
+    }
+    false
+}

@@ -1,0 +1,3 @@
+pub mod Widths
+pub mod Gathering
+pub mod Encoded

@@ -1,0 +1,82 @@
+-- White space at a place, by the number of the character there; and a loop that steps from one white-space character to the next. Assumes nothing.
+use mathlib.Core.Path.{_≡_, refl, ap, sym, _∙_}
+use mathlib.Core.Bool.{Bool, true, false}
+use mathlib.Core.List.{List, [], _∷_}
+use Prim.Native.Nat.{ℕ, zero, suc, _+_, _-_, _≤_, _<_}
+use native.Mathlib.Omega.{arith}
+use lib.ListN.{length, drop, getD, length-drop, drop-of-length-le}
+use lib.Seq.{drop-cons, drop-drop}
+use Rattle.meaning.specs.Bytes.{if_then_else_}
+use Rattle.meaning.specs.Chars.{Due, due, broken, lead, width, widthBy, isSpace, space, spaceAt}
+use Rattle.meaning.specs.Steps.{spaceStep, spaceBy, gap}
+use Rattle.laws.proofs.Walks.{FitsIn}
+use Rattle.laws.proofs.Gaps.{no-space, space-fits}
+use Rattle.laws.proofs.Courses.{SoFar, so-far-none, so-far-give, size-here, size-end}
+use Rattle.scalars.specs.Scalars.{scalarBy, scalarOf}
+
+pub space-none : (text : List ℕ) (at : ℕ) → length text ≤ at → 0 ≡ space (drop at text)
+space-none text at h = rw (drop-of-length-le text h)
+
+space-scalar : (d : Due) (b : ℕ) (t : List ℕ) → spaceAt d b t ≡ (if isSpace (scalarBy d b t) then widthBy d else 0)
+space-scalar broken b t = rw no-space
+space-scalar (due n lo hi) b t = refl
+
+-- what is at hand: the character's number s, whether that is white space, and how wide its first byte says that it is
+module _ (text : List ℕ) (at : ℕ) (h : at < length text) (s : ℕ) (p : s ≡ scalarOf (drop at text)) (x : Bool) (q : x ≡ isSpace s) where
+  here : space (drop at text) ≡ (if x then width (getD text at 0) else 0)
+  unfolding width
+  here = rw (q, p, drop-cons text at 0 h) (space-scalar (lead (getD text at 0)) (getD text at 0) (drop (suc at) text))
+
+  pub space-yes : x ≡ true → (w : ℕ) → w ≡ width (getD text at 0) → w ≡ space (drop at text)
+  space-yes y w e = e ∙ sym (rw y at here)
+
+  pub space-no : x ≡ false → 0 ≡ space (drop at text)
+  space-no y = sym (rw y at here)
+
+-- white space lies inside its text
+space-short : (b : ℕ) (t : List ℕ) → space (b ∷ t) ≤ suc (length t)
+space-short b t = go (space (b ∷ t)) (space-fits b t)
+  where
+    go : (n : ℕ) → FitsIn (spaceBy n) (length t) → n ≤ suc (length t)
+    go zero f = omega arith
+    go (suc n) f = omega arith
+
+-- THE LOOP: what lies between the place and i is walked
+pub record Spacing (text : List ℕ) (at i : ℕ) : Type 0 where
+  pub above : at ≤ i
+  pub far : SoFar spaceStep (drop at text) (i - at)
+
+pub spacing-start : (text : List ℕ) (at : ℕ) → Spacing text at at
+spacing-start text at =
+    let z : at - at ≡ 0 = omega arith in record { above = omega arith; far = rw z (so-far-none spaceStep (drop at text)) }
+
+module _ {text : List ℕ} {at i : ℕ} (v : Spacing text at i) where
+  pub spacing-end : length text ≤ i → i - at ≡ gap (drop at text)
+  spacing-end h = sym (size-end (v .far) (omega (arith, length-drop at text)))
+
+  module _ (h : i < length text) (k : ℕ) (e : k ≡ space (drop i text)) where
+    inside : i - at < length (drop at text)
+    inside = omega (arith, length-drop at text, v .above)
+
+    step : spaceStep (drop (i - at) (drop at text)) ≡ spaceBy k
+    step =
+        let z : at + (i - at) ≡ i = omega (arith, v .above) in
+        ap spaceStep (drop-drop (i - at) at text ∙ ap (λ (n : ℕ). drop n text) z) ∙ ap spaceBy (sym e)
+
+    pub spacing-room : i + k ≤ length text
+    spacing-room =
+        let f : k ≤ suc (length (drop (suc i) text)) = rw (e, drop-cons text i 0 h) (space-short (getD text i 0) (drop (suc i) text)) in
+        omega (arith, length-drop (suc i) text)
+
+    pub spacing-stop : k ≡ 0 → i - at ≡ gap (drop at text)
+    spacing-stop z = sym (size-here (v .far) inside (step ∙ ap spaceBy z))
+
+    pub spacing-on : (k ≡ 0 → ⊥) → Spacing text at (i + k)
+    spacing-on z = go k step spacing-room z
+      where
+        go : (k : ℕ) → spaceStep (drop (i - at) (drop at text)) ≡ spaceBy k → i + k ≤ length text → (k ≡ 0 → ⊥) → Spacing text at (i + k)
+        go zero s r z = absurd (z refl)
+        go (suc j) s r z = record {
+          above = omega (arith, v .above);
+          far = so-far-give (v .far) j [] (i + suc j - at) (omega (arith, length-drop at text, v .above)) s (omega (arith, v .above));
+        }

@@ -1,0 +1,2 @@
+pub mod Tails
+pub mod Blocks

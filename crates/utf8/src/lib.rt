@@ -1,0 +1,3 @@
+// UTF-8 (RFC 3629): the step with its states, and the check of a slice.
+pub mod check;
+pub mod tail;

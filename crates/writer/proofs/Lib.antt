@@ -1,0 +1,4 @@
+pub mod Turning
+pub mod Writings
+pub mod Passing
+pub mod Answering
