@@ -1,0 +1,104 @@
+#!/usr/bin/env python3
+"""The table of docs/CONTRACTS.md: every public function with its contract, what it rules out and the wrong programs that the gate tries.
+
+    tools/contracts.py            writes the table anew, behind its mark
+    tools/contracts.py --check    exits 1 if the table is not what the sources say, or if a public function has no contract, asks something of its caller,
+                                  or has fewer than two wrong programs under must-fail/
+
+A program (a crate whose root has fn main) has no public function. `out` is a lent buffer before the call and `out′` behind it.
+"""
+import glob
+import os
+import re
+import sys
+
+os.chdir(os.path.join(os.path.dirname(os.path.abspath(__file__)), '..'))
+PAGE = 'docs/CONTRACTS.md'
+MARK = '<!-- from here on written by tools/contracts.py -->\n\n'
+HEAD = '| function | contract, on the result `r` | wrong programs that the gate tries, and the edit of each |\n|---|---|---|\n'
+
+
+def listed():
+    with open('crates.txt') as f:
+        return [line.split(':')[0] for line in f if ':' in line and not line.startswith('#')]
+
+
+def wrong_programs():
+    """function -> what is wrong with each of its wrong programs, and the label of the edit that holds it"""
+    wrong = {}
+    for edit in sorted(glob.glob('crates/*/must-fail/*.edit')):
+        label = os.path.basename(edit)[:-len('.edit')]
+        with open(edit) as f:
+            for function, why in re.findall(r'^refused: (\S+)\nwhy: (.*)$', f.read(), re.M):
+                wrong.setdefault(function, []).append((why, label))
+    return wrong
+
+
+def clause(text):
+    """a contract's text, with slices named for their bytes"""
+    text = re.sub(r'^\s*λ _?r?\. ⌜ | ⌝\s*$', '', text.strip())
+    text = re.sub(r'\(now \((\w+) \.exit\)\)|now \((\w+) \.exit\)', lambda m: (m[1] or m[2]) + '′', text)
+    text = re.sub(r'\(now \((\w+) \.entry\)\)|now \((\w+) \.entry\)', lambda m: m[1] or m[2], text)
+    return text.replace('«', '').replace('»', '')
+
+
+def functions(crate):
+    """(name, ensures, requires) of each public function"""
+    for path in sorted(glob.glob(f'crates/{crate}/src/*.rt')):
+        module = os.path.basename(path)[:-len('.rt')]
+        with open(path) as f:
+            lines = f.read().split('\n')
+        owner = None
+        for i, line in enumerate(lines):
+            if re.match(r'impl (\w+)', line):
+                owner = re.match(r'impl (\w+)', line)[1]
+            if line == '}':
+                owner = None
+            found = re.match(r'\s*pub (?:extern "C" )?fn (\w+)', line)
+            if not found:
+                continue
+            body, j = '', i
+            while lines[j].strip() != '{' and j < i + 40:
+                body += lines[j] + '\n'
+                j += 1
+            name = [crate] + ([] if module in ('lib', 'main') else [module]) + ([owner] if owner and line.startswith(' ') else []) + [found[1]]
+            yield '::'.join(name), re.findall(r'ensures \{(.*)\}', body), re.findall(r'requires \{(.*)\}', body)
+
+
+def cell(text):
+    return text.replace('|', '\\|').replace('`', '\\`')
+
+
+def main():
+    wrong, rows, faults = wrong_programs(), [], []
+    for crate in listed():
+        if os.path.exists(f'crates/{crate}/src/main.rt'):
+            continue
+        for name, ensures, requires in functions(crate):
+            if not ensures:
+                faults.append(f'{name}: no ensures')
+            if requires:
+                faults.append(f'{name}: requires something of its caller')
+            tried = wrong.get(name, [])
+            if len(tried) < 2:
+                faults.append(f'{name}: {len(tried)} wrong programs')
+            contract = '; '.join('`' + clause(e).replace('|', '\\|') + '`' for e in ensures)
+            rows.append(f'| `{name}` | {contract} | {"; ".join(f"{cell(why)} (`{label}`)" for why, label in tried) or "–"} |\n')
+    with open(PAGE) as f:
+        page = f.read()
+    front = page[:page.index(MARK) + len(MARK)]
+    table = front + HEAD + ''.join(rows)
+    if '--check' in sys.argv[1:]:
+        if table != page:
+            faults.append(f'{PAGE}: the table is not what the sources say')
+        for fault in faults:
+            print(fault)
+        print(f'{len(rows)} public functions, {sum(len(x) for x in wrong.values())} wrong programs: {"as docs/CONTRACTS says" if not faults else "see above"}')
+        sys.exit(1 if faults else 0)
+    with open(PAGE, 'w') as f:
+        f.write(table)
+    for fault in faults:
+        print(fault)
+
+
+main()
