@@ -3,7 +3,8 @@
 use Prim.Native.Nat.{_-_}
 use native.Mathlib.Omega.{arith}
 use lib.ListN.{length}
-use Rattle.strings.proofs.Putting.{puts-none, Copying, copying-none, copying-turn, copying-end}
+use Rattle.laws.proofs.Copies.{Copying, copying-none, copying-turn}
+use Rattle.strings.proofs.Putting.{puts-none, copying-end}
 use Rattle.strings.proofs.pieces.put_bytes.Statement.{statement}
 use Rattle.strings.proofs.pieces.put_bytes.Tie as tie
 
