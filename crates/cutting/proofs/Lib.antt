@@ -3,3 +3,4 @@ pub mod Names
 pub mod Prefixes
 pub mod Cuts
 pub mod Follows
+pub mod Cursors

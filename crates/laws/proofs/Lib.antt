@@ -13,6 +13,8 @@ pub mod Walks
 pub mod StepBounds
 pub mod Courses
 pub mod Passes
+pub mod Copies
+pub mod Owed
 pub mod Enclosed
 pub mod Arguments
 pub mod Gaps

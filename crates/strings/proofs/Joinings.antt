@@ -1,30 +1,28 @@
 -- Where the two loops over joined text stand, and each turn and way out: measuring adds the lengths of the segments' values; writing puts each value into
 -- the room the earlier ones left. Assumes nothing.
 use mathlib.Core.Path.{_≡_, refl, ap, ap₂, sym, _∙_, subst}
-use mathlib.Core.Bool.{Bool, true, false}
-use mathlib.Core.List.{List, [], _∷_, _++_, append-nil}
-use Prim.Native.Nat.{ℕ, zero, suc, _+_, _-_, _≤_, _<_}
+use mathlib.Core.List.{List, _++_, append-nil}
+use Prim.Native.Nat.{ℕ, suc, _+_, _-_, _≤_, _<_}
 use native.Mathlib.Nat.{le-of-eq}
 use native.Mathlib.Omega.{arith}
 use lib.ListN.{length, take, drop, length-append, length-take, length-drop, drop-of-length-le}
 use lib.Seq.{take-all}
 use Rattle.meaning.specs.declared.Settings.{Settings}
-use Rattle.meaning.specs.Walk.{Step, give, stop, Trace, walk, size}
+use Rattle.meaning.specs.Walk.{walk, size}
 use Rattle.meaning.specs.Cutting.{segmentStep, cut}
-use Rattle.meaning.specs.Reading.{Value, means, fails, onward, both, each, alone, joined}
-use Rattle.laws.proofs.Walks.{graft}
+use Rattle.meaning.specs.Reading.{Value, means, fails, each, alone, joined}
 use Rattle.laws.proofs.Joining.{fails≢means, both-means}
 use Rattle.laws.proofs.Joins as joins
 use Rattle.laws.proofs.Passes.{put-part}
 use Rattle.laws.proofs.Short.{Bound, alone-bound}
 use Rattle.cutting.specs.Segments.{nextOf}
+use Rattle.cutting.proofs.Cursors.{Unit-at, at-end, at-remainder, at-segment}
 use Rattle.cutting.specs.declared.cursor.Cursor.{Cursor}
 use Rattle.cutting.specs.declared.cursor.Next.{Next}
 use Rattle.cutting.specs.declared.cursor.Next.the-variants as Next′
 use Rattle.strings.specs.declared.joined.Joined.{Joined}
 use Rattle.strings.specs.declared.joined.Joined.the-variants as Joined′
 use Rattle.strings.specs.Answers.{lengthOf, Holds, valueIn, Put}
-use Rattle.strings.proofs.Cuts.{Unit-at, at-end, at-remainder, at-segment}
 
 -- what a length says of a value
 pub length-means : (x : Value) (m : ℕ) → lengthOf x ≡ Joined′.Length m → (w : List ℕ) × (x ≡ means w) × (length w ≡ m)
@@ -54,7 +52,7 @@ module _ {σ : Settings} {t : List ℕ} {i n : ℕ} (v : JoinsAt σ t i n) (r : 
   joins-remainder q = let k = at-remainder σ t i r e q in rw (joins.joined-remainder (alone σ) (v .so-far) (k .0) (k .1))
 
   module _ (s o u : ℕ) (c : Cursor) (q : r ≡ Next′.Segment s o u c) where
-    unit : Unit-at σ t i s u (c .at)
+    unit : Unit-at σ t i s o u (c .at)
     unit = at-segment σ t i r e s o u c q
 
     pub segment-ordered : s ≤ u

@@ -1,46 +1,22 @@
 -- The reading of a text, by what each of its passes said. Assumes nothing.
-use mathlib.Core.Path.{_≡_, refl, ap, sym, _∙_, subst}
+use mathlib.Core.Path.{_≡_, refl, ap, sym, _∙_}
 use mathlib.Core.Bool.{Bool, true, false}
 use mathlib.Core.List.{List, _++_}
 use Prim.Native.Nat.{ℕ, _≤_, _<_}
 use native.Mathlib.Omega.{arith}
-use lib.Dec.{leb}
 use lib.ListN.{length, drop}
-use borrow.Author.Tests.{le-leb, lt-leb}
 use Rattle.meaning.specs.declared.Settings.{Settings}
-use Rattle.meaning.specs.declared.Read.{Read}
 use Rattle.meaning.specs.declared.Read.the-variants as Read′
-use Rattle.meaning.specs.Bytes.{if_then_else_}
 use Rattle.meaning.specs.Cutting.{cut, continues}
 use Rattle.meaning.specs.Reading.{Answer, borrowed, written, refused, Value, means, fails, valueOf, one, alone, joined, asWritten, read}
-use Rattle.meaning.specs.Answers.{filled}
-use Rattle.meaning.specs.Reads.{readOf, bufferOf, Reads}
+use Rattle.meaning.specs.Reads.{Reads}
+use Rattle.laws.proofs.Owed.{reads-short, reads-written, reads-refused, reads-borrowed}
 use Rattle.strings.specs.declared.one.One.{One}
 use Rattle.strings.specs.declared.one.One.the-variants as One′
 use Rattle.strings.specs.declared.joined.Joined.{Joined}
 use Rattle.strings.specs.declared.joined.Joined.the-variants as Joined′
 use Rattle.strings.specs.Answers.{oneOf, lengthOf, Holds, valueIn, Put}
 use Rattle.strings.proofs.Joinings.{length-means, length-fails}
-
--- WHAT IS OWED, by what is read
-reads-short : (a : Answer) (v out : List ℕ) (n : ℕ) → a ≡ written v → length v ≡ n → length out < n → Reads a out (Read′.NoRoom n) out
-unfolding filled
-reads-short a v out n e l h =
-    let k : length out < length v = omega (arith, l) in
-    rw e (record { answer = rw (lt-leb (length v) (length out) k) (ap Read′.NoRoom (sym l)); buffer = rw (lt-leb (length v) (length out) k) })
-
-reads-written : (a : Answer) (v out after : List ℕ) (n : ℕ) → a ≡ written v → length v ≡ n → n ≤ length out → after ≡ v ++ drop (length v) out
-    → Reads a out (Read′.Written n) after
-unfolding filled
-reads-written a v out after n e l h b =
-    let k : length v ≤ length out = omega (arith, l) in
-    rw e (record { answer = rw (le-leb (length v) (length out) k) (ap Read′.Written (sym l)); buffer = b ∙ rw (le-leb (length v) (length out) k) })
-
-reads-refused : (a : Answer) (out : List ℕ) (p : ℕ) → a ≡ refused p → Reads a out (Read′.Refused p) out
-reads-refused a out p e = rw e (record { answer = refl; buffer = refl })
-
-reads-borrowed : (a : Answer) (out : List ℕ) (f u : ℕ) → a ≡ borrowed f u → Reads a out (Read′.Borrowed f u) out
-reads-borrowed a out f u e = rw e (record { answer = refl; buffer = refl })
 
 module _ (σ : Settings) (t out : List ℕ) (x : Bool) (ex : x ≡ continues σ t) where
   -- JOINED TEXT

@@ -1,0 +1,5 @@
+-- What the functions of this crate share, callees first.
+pub mod Asking
+pub mod Bodies
+pub mod Turns
+pub mod Wholes
