@@ -52,3 +52,4 @@ pub mod Answered
 pub mod Witnesses
 pub mod Starred
 pub mod Short
+pub mod Calls
