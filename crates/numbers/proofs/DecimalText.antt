@@ -15,16 +15,17 @@ use Rattle.meaning.specs.declared.Read.the-variants.{Borrowed, Written, Refused
 use Rattle.meaning.specs.Bytes.{if_then_else_, has}
 use Rattle.meaning.specs.Reading.{Answer, borrowed, written, refused}
 use Rattle.meaning.specs.Reads.{Reads}
-use Rattle.meaning.specs.Numbers.{signLength, isMinus, radixPrefix, placed, strip, Parsed, none, int, fits, within-bits, negatedBy, printedBy, unsigned, baseOf, separated, radixValue, decimalOf}
+use Rattle.meaning.specs.Numbers.{signLength, isMinus, radixPrefix, placed, strip, Parsed, none, int}
+use Rattle.meaning.specs.Numbers.{fits, within-bits, negatedBy, printedBy, unsigned, baseOf, separated, radixValue, decimalOf}
 use Rattle.meaning.specs.Halves.{joinedHalves, bitsOf, textOf}
 use Rattle.laws.proofs.Halves.{textOf-printed}
-use Rattle.numbers.specs.Values.{parsedApart, halvesOf, bitsBy}
+use Rattle.numbers.specs.Values.{parsedApart, halvesOf}
 use Rattle.numbers.specs.Separating.{separatorsOf, plainOf}
-use Rattle.numbers.specs.declared.halves.Halves.{Halves}
-use Rattle.numbers.specs.declared.halves.Halves.the-variants as H
+use Rattle.numbers.specs.declared.radix.Halves.{Halves}
+use Rattle.numbers.specs.declared.radix.Halves.the-variants as H
 use Rattle.numbers.specs.declared.separators.Separators.{Separators}
 use Rattle.numbers.specs.declared.separators.Separators.the-variants.{Count, Misplaced}
-use Rattle.numbers.proofs.Texts.{IsBase, two, eight, ten, sixteen, separated-ten, radix-apart, base-is, body-is}
+use Rattle.numbers.proofs.Texts.{separated-ten, radix-apart, base-is, body-is}
 use Rattle.numbers.proofs.Parsing.{within-fits}
 use Rattle.numbers.proofs.Answering.{reads-short, reads-wrote}
 use Rattle.numbers.proofs.Separating.{strip-le, has-none, has-some}
@@ -102,13 +103,6 @@ radix-none x r out e k = go (within-bits 127 x) (sym e ∙ k)
     go (int z) e = absurd (let z : _≡_ {A = ℕ} 0 1 = cc in let y : ⊥ = omega arith in y)
 
 -- `read_decimal`
-pub bits-known : (β b : ℕ) → IsBase β → (β ≡ 10 → ⊥) → b ≡ bitsBy β → (β ≡ 2 ^ b) × (0 < b) × (b ≤ 4)
-unfolding bitsBy
-bits-known β b two n e = rw e (refl, omega arith, omega arith)
-bits-known β b eight n e = rw e (refl, omega arith, omega arith)
-bits-known β b ten n e = absurd (n refl)
-bits-known β b sixteen n e = rw e (refl, omega arith, omega arith)
-
 module _ (t : List ℕ) where
   text-ten : baseOf t ≡ 10 → decimalOf t ≡ plainOf t
   unfolding decimalOf plainOf

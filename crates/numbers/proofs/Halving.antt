@@ -11,7 +11,6 @@ use lib.Arith.{digits-lt, lt-of-le-ne}
 use lib.Dec.{eqb, ltb, lit<}
 use lib.IntN.{ℤ, pos, negsuc, negℤ}
 use lib.ListN.{length, take, drop}
-use lib.Pow.{pow-mono}
 use mir.Syntax.{w64}
 use mir.Val.{Fits}
 use Rattle.meaning.specs.Bytes.{if_then_else_}
@@ -19,12 +18,11 @@ use Rattle.meaning.specs.Numbers.{signLength, isMinus, Parsed, none, int, fits,
 use Rattle.meaning.specs.Halves.{joinedHalves, bitsOf, negatedLow, negatedHigh}
 use Rattle.laws.proofs.Tests.{and-left, and-right}
 use Rattle.laws.proofs.Halves.{negated-halves, bitsOf-lt}
-use Rattle.numbers.specs.Values.{parsedApart, Spelt, misspelt, spelt, digitsFrom, halvesBy, wideOf, halvesOf, negatedHalves}
-use Rattle.numbers.specs.declared.halves.Halves.{Halves}
-use Rattle.numbers.specs.declared.halves.Halves.the-variants as H
-use Rattle.numbers.proofs.Prefixes.{tail-part}
-use Rattle.numbers.proofs.Spelled.{Above}
+use Rattle.numbers.specs.Values.{parsedApart, digitsFrom, radixBy, halvesBy, wideOf, halvesOf, negatedHalves}
+use Rattle.numbers.specs.declared.radix.Halves.{Halves}
+use Rattle.numbers.specs.declared.radix.Halves.the-variants as H
 use Rattle.numbers.proofs.Parsing.{parsed-value, parsed-great, parsed-fits}
+use Rattle.numbers.proofs.Radixes.{base-small, radix-read, wide-value, wide-great}
 use Rattle.numbers.proofs.Carrying.{halves-value}
 
 -- NEGATION, half by half, as wrapping subtraction gives it
@@ -113,45 +111,22 @@ module _ (hi lo : ℕ) where
   pub minus-under : 2 ^ 63 ≤ hi → (lo ≡ 0 → ⊥) → H.Refused ≡ Held (signed true (joinedHalves hi lo))
   minus-under h n = minus-above h (λ k. pos-of-ne-zero n)
 
--- WHAT THE HALVES SAY of the digits
-wide-value : (hi lo : ℕ) (s : Spelt) → wideOf s ≡ H.Value hi lo → s ≡ spelt (joinedHalves hi lo)
-wide-value hi lo misspelt e = cc
-wide-value hi lo (spelt n) e = go (ltb n (2 ^ 128)) e
-  where
-    go : (x : Bool) → (if x then halvesBy n else H.Refused) ≡ H.Value hi lo → spelt n ≡ spelt (joinedHalves hi lo)
-    go true e =
-        let h : n / 2 ^ 64 ≡ hi = cc in
-        let l : n % 2 ^ 64 ≡ lo = cc in
-        ap spelt (sym (div-add-mod' n (2 ^ 64)) ∙ rw (h, l))
-    go false e = cc
-
-wide-great : (s : Spelt) → wideOf s ≡ H.Refused → Above (2 ^ 128) s
-wide-great misspelt e n k = absurd (let z : _≡_ {A = ℕ} 0 1 = cc in let y : ⊥ = omega arith in y)
-wide-great (spelt m) e n k = go (ltb m (2 ^ 128)) refl e
-  where
-    go : (x : Bool) → ltb m (2 ^ 128) ≡ x → (if x then halvesBy m else H.Refused) ≡ H.Refused → 2 ^ 128 ≤ n
-    go true h e = absurd (let z : _≡_ {A = ℕ} 0 1 = cc in let y : ⊥ = omega arith in y)
-    go false h e = let z : m ≡ n = cc in rw z at (ltb-false m (2 ^ 128) h)
-
--- `read_signed_halves`: a base of four bits at most is 16 at most
-base-small : (β b : ℕ) → β ≡ 2 ^ b → b ≤ 4 → β ≤ 16
-base-small β b e h = rw e (pow-mono h)
-
-module _ (β b s : ℕ) (t : List ℕ) (r : Halves) (w : β ≡ 2 ^ b) (k : b ≤ 4) (e : s ≡ signLength t)
-    (f : r ≡ wideOf (digitsFrom β 0 false (take (length t - s) (drop s t)))) where
+-- `read_signed_halves`
+module _ (β s : ℕ) (t : List ℕ) (r : Halves) (w : radixBy β ≡ β) (e : s ≡ signLength t)
+    (f : r ≡ wideOf (digitsFrom (radixBy β) 0 false (take (length t - s) (drop s t)))) where
   halves-are : r ≡ wideOf (digitsFrom β 0 false (unsigned t))
-  halves-are = f ∙ ap (λ (u : List ℕ). wideOf (digitsFrom β 0 false u)) (tail-part s t ∙ ap (λ (n : ℕ). drop n t) e)
+  halves-are = radix-read β s t r w e f
 
   pub halves-signed : (hi lo : ℕ) (minus : Bool) (o : Halves) → r ≡ H.Value hi lo → minus ≡ isMinus t
       → o ≡ Held (signed minus (joinedHalves hi lo)) → o ≡ halvesOf (parsedApart 127 β t)
   halves-signed hi lo minus o q g h =
       h ∙ ap (λ (x : Bool). Held (signed x (joinedHalves hi lo))) g
-      ∙ ap halvesOf (sym (parsed-value β (base-small β b w k) 127 t (joinedHalves hi lo)
+      ∙ ap halvesOf (sym (parsed-value β (base-small β w) 127 t (joinedHalves hi lo)
       (wide-value hi lo (digitsFrom β 0 false (unsigned t)) (sym halves-are ∙ q))))
 
   pub halves-refused : r ≡ H.Refused → H.Refused ≡ halvesOf (parsedApart 127 β t)
   halves-refused q =
-      ap halvesOf (sym (parsed-great β (base-small β b w k) 127 (2 ^ 128) t (lit< tt)
+      ap halvesOf (sym (parsed-great β (base-small β w) 127 (2 ^ 128) t (lit< tt)
       (wide-great (digitsFrom β 0 false (unsigned t)) (sym halves-are ∙ q))))
 
 -- `negated_halves`: of a number's bits they are those of the negation, if that is a number of 128 bits
@@ -202,14 +177,14 @@ module _ (minus : Bool) (hi lo : ℕ) (o : Halves) where
   plain-by none f m e = sym e
   plain-by (int z) f m e = rw (m, f z refl) (sym e)
 
-module _ (minus : Bool) (β b : ℕ) (t : List ℕ) (r : Halves) (w : β ≡ 2 ^ b) (k : b ≤ 4) (e : r ≡ halvesOf (parsedApart 127 β t)) where
+module _ (minus : Bool) (β : ℕ) (t : List ℕ) (r : Halves) (w : radixBy β ≡ β) (e : r ≡ halvesOf (parsedApart 127 β t)) where
   pub first-minus : minus ≡ true → (hi lo : ℕ) (o : Halves) → r ≡ H.Value hi lo → o ≡ negatedHalves hi lo
       → o ≡ halvesOf (within-bits 127 (negatedBy minus (parsedApart 127 β t)))
   first-minus m hi lo o q h =
-      first-by minus hi lo o (parsedApart 127 β t) (parsed-fits β (base-small β b w k) 127 t) m (sym e ∙ q) h
+      first-by minus hi lo o (parsedApart 127 β t) (parsed-fits β (base-small β w) 127 t) m (sym e ∙ q) h
 
   pub first-plain : minus ≡ false → (hi lo : ℕ) → r ≡ H.Value hi lo → H.Value hi lo ≡ halvesOf (within-bits 127 (negatedBy minus (parsedApart 127 β t)))
-  first-plain m hi lo q = plain-by minus hi lo (H.Value hi lo) (parsedApart 127 β t) (parsed-fits β (base-small β b w k) 127 t) m (sym e ∙ q)
+  first-plain m hi lo q = plain-by minus hi lo (H.Value hi lo) (parsedApart 127 β t) (parsed-fits β (base-small β w) 127 t) m (sym e ∙ q)
 
   pub first-refused : r ≡ H.Refused → H.Refused ≡ halvesOf (within-bits 127 (negatedBy minus (parsedApart 127 β t)))
   first-refused q = go (parsedApart 127 β t) (sym e ∙ q)

@@ -1,6 +1,8 @@
 pub mod Prefixes
 pub mod Spelled
 pub mod Magnitudes
+pub mod Shorts
+pub mod Radixes
 pub mod Parsing
 pub mod Carrying
 pub mod Halving

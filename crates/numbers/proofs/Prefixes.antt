@@ -33,6 +33,17 @@ sign-inside (b ∷ t) s e = rw e (go (has b (ascii "+-")))
     go true = omega arith
     go false = omega arith
 
+pub sign-some : (t : List ℕ) → signLength t ≡ 1 → 1 ≤ length t
+sign-some t e = sign-inside t 1 (sym e)
+
+pub sign-one : (t : List ℕ) (s : ℕ) → s ≡ signLength t → (s ≡ 0 → ⊥) → signLength t ≡ 1
+unfolding signLength
+sign-one t s e n = go (has (t ! 0) (ascii "+-")) e
+  where
+    go : (x : Bool) → s ≡ (if x then 1 else 0) → _≡_ {A = ℕ} (if x then 1 else 0) 1
+    go true e = refl
+    go false e = absurd (n e)
+
 -- a part up to the end, as the code lends it
 pub tail-part : (s : ℕ) (t : List ℕ) → take (length t - s) (drop s t) ≡ drop s t
 tail-part s t = take-all (length t - s) (drop s t) (le-of-eq (length-drop s t))

@@ -1,16 +1,15 @@
 // [01 Numbers] "Decimal text base ten is the text less `_`, unchecked and borrowed if it has none"; with a radix, the number printed.
 ghost use mathlib.Core.Path.{_≡_};
-ghost use Prim.Native.Nat.{_≤_, _<_, _^_};
 ghost use Rattle.meaning.specs.Reads.{Reads};
 ghost use Rattle.meaning.specs.Numbers.{within-bits, negatedBy, printedBy, decimalOf};
-ghost use Rattle.numbers.specs.Values.{parsedApart, bitsBy};
+ghost use Rattle.numbers.specs.Values.{parsedApart, radixBy};
 ghost use Rattle.numbers.specs.Separating.{plainOf};
-use crate::halves::Halves;
 use crate::halves::read_radix_halves;
 use crate::prefix::is_minus;
 use crate::prefix::sign_len;
 use crate::prefix::split_radix_prefix;
 use crate::printing::print_halves;
+use crate::radix::Halves;
 use crate::separators::Separators;
 use crate::separators::copy_without;
 use crate::separators::count_separators;
@@ -39,26 +38,12 @@ fn read_plain(text: &[u8], out: &mut [u8]) -> Read
     Read::Written { len: needed }
 }
 
-// How many bits a digit of base 2, 8 or 16 has.
-// Rules out: octal digits of four bits.
-fn radix_bits(base: u32) -> u64
-    ensures { λ r. ⌜ r ≡ bitsBy base ⌝ }
-{
-    if base == 16 {
-        return 4;
-    }
-    if base == 8 {
-        return 3;
-    }
-    1
-}
-
 // The number of the body behind a radix prefix, with the sign before the prefix put to it, printed. Refused and without room the buffer is as it was lent.
-fn read_radix_text(minus: bool, body: &[u8], base: u64, bits: u64, out: &mut [u8]) -> Read
-    requires { ⌜ (base ≡ 2 ^ bits) × (0 < bits) × (bits ≤ 4) ⌝ }
+fn read_radix_text(minus: bool, body: &[u8], base: u32, out: &mut [u8]) -> Read
+    requires { ⌜ radixBy base ≡ base ⌝ }
     ensures { λ r. ⌜ Reads (printedBy (within-bits 127 (negatedBy minus (parsedApart 127 base (now (body .entry)))))) (now (out .entry)) r (now (out .exit)) ⌝ }
 {
-    match read_radix_halves(minus, body, base, bits) {
+    match read_radix_halves(minus, body, base) {
         Halves::Value { hi, lo } => print_halves(hi, lo, out),
         Halves::Refused => Read::Refused { place: 0 },
     }
@@ -77,6 +62,5 @@ pub fn read_decimal(text: &[u8], out: &mut [u8]) -> Read
     if base == 10 {
         return read_plain(text, out);
     }
-    let bits = radix_bits(base);
-    read_radix_text(is_minus(text), &rest[2..], base as u64, bits, out)
+    read_radix_text(is_minus(text), &rest[2..], base, out)
 }

@@ -1,60 +1,12 @@
 // [01 Numbers] "two 64-bit halves whose negation wraps": numbers of 128 bits behind a radix prefix.
 ghost use mathlib.Core.Path.{_≡_};
-ghost use mathlib.Core.Bool.{false};
-ghost use Prim.Native.Nat.{_≤_, _<_, _^_};
 ghost use Rattle.meaning.specs.Numbers.{int, signed, within-bits, negatedBy};
 ghost use Rattle.meaning.specs.Halves.{joinedHalves, negatedLow, negatedHigh};
-ghost use Rattle.numbers.specs.Values.{digitsFrom, parsedApart, wideOf, halvesOf, negatedHalves};
+ghost use Rattle.numbers.specs.Values.{parsedApart, radixBy, halvesOf, negatedHalves};
 use crate::prefix::is_minus;
 use crate::prefix::sign_len;
-
-// The two halves of 128 bits, or a refusal.
-pub enum Halves {
-    Value { hi: u64, lo: u64 },
-    Refused,
-}
-
-// The number that the digits of base 2, 8 or 16 make, of which each has `bits` bits, with `_` between two of them. Refused: no digit, another byte, `_`
-// at an end or beside `_`, a number that 128 bits do not hold.
-// Rules out: bits pushed out of the high half; the wrong bits carried into it.
-pub(crate) fn read_halves(text: &[u8], base: u64, bits: u64) -> Halves
-    requires { ⌜ (base ≡ 2 ^ bits) × (0 < bits) × (bits ≤ 4) ⌝ }
-    ensures { λ r. ⌜ r ≡ wideOf (digitsFrom base 0 false (now (text .entry))) ⌝ }
-{
-    let keep = 64 - bits;
-    let mut hi: u64 = 0;
-    let mut lo: u64 = 0;
-    let mut behind = false;
-    let mut i = 0;
-    while i < text.len() {
-        let d = leaves::digits::hex_value(text[i]) as u64;
-        if d < base {
-            let lost = hi >> keep;
-            if lost != 0 {
-                return Halves::Refused;
-            }
-            hi = hi * base + (lo >> keep);
-            lo = (lo << bits) + d;
-            behind = true;
-            i += 1;
-        } else {
-            if text[i] != 95 {
-                return Halves::Refused;
-            }
-            if behind {
-                behind = false;
-                i += 1;
-            } else {
-                return Halves::Refused;
-            }
-        }
-    }
-    if behind {
-        Halves::Value { hi: hi, lo: lo }
-    } else {
-        Halves::Refused
-    }
-}
+use crate::radix::Halves;
+use crate::radix::read_radix_digits;
 
 // The low half of the negation, which wraps.
 // Rules out: the complement less one.
@@ -117,23 +69,23 @@ fn negated_halves(hi: u64, lo: u64) -> Halves
 }
 
 // A sign or none, then digits of base 2, 8 or 16 with `_` between two of them.
-fn read_signed_halves(text: &[u8], base: u64, bits: u64) -> Halves
-    requires { ⌜ (base ≡ 2 ^ bits) × (0 < bits) × (bits ≤ 4) ⌝ }
+fn read_signed_halves(text: &[u8], base: u32) -> Halves
+    requires { ⌜ radixBy base ≡ base ⌝ }
     ensures { λ r. ⌜ r ≡ halvesOf (parsedApart 127 base (now (text .entry))) ⌝ }
 {
     let start = sign_len(text);
-    match read_halves(&text[start..], base, bits) {
+    match read_radix_digits(&text[start..], base) {
         Halves::Value { hi, lo } => signed_halves(is_minus(text), hi, lo),
         Halves::Refused => Halves::Refused,
     }
 }
 
 // The body behind a radix prefix, with the sign before the prefix put to it.
-pub(crate) fn read_radix_halves(minus: bool, body: &[u8], base: u64, bits: u64) -> Halves
-    requires { ⌜ (base ≡ 2 ^ bits) × (0 < bits) × (bits ≤ 4) ⌝ }
+pub(crate) fn read_radix_halves(minus: bool, body: &[u8], base: u32) -> Halves
+    requires { ⌜ radixBy base ≡ base ⌝ }
     ensures { λ r. ⌜ r ≡ halvesOf (within-bits 127 (negatedBy minus (parsedApart 127 base (now (body .entry))))) ⌝ }
 {
-    match read_signed_halves(body, base, bits) {
+    match read_signed_halves(body, base) {
         Halves::Value { hi, lo } => if minus {
             negated_halves(hi, lo)
         } else {

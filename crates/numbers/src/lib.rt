@@ -5,4 +5,5 @@ mod halves;
 pub mod int64;
 pub mod prefix;
 mod printing;
+mod radix;
 mod separators;

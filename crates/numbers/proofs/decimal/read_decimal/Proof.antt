@@ -2,7 +2,8 @@
 use borrow.Author.Needs.{needs}
 use Rattle.numbers.proofs.Prefixes.{sign-inside}
 use Rattle.numbers.proofs.Texts.{base-known, rest-long}
-use Rattle.numbers.proofs.DecimalText.{bits-known, decimal-ten, decimal-radix}
+use Rattle.numbers.proofs.Radixes.{radix-known}
+use Rattle.numbers.proofs.DecimalText.{decimal-ten, decimal-radix}
 use Rattle.numbers.proofs.decimal.read_decimal.Statement.{statement}
 use Rattle.numbers.proofs.decimal.read_decimal.Tie as tie
 
@@ -30,9 +31,6 @@ same-length c = search needs
 returns : tie.Need-returns
 returns c = search decimal-ten
 
-radix-bits-requires : tie.Need-radix-bits-requires
-radix-bits-requires c κs = search needs
-
 is-minus-requires : tie.Need-is-minus-requires
 is-minus-requires c κs = search needs
 
@@ -45,12 +43,8 @@ part-read-radix-text-start c = search rest-long
 part-read-radix-text-end : tie.Need-part-read-radix-text-end
 part-read-radix-text-end c = search needs
 
-cast-read-radix-text : tie.Need-cast-read-radix-text
-cast-read-radix-text c = search needs
-
 read-radix-text-requires : tie.Need-read-radix-text-requires
-read-radix-text-requires c κs =
-    bits-known _ _ (search base-known) (c .before .before .before .before .if1 .left) (c .before .before .before .radix-bits .ensures)
+read-radix-text-requires c κs = search (radix-known, base-known)
 
 same-length-2 : tie.Need-same-length-2
 same-length-2 c = search needs
@@ -70,12 +64,10 @@ read-decimal-spec =
     read-plain-requires
     same-length
     returns
-    radix-bits-requires
     is-minus-requires
     sub-read-radix-text
     part-read-radix-text-start
     part-read-radix-text-end
-    cast-read-radix-text
     read-radix-text-requires
     same-length-2
     returns-2)

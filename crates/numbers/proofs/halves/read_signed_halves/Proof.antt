@@ -8,17 +8,17 @@ use Rattle.numbers.proofs.halves.read_signed_halves.Tie as tie
 sign-len-requires : tie.Need-sign-len-requires
 sign-len-requires c κs = search needs
 
-sub-read-halves : tie.Need-sub-read-halves
-sub-read-halves c = search sign-inside
+sub-read-radix-digits : tie.Need-sub-read-radix-digits
+sub-read-radix-digits c = search sign-inside
 
-part-read-halves-start : tie.Need-part-read-halves-start
-part-read-halves-start c = search sign-inside
+part-read-radix-digits-start : tie.Need-part-read-radix-digits-start
+part-read-radix-digits-start c = search sign-inside
 
-part-read-halves-end : tie.Need-part-read-halves-end
-part-read-halves-end c = search needs
+part-read-radix-digits-end : tie.Need-part-read-radix-digits-end
+part-read-radix-digits-end c = search needs
 
-read-halves-requires : tie.Need-read-halves-requires
-read-halves-requires c κs = search needs
+read-radix-digits-requires : tie.Need-read-radix-digits-requires
+read-radix-digits-requires c κs = search needs
 
 enum-known-hi : tie.Need-enum-known-hi
 enum-known-hi c = search needs
@@ -43,10 +43,10 @@ read-signed-halves-spec =
     tie.close
     (tie.spec
     sign-len-requires
-    sub-read-halves
-    part-read-halves-start
-    part-read-halves-end
-    read-halves-requires
+    sub-read-radix-digits
+    part-read-radix-digits-start
+    part-read-radix-digits-end
+    read-radix-digits-requires
     enum-known-hi
     is-minus-requires
     signed-halves-requires
