@@ -9,7 +9,6 @@ use Rattle.meaning.specs.Bytes.{if_then_else_, digit, number, allDigits}
 use Rattle.meaning.specs.Numbers.{Parsed, none, int, placed, strip, parsed}
 use Rattle.numbers.specs.declared.digits.Magnitude.{Magnitude}
 use Rattle.numbers.specs.declared.digits.Magnitude.the-variants as M
-use Rattle.meaning.specs.Halves.{bitsOf, negatedLow, negatedHigh}
 use Rattle.numbers.specs.declared.radix.Halves.{Halves}
 use Rattle.numbers.specs.declared.radix.Halves.the-variants as H
 use Rattle.numbers.specs.declared.int64.Int64.{Int64}
@@ -53,17 +52,10 @@ capped d = if ltb d 16 then d else 16
 unfoldable pub radixBy : ℕ → ℕ
 radixBy β = if eqb β 16 then 16 else if eqb β 8 then 8 else 2
 
--- IN TWO HALVES: 128 bits, a number below 2^128, a signed one, and the negation, with -2^127 refused
+-- IN TWO HALVES: 128 bits, and a number below 2^128
 abbrev pub halvesBy : ℕ → Halves
 halvesBy n = H.Value (n / 2 ^ 64) (n % 2 ^ 64)
 
 abbrev pub wideOf : Spelt → Halves
 wideOf misspelt = H.Refused
 wideOf (spelt n) = if ltb n (2 ^ 128) then halvesBy n else H.Refused
-
-abbrev pub halvesOf : Parsed → Halves
-halvesOf none = H.Refused
-halvesOf (int z) = halvesBy (bitsOf z)
-
-unfoldable pub negatedHalves : ℕ → ℕ → Halves
-negatedHalves hi lo = if eqb hi (2 ^ 63) && eqb lo 0 then H.Refused else H.Value (negatedHigh hi lo) (negatedLow lo)

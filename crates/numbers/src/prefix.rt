@@ -5,7 +5,7 @@ use meaning::RadixPrefix;
 
 // The bytes of a sign at the front, 0 or 1.
 // Rules out: a plus that is no sign.
-pub(crate) fn sign_len(text: &[u8]) -> usize
+pub fn sign_len(text: &[u8]) -> usize
     ensures { λ r. ⌜ r ≡ signLength (now (text .entry)) ⌝ }
 {
     if text.len() == 0 {
@@ -18,7 +18,7 @@ pub(crate) fn sign_len(text: &[u8]) -> usize
 }
 
 // Whether the sign at the front is a minus.
-pub(crate) fn is_minus(text: &[u8]) -> bool
+pub fn is_minus(text: &[u8]) -> bool
     ensures { λ r. ⌜ r ≡ isMinus (now (text .entry)) ⌝ }
 {
     if text.len() == 0 {

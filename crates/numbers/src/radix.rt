@@ -67,7 +67,7 @@ fn read_halves(text: &[u8], base: u64, bits: u64) -> Halves
 
 // The number that digits of base 16, 8 or 2 make, with `_` between two of them; any other base is taken for 2.
 // Rules out: octal digits of four bits.
-pub(crate) fn read_radix_digits(text: &[u8], base: u32) -> Halves
+pub fn read_radix_digits(text: &[u8], base: u32) -> Halves
     ensures { λ r. ⌜ r ≡ wideOf (digitsFrom (radixBy base) 0 false (now (text .entry))) ⌝ }
 {
     if base == 16 {
