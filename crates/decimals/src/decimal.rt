@@ -10,9 +10,8 @@ use crate::separators::Separators;
 use crate::separators::copy_without;
 use crate::separators::count_separators;
 use meaning::Read;
-use numbers::prefix::is_minus;
-use numbers::prefix::sign_len;
 use numbers::prefix::split_radix_prefix;
+use numbers::prefix::split_sign;
 use numbers::radix::Halves;
 
 // Decimal text in base ten: the text less `_`, borrowed if it has none. Refused at place 0: a misplaced `_`. Refused, borrowed and without room the
@@ -55,12 +54,13 @@ fn read_radix_text(minus: bool, body: &[u8], base: u32, out: &mut [u8]) -> Read
 pub fn read_decimal(text: &[u8], out: &mut [u8]) -> Read
     ensures { λ r. ⌜ Reads (decimalOf (now (text .entry))) (now (out .entry)) r (now (out .exit)) ⌝ }
 {
-    let start = sign_len(text);
+    let sign = split_sign(text);
+    let start = sign.len;
     let rest = &text[start..];
     let prefix = split_radix_prefix(rest);
     let base = prefix.base;
     if base == 10 {
         return read_plain(text, out);
     }
-    read_radix_text(is_minus(text), &rest[2..], base, out)
+    read_radix_text(sign.minus, &rest[2..], base, out)
 }

@@ -4,8 +4,7 @@ ghost use Rattle.meaning.specs.Numbers.{int, signed, within-bits, negatedBy};
 ghost use Rattle.meaning.specs.Halves.{joinedHalves, negatedLow, negatedHigh};
 ghost use Rattle.numbers.specs.Values.{parsedApart, radixBy};
 ghost use Rattle.decimals.specs.SignedHalves.{halvesOf, negatedHalves};
-use numbers::prefix::is_minus;
-use numbers::prefix::sign_len;
+use numbers::prefix::split_sign;
 use numbers::radix::Halves;
 use numbers::radix::read_radix_digits;
 
@@ -74,9 +73,10 @@ fn read_signed_halves(text: &[u8], base: u32) -> Halves
     requires { ⌜ radixBy base ≡ base ⌝ }
     ensures { λ r. ⌜ r ≡ halvesOf (parsedApart 127 base (now (text .entry))) ⌝ }
 {
-    let start = sign_len(text);
+    let sign = split_sign(text);
+    let start = sign.len;
     match read_radix_digits(&text[start..], base) {
-        Halves::Value { hi, lo } => signed_halves(is_minus(text), hi, lo),
+        Halves::Value { hi, lo } => signed_halves(sign.minus, hi, lo),
         Halves::Refused => Halves::Refused,
     }
 }

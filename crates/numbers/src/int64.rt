@@ -1,14 +1,13 @@
 // [01 Numbers] "i64: Rust's parse; with a radix the value behind the first sign must fit before negation, and the result after it."
 ghost use mathlib.Core.Path.{_≡_};
 ghost use lib.IntN.{negℤ};
-ghost use Rattle.meaning.specs.Numbers.{int, signLength, signed, within-bits, i64Of, negatedBy};
+ghost use Rattle.meaning.specs.Numbers.{int, signLength, isMinus, signed, within-bits, i64Of, negatedBy};
 ghost use Rattle.numbers.specs.Values.{int64Of, parsedApart, radixBy};
 use crate::digits::Magnitude;
 use crate::digits::read_digits;
 use crate::digits::read_short;
-use crate::prefix::is_minus;
-use crate::prefix::sign_len;
 use crate::prefix::split_radix_prefix;
+use crate::prefix::split_sign;
 use crate::radix::Halves;
 use crate::radix::read_radix_digits;
 
@@ -53,9 +52,10 @@ fn negated(value: i64) -> Int64
 fn read_ten(text: &[u8]) -> Int64
     ensures { λ r. ⌜ r ≡ int64Of (parsedApart 63 10 (now (text .entry))) ⌝ }
 {
-    let start = sign_len(text);
+    let sign = split_sign(text);
+    let start = sign.len;
     match read_digits(&text[start..]) {
-        Magnitude::Value(magnitude) => with_sign(is_minus(text), magnitude),
+        Magnitude::Value(magnitude) => with_sign(sign.minus, magnitude),
         Magnitude::Refused => Int64::Refused,
     }
 }
@@ -65,14 +65,15 @@ fn read_signed(text: &[u8], base: u32) -> Int64
     requires { ⌜ radixBy base ≡ base ⌝ }
     ensures { λ r. ⌜ r ≡ int64Of (parsedApart 63 base (now (text .entry))) ⌝ }
 {
-    let start = sign_len(text);
+    let sign = split_sign(text);
+    let start = sign.len;
     let Halves::Value { hi, lo } = read_radix_digits(&text[start..], base) else {
         return Int64::Refused;
     };
     if hi != 0 {
         return Int64::Refused;
     }
-    with_sign(is_minus(text), lo)
+    with_sign(sign.minus, lo)
 }
 
 // The body behind a radix prefix, with the sign before the prefix put to it.
@@ -96,14 +97,15 @@ fn read_radix(minus: bool, body: &[u8], base: u32) -> Int64
 fn read_spelled(text: &[u8]) -> Int64
     ensures { λ r. ⌜ r ≡ int64Of (i64Of (now (text .entry))) ⌝ }
 {
-    let start = sign_len(text);
+    let sign = split_sign(text);
+    let start = sign.len;
     let rest = &text[start..];
     let prefix = split_radix_prefix(rest);
     let base = prefix.base;
     if base == 10 {
         return read_ten(text);
     }
-    read_radix(is_minus(text), &rest[2..], base)
+    read_radix(sign.minus, &rest[2..], base)
 }
 
 // A text without a sign: digits alone, the common case, are read by a loop of their own.
@@ -117,12 +119,12 @@ fn read_unsigned(text: &[u8]) -> Int64
 }
 
 // A sign, then digits alone, or what else there is behind it.
-fn read_behind_sign(text: &[u8]) -> Int64
-    requires { ⌜ signLength (now text) ≡ 1 ⌝ }
+fn read_behind_sign(minus: bool, text: &[u8]) -> Int64
+    requires { ⌜ (minus ≡ isMinus (now text)) × (signLength (now text) ≡ 1) ⌝ }
     ensures { λ r. ⌜ r ≡ int64Of (i64Of (now (text .entry))) ⌝ }
 {
     match read_short(&text[1..]) {
-        Magnitude::Value(magnitude) => with_sign(is_minus(text), magnitude),
+        Magnitude::Value(magnitude) => with_sign(minus, magnitude),
         Magnitude::Refused => read_spelled(text),
     }
 }
@@ -132,8 +134,9 @@ fn read_behind_sign(text: &[u8]) -> Int64
 pub fn read_i64(text: &[u8]) -> Int64
     ensures { λ r. ⌜ r ≡ int64Of (i64Of (now (text .entry))) ⌝ }
 {
-    if sign_len(text) == 0 {
+    let sign = split_sign(text);
+    if sign.len == 0 {
         return read_unsigned(text);
     }
-    read_behind_sign(text)
+    read_behind_sign(sign.minus, text)
 }

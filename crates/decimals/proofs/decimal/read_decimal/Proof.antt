@@ -7,8 +7,8 @@ use Rattle.decimals.proofs.DecimalText.{decimal-ten, decimal-radix}
 use Rattle.decimals.proofs.decimal.read_decimal.Statement.{statement}
 use Rattle.decimals.proofs.decimal.read_decimal.Tie as tie
 
-sign-len-requires : tie.Need-sign-len-requires
-sign-len-requires c κs = search needs
+split-sign-requires : tie.Need-split-sign-requires
+split-sign-requires c κs = search needs
 
 sub-rest : tie.Need-sub-rest
 sub-rest c = search sign-inside
@@ -30,9 +30,6 @@ same-length c = search needs
 
 returns : tie.Need-returns
 returns c = search decimal-ten
-
-is-minus-requires : tie.Need-is-minus-requires
-is-minus-requires c κs = search needs
 
 sub-read-radix-text : tie.Need-sub-read-radix-text
 sub-read-radix-text c = search rest-long
@@ -56,7 +53,7 @@ pub read-decimal-spec : {M : Type 1} → statement M
 read-decimal-spec =
     tie.close
     (tie.spec
-    sign-len-requires
+    split-sign-requires
     sub-rest
     part-rest-start
     part-rest-end
@@ -64,7 +61,6 @@ read-decimal-spec =
     read-plain-requires
     same-length
     returns
-    is-minus-requires
     sub-read-radix-text
     part-read-radix-text-start
     part-read-radix-text-end

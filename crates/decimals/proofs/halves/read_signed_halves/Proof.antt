@@ -5,8 +5,8 @@ use Rattle.decimals.proofs.Halving.{halves-signed, halves-refused}
 use Rattle.decimals.proofs.halves.read_signed_halves.Statement.{statement}
 use Rattle.decimals.proofs.halves.read_signed_halves.Tie as tie
 
-sign-len-requires : tie.Need-sign-len-requires
-sign-len-requires c κs = search needs
+split-sign-requires : tie.Need-split-sign-requires
+split-sign-requires c κs = search needs
 
 sub-read-radix-digits : tie.Need-sub-read-radix-digits
 sub-read-radix-digits c = search sign-inside
@@ -22,9 +22,6 @@ read-radix-digits-requires c κs = search needs
 
 enum-known-hi : tie.Need-enum-known-hi
 enum-known-hi c = search needs
-
-is-minus-requires : tie.Need-is-minus-requires
-is-minus-requires c κs = search needs
 
 signed-halves-requires : tie.Need-signed-halves-requires
 signed-halves-requires c κs = search needs
@@ -42,13 +39,12 @@ pub read-signed-halves-spec : {M : Type 1} → statement M
 read-signed-halves-spec =
     tie.close
     (tie.spec
-    sign-len-requires
+    split-sign-requires
     sub-read-radix-digits
     part-read-radix-digits-start
     part-read-radix-digits-end
     read-radix-digits-requires
     enum-known-hi
-    is-minus-requires
     signed-halves-requires
     enum-told
     returns

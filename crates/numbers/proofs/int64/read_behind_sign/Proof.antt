@@ -20,9 +20,6 @@ read-short-requires c κs = search needs
 enum-known-magnitude : tie.Need-enum-known-magnitude
 enum-known-magnitude c = search needs
 
-is-minus-requires : tie.Need-is-minus-requires
-is-minus-requires c κs = search needs
-
 with-sign-requires : tie.Need-with-sign-requires
 with-sign-requires c κs = search needs
 
@@ -47,7 +44,6 @@ read-behind-sign-spec =
     part-read-short-end
     read-short-requires
     enum-known-magnitude
-    is-minus-requires
     with-sign-requires
     enum-told
     read-spelled-requires

@@ -4,8 +4,8 @@ use borrow.Author.Needs.{needs}
 use Rattle.numbers.proofs.int64.read_i64.Statement.{statement}
 use Rattle.numbers.proofs.int64.read_i64.Tie as tie
 
-sign-len-requires : tie.Need-sign-len-requires
-sign-len-requires c κs = search needs
+split-sign-requires : tie.Need-split-sign-requires
+split-sign-requires c κs = search needs
 
 read-unsigned-requires : tie.Need-read-unsigned-requires
 read-unsigned-requires c κs = search needs
@@ -22,4 +22,4 @@ returns-2 c = search needs
 pub read-i64-spec : {M : Type 1} → statement M
 read-i64-spec =
     tie.close
-    (tie.spec sign-len-requires read-unsigned-requires returns read-behind-sign-requires returns-2)
+    (tie.spec split-sign-requires read-unsigned-requires returns read-behind-sign-requires returns-2)

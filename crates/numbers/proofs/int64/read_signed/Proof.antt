@@ -5,8 +5,8 @@ use Rattle.numbers.proofs.Fitting.{signed-value, signed-refused, signed
 use Rattle.numbers.proofs.int64.read_signed.Statement.{statement}
 use Rattle.numbers.proofs.int64.read_signed.Tie as tie
 
-sign-len-requires : tie.Need-sign-len-requires
-sign-len-requires c κs = search needs
+split-sign-requires : tie.Need-split-sign-requires
+split-sign-requires c κs = search needs
 
 sub-read-radix-digits : tie.Need-sub-read-radix-digits
 sub-read-radix-digits c = search sign-inside
@@ -32,9 +32,6 @@ returns c = search signed-refused
 returns-2 : tie.Need-returns-2
 returns-2 c = search signed-wide
 
-is-minus-requires : tie.Need-is-minus-requires
-is-minus-requires c κs = search needs
-
 with-sign-requires : tie.Need-with-sign-requires
 with-sign-requires c κs = search needs
 
@@ -45,7 +42,7 @@ pub read-signed-spec : {M : Type 1} → statement M
 read-signed-spec =
     tie.close
     (tie.spec
-    sign-len-requires
+    split-sign-requires
     sub-read-radix-digits
     part-read-radix-digits-start
     part-read-radix-digits-end
@@ -54,6 +51,5 @@ read-signed-spec =
     enum-told
     returns
     returns-2
-    is-minus-requires
     with-sign-requires
     returns-3)

@@ -7,8 +7,8 @@ use Rattle.numbers.proofs.Fitting.{i64-ten, i64-radix}
 use Rattle.numbers.proofs.int64.read_spelled.Statement.{statement}
 use Rattle.numbers.proofs.int64.read_spelled.Tie as tie
 
-sign-len-requires : tie.Need-sign-len-requires
-sign-len-requires c κs = search needs
+split-sign-requires : tie.Need-split-sign-requires
+split-sign-requires c κs = search needs
 
 sub-rest : tie.Need-sub-rest
 sub-rest c = search sign-inside
@@ -27,9 +27,6 @@ read-ten-requires c κs = search needs
 
 returns : tie.Need-returns
 returns c = search i64-ten
-
-is-minus-requires : tie.Need-is-minus-requires
-is-minus-requires c κs = search needs
 
 sub-read-radix : tie.Need-sub-read-radix
 sub-read-radix c = search rest-long
@@ -50,14 +47,13 @@ pub read-spelled-spec : {M : Type 1} → statement M
 read-spelled-spec =
     tie.close
     (tie.spec
-    sign-len-requires
+    split-sign-requires
     sub-rest
     part-rest-start
     part-rest-end
     split-radix-prefix-requires
     read-ten-requires
     returns
-    is-minus-requires
     sub-read-radix
     part-read-radix-start
     part-read-radix-end

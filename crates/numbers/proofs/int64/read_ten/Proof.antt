@@ -5,8 +5,8 @@ use Rattle.numbers.proofs.Fitting.{ten-value, ten-refused}
 use Rattle.numbers.proofs.int64.read_ten.Statement.{statement}
 use Rattle.numbers.proofs.int64.read_ten.Tie as tie
 
-sign-len-requires : tie.Need-sign-len-requires
-sign-len-requires c κs = search needs
+split-sign-requires : tie.Need-split-sign-requires
+split-sign-requires c κs = search needs
 
 sub-read-digits : tie.Need-sub-read-digits
 sub-read-digits c = search sign-inside
@@ -22,9 +22,6 @@ read-digits-requires c κs = search needs
 
 enum-known-magnitude : tie.Need-enum-known-magnitude
 enum-known-magnitude c = search needs
-
-is-minus-requires : tie.Need-is-minus-requires
-is-minus-requires c κs = search needs
 
 with-sign-requires : tie.Need-with-sign-requires
 with-sign-requires c κs = search needs
@@ -42,13 +39,12 @@ pub read-ten-spec : {M : Type 1} → statement M
 read-ten-spec =
     tie.close
     (tie.spec
-    sign-len-requires
+    split-sign-requires
     sub-read-digits
     part-read-digits-start
     part-read-digits-end
     read-digits-requires
     enum-known-magnitude
-    is-minus-requires
     with-sign-requires
     enum-told
     returns
