@@ -4,20 +4,22 @@ use mathlib.Core.Path.{_≡_, refl, ap, sym, _∙_, subst}
 use mathlib.Core.Bool.{Bool, true, false}
 use mathlib.Core.List.{List}
 use Prim.Native.Nat.{ℕ, _+_, _-_, _*_, _/_, _%_, _^_, _≤_, _<_}
-use native.Mathlib.Nat.{div-lt-iff-lt-mul, div-add-mod', div-eq-of-lt, mod-lt, add-mul, mul-assoc, mul-comm, mul-le-mul-right, mul-div-cancel, mul-mod-left, add-zero, le-add-right, lt-of-le-of-lt}
+use native.Mathlib.Nat.{div-lt-iff-lt-mul, div-add-mod', div-eq-of-lt, mod-lt, add-mul, mul-assoc}
+use native.Mathlib.Nat.{mul-comm, mul-le-mul-right, mul-div-cancel, mul-mod-left, add-zero, le-add-right, lt-of-le-of-lt}
 use native.Mathlib.Omega.{arith}
 use borrow.Author.Tests.{lt-ltb, le-ltb, ltb-true, ltb-false}
 use mir.Syntax.{w64}
 use mir.Val.{Fits}
 use lib.Arith.{digits-lt, digits-div, digits-mod, mod-mul}
 use lib.Dec.{ltb}
-use lib.Pow.{pow-add, pow-pos}
+use lib.Pow.{pow-add, pow-pos, pow-mono}
 use lib.ListN.{length, getD}
 use Rattle.meaning.specs.Bytes.{digit}
 use Rattle.meaning.specs.Halves.{joinedHalves}
 use Rattle.laws.proofs.Halves.{joinedHalves-lt}
-use Rattle.numbers.specs.Values.{Spelt, misspelt, spelt, digitsFrom, wideOf}
-use Rattle.numbers.specs.declared.halves.Halves.the-variants as H
+use Rattle.numbers.specs.Values.{Spelt, misspelt, spelt, capped, digitsFrom, wideOf}
+use Rattle.numbers.specs.declared.radix.Halves.the-variants as H
+use Rattle.numbers.proofs.Radixes.{capped-digit, capped-none}
 use Rattle.numbers.proofs.Spelled.{Above, Reading, reading-start, too-great, digit-on, ends-spelt}
 
 module _ (m R C hi lo d : ℕ) (e : R * C ≡ m) (p : 0 < R) (q : 0 < C) where
@@ -58,6 +60,13 @@ module _ (m R C hi lo d : ℕ) (e : R * C ≡ m) (p : 0 < R) (q : 0 < C) where
       let c : (hi * m + lo) * R ≡ hi * m * R + lo * R = add-mul (hi * m) lo R in
       omega arith
 
+-- a base of four bits at most is 16 at most
+base-small : (β b : ℕ) → β ≡ 2 ^ b → b ≤ 4 → β ≤ 16
+base-small β b e h = rw e (pow-mono h)
+
+pub carry-none : (β d x : ℕ) {b : ℕ} → capped d ≡ digit x → β ≤ d → β ≡ 2 ^ b → b ≤ 4 → β ≤ digit x
+carry-none β d x {b} c h w s = capped-none β d x (base-small β b w s) c h
+
 -- a half of 64 bits, less b of them
 halves-of : (b : ℕ) → b ≤ 4 → 2 ^ b * 2 ^ (64 - b) ≡ 2 ^ 64
 halves-of b h = sym (pow-add 2 b (64 - b)) ∙ ap (λ (n : ℕ). 2 ^ n) (let z : b + (64 - b) ≡ 64 = omega arith in z)
@@ -88,7 +97,10 @@ module _ {β : ℕ} {t : List ℕ} {hi lo : ℕ} {a : Bool} {i : ℕ} (r : Carry
       (halves-value hi lo (r .low))
 
   -- a digit of b bits
-  module _ {b d : ℕ} (at : i < length t) (e : d ≡ digit (getD t i 0)) (h : d < β) (w : β ≡ 2 ^ b) (s : b ≤ 4) where
+  module _ {b d : ℕ} (at : i < length t) (c : capped d ≡ digit (getD t i 0)) (h : d < β) (w : β ≡ 2 ^ b) (s : b ≤ 4) where
+    e : d ≡ digit (getD t i 0)
+    e = capped-digit β d (getD t i 0) (base-small β b w s) c h
+
     split : β * 2 ^ (64 - b) ≡ 2 ^ 64
     split = rw w (halves-of b s)
 

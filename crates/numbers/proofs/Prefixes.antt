@@ -14,15 +14,23 @@ use Rattle.meaning.specs.Bytes.{if_then_else_, _!_, ascii, has}
 use Rattle.meaning.specs.Numbers.{signLength, isMinus, baseBy, prefixBy, radixPrefix}
 
 -- a sign, or none, from the tests on the first byte
-pub no-sign : (t : List ℕ) → length t ≡ 0 → 0 ≡ signLength t
-unfolding signLength
-no-sign [] h = refl
-no-sign (b ∷ t) h = absurd (omega arith)
+pub sign-none : (t : List ℕ) → length t ≡ 0 → (false ≡ isMinus t) × (0 ≡ signLength t)
+unfolding isMinus signLength
+sign-none [] h = (refl, refl)
+sign-none (b ∷ t) h = absurd (omega arith)
 
-pub no-minus : (t : List ℕ) → length t ≡ 0 → false ≡ isMinus t
-unfolding isMinus
-no-minus [] h = refl
-no-minus (b ∷ t) h = absurd (omega arith)
+module _ (t : List ℕ) where
+  pub sign-minus : getD t 0 0 ≡ 45 → (true ≡ isMinus t) × (1 ≡ signLength t)
+  unfolding isMinus signLength
+  sign-minus e = rw e (refl, refl)
+
+  pub sign-plus : getD t 0 0 ≡ 43 → (false ≡ isMinus t) × (1 ≡ signLength t)
+  unfolding isMinus signLength
+  sign-plus e = rw e (refl, refl)
+
+  pub sign-other : (getD t 0 0 ≡ 45 → ⊥) → (getD t 0 0 ≡ 43 → ⊥) → (false ≡ isMinus t) × (0 ≡ signLength t)
+  unfolding isMinus signLength
+  sign-other m p = (sym (ne-eqb (t ! 0) 45 m), rw (ne-eqb (t ! 0) 43 p, ne-eqb (t ! 0) 45 m))
 
 pub sign-inside : (t : List ℕ) (s : ℕ) → s ≡ signLength t → s ≤ length t
 unfolding signLength
@@ -32,6 +40,17 @@ sign-inside (b ∷ t) s e = rw e (go (has b (ascii "+-")))
     go : (x : Bool) → (if x then 1 else 0) ≤ suc (length t)
     go true = omega arith
     go false = omega arith
+
+pub sign-some : (t : List ℕ) → signLength t ≡ 1 → 1 ≤ length t
+sign-some t e = sign-inside t 1 (sym e)
+
+pub sign-one : (t : List ℕ) (s : ℕ) → s ≡ signLength t → (s ≡ 0 → ⊥) → signLength t ≡ 1
+unfolding signLength
+sign-one t s e n = go (has (t ! 0) (ascii "+-")) e
+  where
+    go : (x : Bool) → s ≡ (if x then 1 else 0) → _≡_ {A = ℕ} (if x then 1 else 0) 1
+    go true e = refl
+    go false e = absurd (n e)
 
 -- a part up to the end, as the code lends it
 pub tail-part : (s : ℕ) (t : List ℕ) → take (length t - s) (drop s t) ≡ drop s t

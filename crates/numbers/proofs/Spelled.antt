@@ -63,23 +63,29 @@ module _ {β : ℕ} {t : List ℕ} {v : ℕ} {a : Bool} {i : ℕ} (r : Reading �
   pub ends-misspelt : length t ≤ i → a ≡ false → misspelt ≡ digitsFrom β 0 false t
   ends-misspelt h k = rw (drop-of-length-le t h, k) at (r .same)
 
-  module _ {d : ℕ} (at : i < length t) (e : d ≡ digit (getD t i 0)) where
+  module _ (at : i < length t) where
     -- a byte that is no digit
-    pub no-digit : β ≤ d → (getD t i 0 ≡ 95 → ⊥) → misspelt ≡ digitsFrom β 0 false t
-    no-digit h n = sym (from-other β v a i t at (rw e at h) ∙ rw (ne-eqb (t ! i) 95 n)) ∙ r .same
+    module _ (h : β ≤ digit (getD t i 0)) where
+      pub no-digit : (getD t i 0 ≡ 95 → ⊥) → misspelt ≡ digitsFrom β 0 false t
+      no-digit n = sym (from-other β v a i t at h ∙ rw (ne-eqb (t ! i) 95 n)) ∙ r .same
 
-    pub no-place : β ≤ d → a ≡ false → misspelt ≡ digitsFrom β 0 false t
-    no-place h k = sym (from-other β v a i t at (rw e at h) ∙ rw (k, and-false (eqb (t ! i) 95))) ∙ r .same
+      pub no-place : a ≡ false → misspelt ≡ digitsFrom β 0 false t
+      no-place k = sym (from-other β v a i t at h ∙ rw (k, and-false (eqb (t ! i) 95))) ∙ r .same
 
-    pub apart-on : β ≤ d → getD t i 0 ≡ 95 → a ≡ true → Reading β t v false (i + 1)
-    apart-on h u k = record {
-      inside = omega arith;
-      same = sym (from-other β v a i t at (rw e at h) ∙ rw (eq-eqb (t ! i) 95 u, k)) ∙ r .same;
-    }
+      pub apart-on : getD t i 0 ≡ 95 → a ≡ true → Reading β t v false (i + 1)
+      apart-on u k = record {
+        inside = omega arith;
+        same = sym (from-other β v a i t at h ∙ rw (eq-eqb (t ! i) 95 u, k)) ∙ r .same;
+      }
 
     -- a digit
-    pub digit-on : d < β → Reading β t (v * β + d) true (i + 1)
-    digit-on h = record { inside = omega arith; same = rw e (sym (from-digit β v a i t at (rw e at h)) ∙ r .same) }
+    module _ {d : ℕ} (e : d ≡ digit (getD t i 0)) (h : d < β) where
+      pub digit-on : Reading β t (v * β + d) true (i + 1)
+      digit-on = record { inside = omega arith; same = rw e (sym (from-digit β v a i t at (rw e at h)) ∙ r .same) }
 
-    pub too-great : d < β → (l : ℕ) → l ≤ v * β + d → Above l (digitsFrom β 0 false t)
-    too-great h l k = rw (digit-on h .same) at (above β l (omega arith) (v * β + d) true (drop (i + 1) t) k)
+      pub too-great : (l : ℕ) → l ≤ v * β + d → Above l (digitsFrom β 0 false t)
+      too-great l k = rw (digit-on .same) at (above β l (omega arith) (v * β + d) true (drop (i + 1) t) k)
+
+-- a digit that is no digit of this base
+pub beyond : (β d b : ℕ) → d ≡ digit b → β ≤ d → β ≤ digit b
+beyond β d b e h = rw e at h

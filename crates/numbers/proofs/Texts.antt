@@ -10,7 +10,8 @@ use lib.Dec.{eqb, ltb}
 use lib.ListN.{length, take, drop}
 use Rattle.meaning.specs.declared.RadixPrefix.{RadixPrefix}
 use Rattle.meaning.specs.Bytes.{if_then_else_, _!_, ascii, has, within, digit}
-use Rattle.meaning.specs.Numbers.{signLength, isMinus, baseBy, radixPrefix, placed, strip, none, parsed, within-bits, negatedBy, unsigned, baseOf, bodyOf, separated, radixValue}
+use Rattle.meaning.specs.Numbers.{signLength, isMinus, baseBy, radixPrefix, placed, strip, none}
+use Rattle.meaning.specs.Numbers.{parsed, within-bits, negatedBy, unsigned, baseOf, bodyOf, separated, radixValue}
 use Rattle.numbers.specs.Values.{parsedApart}
 use Rattle.numbers.proofs.Prefixes.{tail-part}
 
@@ -43,12 +44,6 @@ is-base u = go (eqb (u ! 0) (code "0"))
     go : (x : Bool) → IsBase (if x then baseBy (u ! 1) else 10)
     go true = base-by (u ! 1)
     go false = ten
-
-pub base-bounds : (β : ℕ) → IsBase β → (2 ≤ β) × (β ≤ 16)
-base-bounds β two = omega arith
-base-bounds β eight = omega arith
-base-bounds β ten = omega arith
-base-bounds β sixteen = omega arith
 
 pub radix-long : (u : List ℕ) → (radixPrefix u .base ≡ 10 → ⊥) → 2 ≤ length u
 unfolding radixPrefix baseBy

@@ -1,3 +1,1 @@
 pub mod Values
-pub mod Printing
-pub mod Separating

@@ -1,16 +1,16 @@
 -- What the functions between a text and its number answer. Assumes nothing.
-use mathlib.Core.Bool.{Bool, true, false, _&&_}
+use mathlib.Core.Bool.{Bool, true, false, _&&_, _||_}
 use mathlib.Core.List.{List, [], _∷_}
 use Prim.Native.Nat.{ℕ, _+_, _*_, _/_, _%_, _^_}
 use Prim.Native.Char.{code}
 use lib.Dec.{eqb, ltb}
-use Rattle.meaning.specs.Bytes.{if_then_else_, digit}
+use lib.ListN.{length}
+use Rattle.meaning.specs.Bytes.{if_then_else_, digit, number, allDigits}
 use Rattle.meaning.specs.Numbers.{Parsed, none, int, placed, strip, parsed}
 use Rattle.numbers.specs.declared.digits.Magnitude.{Magnitude}
 use Rattle.numbers.specs.declared.digits.Magnitude.the-variants as M
-use Rattle.meaning.specs.Halves.{bitsOf, negatedLow, negatedHigh}
-use Rattle.numbers.specs.declared.halves.Halves.{Halves}
-use Rattle.numbers.specs.declared.halves.Halves.the-variants as H
+use Rattle.numbers.specs.declared.radix.Halves.{Halves}
+use Rattle.numbers.specs.declared.radix.Halves.the-variants as H
 use Rattle.numbers.specs.declared.int64.Int64.{Int64}
 use Rattle.numbers.specs.declared.int64.Int64.the-variants as I
 
@@ -39,21 +39,23 @@ abbrev pub magnitudeOf : ℕ → Spelt → Magnitude
 magnitudeOf l misspelt = M.Refused
 magnitudeOf l (spelt n) = if ltb n l then M.Value n else M.Refused
 
--- IN TWO HALVES: 128 bits, a number below 2^128, a signed one, and the negation, with -2^127 refused
+-- 1 to 19 digits of base ten and nothing else
+unfoldable pub shortOf : List ℕ → Magnitude
+shortOf t =
+    if eqb (length t) 0 || ltb 19 (length t) then M.Refused
+    else if allDigits 10 t then M.Value (number 10 (length t) 0 t) else M.Refused
+
+-- A RADIX: what is above 15 is no digit; the base, with 2 for any other
+abbrev pub capped : ℕ → ℕ
+capped d = if ltb d 16 then d else 16
+
+unfoldable pub radixBy : ℕ → ℕ
+radixBy β = if eqb β 16 then 16 else if eqb β 8 then 8 else 2
+
+-- IN TWO HALVES: 128 bits, and a number below 2^128
 abbrev pub halvesBy : ℕ → Halves
 halvesBy n = H.Value (n / 2 ^ 64) (n % 2 ^ 64)
 
 abbrev pub wideOf : Spelt → Halves
 wideOf misspelt = H.Refused
 wideOf (spelt n) = if ltb n (2 ^ 128) then halvesBy n else H.Refused
-
-abbrev pub halvesOf : Parsed → Halves
-halvesOf none = H.Refused
-halvesOf (int z) = halvesBy (bitsOf z)
-
-unfoldable pub negatedHalves : ℕ → ℕ → Halves
-negatedHalves hi lo = if eqb hi (2 ^ 63) && eqb lo 0 then H.Refused else H.Value (negatedHigh hi lo) (negatedLow lo)
-
--- the bits of a digit
-unfoldable pub bitsBy : ℕ → ℕ
-bitsBy β = if eqb β 16 then 4 else if eqb β 8 then 3 else 1

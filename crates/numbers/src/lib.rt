@@ -1,8 +1,5 @@
-// [01 Numbers] Numbers from their text: the radix prefix, i64, decimal text. What a public function answers is a definition of `meaning`.
-pub mod decimal;
+// [01 Numbers] Numbers from their text: the radix prefix, i64, and the digits of a radix in two halves.
 mod digits;
-mod halves;
 pub mod int64;
 pub mod prefix;
-mod printing;
-mod separators;
+pub mod radix;

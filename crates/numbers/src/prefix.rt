@@ -3,28 +3,39 @@ ghost use mathlib.Core.Path.{_≡_};
 ghost use Rattle.meaning.specs.Numbers.{signLength, isMinus, baseBy, radixPrefix};
 use meaning::RadixPrefix;
 
-// The bytes of a sign at the front, 0 or 1.
-// Rules out: a plus that is no sign.
-pub(crate) fn sign_len(text: &[u8]) -> usize
-    ensures { λ r. ⌜ r ≡ signLength (now (text .entry)) ⌝ }
-{
-    if text.len() == 0 {
-        return 0;
-    }
-    if (text[0] == 43) | (text[0] == 45) {
-        return 1;
-    }
-    0
+// A sign at the front: whether it is a minus, and its bytes, 0 or 1.
+pub struct Sign {
+    pub minus: bool,
+    pub len: usize,
 }
 
-// Whether the sign at the front is a minus.
-pub(crate) fn is_minus(text: &[u8]) -> bool
-    ensures { λ r. ⌜ r ≡ isMinus (now (text .entry)) ⌝ }
+// The sign at the front of a text.
+// Rules out: a plus that is no sign; a second sign taken with the first.
+pub fn split_sign(text: &[u8]) -> Sign
+    ensures { λ r. ⌜ (r .minus ≡ isMinus (now (text .entry))) × (r .len ≡ signLength (now (text .entry))) ⌝ }
 {
     if text.len() == 0 {
-        return false;
+        return Sign {
+            minus: false,
+            len: 0,
+        };
     }
-    text[0] == 45
+    if text[0] == 45 {
+        return Sign {
+            minus: true,
+            len: 1,
+        };
+    }
+    if text[0] == 43 {
+        return Sign {
+            minus: false,
+            len: 1,
+        };
+    }
+    Sign {
+        minus: false,
+        len: 0,
+    }
 }
 
 // The base that the byte behind a 0 chooses, in either case.

@@ -4,16 +4,16 @@ use Prim.Native.Nat.{_-_}
 use borrow.Author.Needs.{needs}
 use native.Mathlib.Omega.{arith}
 use lib.ListN.{length}
-use Rattle.numbers.proofs.Spelled.{reading-start, no-digit, no-place, apart-on, ends-misspelt}
-use Rattle.numbers.proofs.Magnitudes.{refused-as, Tallying, tally-end, tally-over, tally-on, tally-sum, tally-product}
+use Rattle.numbers.proofs.Spelled.{reading-start, no-digit, no-place, apart-on, ends-misspelt, beyond}
+use Rattle.numbers.proofs.Magnitudes.{refused-as, Tallying, tally-end, tally-over, tally-on}
 use Rattle.numbers.proofs.digits.read_digits.Statement.{statement}
 use Rattle.numbers.proofs.digits.read_digits.Tie as tie
 
 abbrev Inv-loop : tie.InvT-loop
-Inv-loop text base cut value₀ behind₀ i₀ value behind i = Tallying base cut text value behind i
+Inv-loop text value₀ behind₀ i₀ value behind i = Tallying text value behind i
 
 abbrev μ-loop : tie.MeasureT-loop
-μ-loop text base cut value₀ behind₀ i₀ value behind i = length text - i
+μ-loop text value₀ behind₀ i₀ value behind i = length text - i
 
 loop-holds : tie.Need-loop-holds Inv-loop μ-loop
 loop-holds c = record { reading = search reading-start; small = omega arith }
@@ -31,10 +31,10 @@ returns : tie.Need-returns Inv-loop μ-loop
 returns c = search tally-over
 
 mul-value : tie.Need-mul-value Inv-loop μ-loop
-mul-value c = search tally-product
+mul-value c = omega arith
 
 add-value : tie.Need-add-value Inv-loop μ-loop
-add-value c = search tally-sum
+add-value c = omega arith
 
 add-i : tie.Need-add-i Inv-loop μ-loop
 add-i c = omega arith
@@ -49,7 +49,7 @@ shared-slice-read-if3 : tie.Need-shared-slice-read-if3 Inv-loop μ-loop
 shared-slice-read-if3 c = omega arith
 
 returns-2 : tie.Need-returns-2 Inv-loop μ-loop
-returns-2 c = search (refused-as, no-digit)
+returns-2 c = search (refused-as, no-digit, beyond)
 
 add-i-2 : tie.Need-add-i-2 Inv-loop μ-loop
 add-i-2 c = omega arith
@@ -58,10 +58,10 @@ loop-less-2 : tie.Need-loop-less-2 Inv-loop μ-loop
 loop-less-2 c = omega arith
 
 loop-again-2 : tie.Need-loop-again-2 Inv-loop μ-loop
-loop-again-2 c = record { reading = search apart-on; small = search needs }
+loop-again-2 c = record { reading = search (apart-on, beyond); small = search needs }
 
 returns-3 : tie.Need-returns-3 Inv-loop μ-loop
-returns-3 c = search (refused-as, no-place)
+returns-3 c = search (refused-as, no-place, beyond)
 
 returns-4 : tie.Need-returns-4 Inv-loop μ-loop
 returns-4 c = search tally-end

@@ -1,14 +1,11 @@
 -- `numbers::int64::read_radix` meets its contract. The value behind the first sign is tested before that sign is put to it. Assumes nothing.
 use borrow.Author.Needs.{needs}
-use Rattle.numbers.proofs.Fitting.{cut-bounds, radix-negated, radix-plain, radix-refused}
+use Rattle.numbers.proofs.Fitting.{radix-negated, radix-plain, radix-refused}
 use Rattle.numbers.proofs.int64.read_radix.Statement.{statement}
 use Rattle.numbers.proofs.int64.read_radix.Tie as tie
 
-div-read-signed : tie.Need-div-read-signed
-div-read-signed c = search needs
-
 read-signed-requires : tie.Need-read-signed-requires
-read-signed-requires c κs = cut-bounds (c .before .args .base) (c .before .pre .0) (c .before .pre .1)
+read-signed-requires c κs = search needs
 
 enum-known-value : tie.Need-enum-known-value
 enum-known-value c = search needs
@@ -32,7 +29,6 @@ pub read-radix-spec : {M : Type 1} → statement M
 read-radix-spec =
     tie.close
     (tie.spec
-    div-read-signed
     read-signed-requires
     enum-known-value
     negated-requires

@@ -1,55 +1,55 @@
--- `numbers::int64::read_signed` meets its contract. The sign is behind the text's start, and a refused magnitude is above 2^63. Assumes nothing.
+-- `numbers::int64::read_signed` meets its contract. The digits stand behind the sign, and a number with a high half is above 2^63. Assumes nothing.
 use borrow.Author.Needs.{needs}
 use Rattle.numbers.proofs.Prefixes.{sign-inside}
-use Rattle.numbers.proofs.Fitting.{signed-value, signed-refused}
+use Rattle.numbers.proofs.Fitting.{signed-value, signed-refused, signed-wide}
 use Rattle.numbers.proofs.int64.read_signed.Statement.{statement}
 use Rattle.numbers.proofs.int64.read_signed.Tie as tie
 
-sign-len-requires : tie.Need-sign-len-requires
-sign-len-requires c κs = search needs
+split-sign-requires : tie.Need-split-sign-requires
+split-sign-requires c κs = search needs
 
-sub-read-digits : tie.Need-sub-read-digits
-sub-read-digits c = search sign-inside
+sub-read-radix-digits : tie.Need-sub-read-radix-digits
+sub-read-radix-digits c = search sign-inside
 
-part-read-digits-start : tie.Need-part-read-digits-start
-part-read-digits-start c = search sign-inside
+part-read-radix-digits-start : tie.Need-part-read-radix-digits-start
+part-read-radix-digits-start c = search sign-inside
 
-part-read-digits-end : tie.Need-part-read-digits-end
-part-read-digits-end c = search needs
+part-read-radix-digits-end : tie.Need-part-read-radix-digits-end
+part-read-radix-digits-end c = search needs
 
-read-digits-requires : tie.Need-read-digits-requires
-read-digits-requires c κs = search needs
+read-radix-digits-requires : tie.Need-read-radix-digits-requires
+read-radix-digits-requires c κs = search needs
 
-enum-known-magnitude : tie.Need-enum-known-magnitude
-enum-known-magnitude c = search needs
-
-is-minus-requires : tie.Need-is-minus-requires
-is-minus-requires c κs = search needs
-
-with-sign-requires : tie.Need-with-sign-requires
-with-sign-requires c κs = search needs
+enum-known-hi : tie.Need-enum-known-hi
+enum-known-hi c = search needs
 
 enum-told : tie.Need-enum-told
 enum-told c = search needs
 
 returns : tie.Need-returns
-returns c = search signed-value
+returns c = search signed-refused
 
 returns-2 : tie.Need-returns-2
-returns-2 c = search signed-refused
+returns-2 c = search signed-wide
+
+with-sign-requires : tie.Need-with-sign-requires
+with-sign-requires c κs = search needs
+
+returns-3 : tie.Need-returns-3
+returns-3 c = search signed-value
 
 pub read-signed-spec : {M : Type 1} → statement M
 read-signed-spec =
     tie.close
     (tie.spec
-    sign-len-requires
-    sub-read-digits
-    part-read-digits-start
-    part-read-digits-end
-    read-digits-requires
-    enum-known-magnitude
-    is-minus-requires
-    with-sign-requires
+    split-sign-requires
+    sub-read-radix-digits
+    part-read-radix-digits-start
+    part-read-radix-digits-end
+    read-radix-digits-requires
+    enum-known-hi
     enum-told
     returns
-    returns-2)
+    returns-2
+    with-sign-requires
+    returns-3)

@@ -1,0 +1,3 @@
+pub mod SignedHalves
+pub mod Printing
+pub mod Separating
