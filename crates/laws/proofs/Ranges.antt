@@ -48,7 +48,7 @@ AnswerIn n (written v) = Unit {0}
 AnswerIn n (refused p) = Unit {0}
 
 -- behind a mark at place k, before the mark at the end
-enclosed-range : (k q : ℕ) (t : List ℕ) → encloses k q t ≡ true → Bounds (length t) (suc k) (length t - 1)
+pub enclosed-range : (k q : ℕ) (t : List ℕ) → encloses k q t ≡ true → Bounds (length t) (suc k) (length t - 1)
 unfolding encloses
 enclosed-range k q t h =
     let l = ltb-true (suc k) (length t) (and-left (ltb (suc k) (length t)) (eqb (t ! k) q) (and-left (ltb (suc k) (length t) && eqb (t ! k) q) (eqb (t ! (length t - 1)) q) h)) in
@@ -70,7 +70,7 @@ unicodeBy-body : (n : ℕ) (e : List ℕ) (u : ℕ) → Bounds n 3 u → BodyIn 
 unicodeBy-body n [] u r = tt
 unicodeBy-body n (b ∷ e) u r = r
 
-unicode-body : (q : ℕ) (t : List ℕ) → BodyIn (length t) (unicodeSpelling q t)
+pub unicode-body : (q : ℕ) (t : List ℕ) → BodyIn (length t) (unicodeSpelling q t)
 unfolding unicodeSpelling
 unicode-body q t =
     pick (length t) (isUnicode q t) (closedUnicode t r) unspelt

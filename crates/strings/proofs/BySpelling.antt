@@ -13,6 +13,7 @@ use Rattle.meaning.specs.Bytes.{if_then_else_, part, has, backslash}
 use Rattle.meaning.specs.Spelling.{Spelling, unicode, spelling}
 use Rattle.meaning.specs.Reading.{Value, means, refused, valueOf, answer, read-as, one, alone}
 use Rattle.laws.proofs.Joining.{fails≢means}
+use Rattle.laws.proofs.Ranges.{BodyIn, spelling-body}
 use Rattle.cutting.specs.declared.marks.Mark.{Mark}
 use Rattle.cutting.specs.declared.marks.Mark.the-variants.{Quote, DoubleQuote}
 use Rattle.escapes.specs.declared.units.Family.the-variants as Family′
@@ -33,29 +34,29 @@ nul-one σ t x e q = rw (sym e ∙ q)
 
 -- WHERE THINGS LIE
 module _ (t : List ℕ) (s : Spelled) (spells : Spells t s (spelling t)) where
-  off′ : Settings
-  off′ = record { backslash = false }
+  body : (s′ : Spelled) → s ≡ s′ → BodyIn (length t) (spelledOf t s′)
+  body s′ q = spelled-body t s (spelling t) spells (spelling-body t) s′ q
 
   pub standard-inside : (m : Mark) (f u : ℕ) → s ≡ Standard m f u → Inside (length t) f u
-  standard-inside m f u q = body-inside (length t) f u (spelled-body off′ t s spells (Standard m f u) q)
+  standard-inside m f u q = body-inside (length t) f u (body (Standard m f u) q)
 
   pub escape-inside : (f u : ℕ) → s ≡ Escape f u → Inside (length t) f u
-  escape-inside f u q = body-inside (length t) f u (spelled-body off′ t s spells (Escape f u) q)
+  escape-inside f u q = body-inside (length t) f u (body (Escape f u) q)
 
   pub unicode-inside : (f u a z : ℕ) → s ≡ Unicode f u a z → Inside (length t) f u
-  unicode-inside f u a z q = body-inside (length t) f u (spelled-body off′ t s spells (Unicode f u a z) q)
+  unicode-inside f u a z q = body-inside (length t) f u (body (Unicode f u a z) q)
 
   pub dollar-inside : (f u : ℕ) → s ≡ Dollar f u → Inside (length t) f u
-  dollar-inside f u q = body-inside (length t) f u (spelled-body off′ t s spells (Dollar f u) q)
+  dollar-inside f u q = body-inside (length t) f u (body (Dollar f u) q)
 
-  pub character-inside : (f u a z : ℕ) → s ≡ Unicode f u a z → Inside (length t) a z
-  character-inside f u a z q = let i = subst (EscapeInside (length t)) q (spells .inside) in record { ordered = i .0; within = i .1 }
+-- the escape character by its part, which lies in the text
+pub character-inside : (t : List ℕ) (s : Spelled) (S : Spelling) → Spells t s S → (f u a z : ℕ) → s ≡ Unicode f u a z → Inside (length t) a z
+character-inside t s S spells f u a z q = let i = subst (EscapeInside (length t)) q (spells .inside) in record { ordered = i .0; within = i .1 }
 
--- the escape character by its part
-default-escape : (t : List ℕ) (a z : ℕ) → a ≡ z → escapeOf t a z ≡ backslash ∷ []
+pub default-escape : (t : List ℕ) (a z : ℕ) → a ≡ z → escapeOf t a z ≡ backslash ∷ []
 default-escape t a z e = rw (eq-eqb a z e)
 
-chosen-escape : (t : List ℕ) (a z : ℕ) → (a ≡ z → ⊥) → escapeOf t a z ≡ take (z - a) (drop a t)
+pub chosen-escape : (t : List ℕ) (a z : ℕ) → (a ≡ z → ⊥) → escapeOf t a z ≡ take (z - a) (drop a t)
 chosen-escape t a z n = rw (ne-eqb a z n)
 
 module _ (σ : Settings) (t : List ℕ) (s : Spelled) (spells : Spells t s (spelling t)) where

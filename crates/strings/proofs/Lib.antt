@@ -2,6 +2,8 @@
 pub mod WriteTurns
 pub mod Ones
 pub mod BySpelling
+pub mod Readings
+pub mod Lexemes
 pub mod Cuts
 pub mod Joinings
 pub mod Wholes

@@ -14,7 +14,7 @@ use Rattle.meaning.specs.Spelling.{Spelling, spelling}
 use Rattle.meaning.specs.Reading.{Answer, borrowed, written, refused, Value, means, fails, valueOf, answer, read-as, one, alone}
 use Rattle.meaning.specs.Answers.{filled}
 use Rattle.laws.proofs.Joining.{fails≢means}
-use Rattle.laws.proofs.Ranges.{Bounds, BodyIn, AnswerIn, spelling-body, one-inside}
+use Rattle.laws.proofs.Ranges.{Bounds, BodyIn, AnswerIn, one-inside}
 use Rattle.laws.proofs.Short.{course-size, body-means, body-goes}
 use Rattle.laws.proofs.StepBounds.{Steady, standard-steady, escape-steady, unicode-steady}
 use Rattle.cutting.specs.Marks.{markOf}
@@ -100,14 +100,15 @@ module _ (fam : Family) (e t : List ℕ) (f u n : ℕ) (h : Holds (valueOf t (an
       → Put (valueOf t (answer f u (courseOf fam e (part f u t)))) out r after
   body-put out after r w = rw same (record { answer = w .answer; buffer = w .buffer })
 
--- BY THE SPELLING s of a text t
+-- BY THE SPELLING s of a text t: where its body lies
+pub spelled-body : (t : List ℕ) (s : Spelled) (S : Spelling) → Spells t s S → BodyIn (length t) S → (s′ : Spelled) → s ≡ s′
+    → BodyIn (length t) (spelledOf t s′)
+spelled-body t s S spells b s′ q = subst (λ (x : Spelled). BodyIn (length t) (spelledOf t x)) q (subst (BodyIn (length t)) (sym (spells .means)) b)
+
 module _ (σ : Settings) (t : List ℕ) (s : Spelled) (spells : Spells t s (spelling t)) where
   pub one-spelled : has 0 t ≡ false → one σ t ≡ read-as σ t (spelledOf t s)
   unfolding one
   one-spelled h = rw h (ap (read-as σ t) (sym (spells .means)))
-
-  pub spelled-body : (s′ : Spelled) → s ≡ s′ → BodyIn (length t) (spelledOf t s′)
-  spelled-body s′ q = subst (λ (x : Spelled). BodyIn (length t) (spelledOf t x)) q (subst (BodyIn (length t)) (sym (spells .means)) (spelling-body t))
 
   -- what measuring it says
   pub spelled-one : has 0 t ≡ false → (s′ : Spelled) → s ≡ s′ → (r : One) → r ≡ oneOf (read-as σ t (spelledOf t s′)) → r ≡ oneOf (one σ t)

@@ -1,5 +1,5 @@
 -- The reading of a text, by what each of its passes said. Assumes nothing.
-use mathlib.Core.Path.{_≡_, refl, ap, sym, _∙_}
+use mathlib.Core.Path.{_≡_, ap, sym, _∙_}
 use mathlib.Core.Bool.{Bool, true, false}
 use mathlib.Core.List.{List, _++_}
 use Prim.Native.Nat.{ℕ, _≤_, _<_}
@@ -8,14 +8,15 @@ use lib.ListN.{length, drop}
 use Rattle.meaning.specs.declared.Settings.{Settings}
 use Rattle.meaning.specs.declared.Read.the-variants as Read′
 use Rattle.meaning.specs.Cutting.{cut, continues}
-use Rattle.meaning.specs.Reading.{Answer, borrowed, written, refused, Value, means, fails, valueOf, one, alone, joined, asWritten, read}
+use Rattle.meaning.specs.Reading.{Value, means, fails, one, alone, joined, asWritten, read}
 use Rattle.meaning.specs.Reads.{Reads}
-use Rattle.laws.proofs.Owed.{reads-short, reads-written, reads-refused, reads-borrowed}
 use Rattle.strings.specs.declared.one.One.{One}
 use Rattle.strings.specs.declared.one.One.the-variants as One′
 use Rattle.strings.specs.declared.joined.Joined.{Joined}
 use Rattle.strings.specs.declared.joined.Joined.the-variants as Joined′
 use Rattle.strings.specs.Answers.{oneOf, lengthOf, Holds, valueIn, Put}
+use Rattle.laws.proofs.Owed.{reads-short, reads-written, reads-refused}
+use Rattle.strings.proofs.Readings.{told-borrowed, told-short, told-holds, told-written, told-refused}
 use Rattle.strings.proofs.Joinings.{length-means, length-fails}
 
 module _ (σ : Settings) (t out : List ℕ) (x : Bool) (ex : x ≡ continues σ t) where
@@ -49,37 +50,18 @@ module _ (σ : Settings) (t out : List ℕ) (x : Bool) (ex : x ≡ continues σ 
     unfolding read
     as-one = rw (sym ex ∙ y)
 
-    of-borrowed : (a : Answer) (f u : ℕ) → oneOf a ≡ One′.Borrowed f u → a ≡ borrowed f u
-    of-borrowed (borrowed g w) f u h = cc
-    of-borrowed (written v) f u h = let z : _≡_ {A = ℕ} 0 1 = cc in absurd (omega arith)
-    of-borrowed (refused p) f u h = let z : _≡_ {A = ℕ} 0 1 = cc in absurd (omega arith)
-
-    of-written : (a : Answer) (n : ℕ) → oneOf a ≡ One′.Written n → (v : List ℕ) × (a ≡ written v) × (length v ≡ n)
-    of-written (borrowed g w) n h = let z : _≡_ {A = ℕ} 0 1 = cc in absurd (omega arith)
-    of-written (written v) n h = (v, refl, cc)
-    of-written (refused p) n h = let z : _≡_ {A = ℕ} 0 1 = cc in absurd (omega arith)
-
-    of-refused : (a : Answer) (p : ℕ) → oneOf a ≡ One′.Refused p → a ≡ refused p
-    of-refused (borrowed g w) p h = let z : _≡_ {A = ℕ} 0 1 = cc in absurd (omega arith)
-    of-refused (written v) p h = let z : _≡_ {A = ℕ} 0 1 = cc in absurd (omega arith)
-    of-refused (refused q) p h = cc
-
     pub one-borrowed : (f u : ℕ) → r ≡ One′.Borrowed f u → Reads (read σ t) out (Read′.Borrowed f u) out
-    one-borrowed f u q = reads-borrowed (read σ t) out f u (as-one ∙ of-borrowed (one σ t) f u (sym er ∙ q))
+    one-borrowed f u q = rw as-one (told-borrowed out (one σ t) r er f u q)
 
     pub one-short : (n : ℕ) → r ≡ One′.Written n → length out < n → Reads (read σ t) out (Read′.NoRoom n) out
-    one-short n q h = let m = of-written (one σ t) n (sym er ∙ q) in reads-short (read σ t) (m .0) out n (as-one ∙ m .1) (m .2) h
+    one-short n q h = rw as-one (told-short out (one σ t) r er n q h)
 
     pub one-holds : (n : ℕ) → r ≡ One′.Written n → n ≤ length out → Holds (alone σ t) (length out)
-    one-holds n q h =
-        let m = of-written (one σ t) n (sym er ∙ q) in record { all = m .0; reads = ap (valueOf t) (m .1); fits = omega (arith, m .2) }
+    one-holds n q h = told-holds out (one σ t) r er t n q h
 
     pub one-written : (n : ℕ) → r ≡ One′.Written n → n ≤ length out → (w : ℕ) (after : List ℕ) → Put (alone σ t) out w after
         → Reads (read σ t) out (Read′.Written n) after
-    one-written n q h w after p =
-        let m = of-written (one σ t) n (sym er ∙ q) in
-        reads-written (read σ t) (m .0) out after n (as-one ∙ m .1) (m .2) h
-        (p .buffer ∙ ap (λ (v : List ℕ). v ++ drop (length v) out) (ap valueIn (ap (valueOf t) (m .1))))
+    one-written n q h w after p = rw as-one (told-written out (one σ t) r er t n q h w after p)
 
     pub one-refused : (p : ℕ) → r ≡ One′.Refused p → Reads (read σ t) out (Read′.Refused p) out
-    one-refused p q = reads-refused (read σ t) out p (as-one ∙ of-refused (one σ t) p (sym er ∙ q))
+    one-refused p q = rw as-one (told-refused out (one σ t) r er p q)

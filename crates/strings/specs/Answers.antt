@@ -3,11 +3,18 @@ use mathlib.Core.Path.{_≡_}
 use mathlib.Core.List.{List, [], _++_}
 use Prim.Native.Nat.{ℕ, _≤_}
 use lib.ListN.{length, drop}
-use Rattle.meaning.specs.Reading.{Answer, borrowed, written, refused, Value, means, fails}
+use Rattle.meaning.specs.Bytes.{part}
+use Rattle.meaning.specs.Reading.{Answer, borrowed, written, refused, Value, means, fails, answer}
+use Rattle.escapes.specs.declared.units.Family.{Family}
+use Rattle.escapes.specs.Families.{courseOf}
 use Rattle.strings.specs.declared.one.One.{One}
 use Rattle.strings.specs.declared.one.One.the-variants as One′
 use Rattle.strings.specs.declared.joined.Joined.{Joined}
 use Rattle.strings.specs.declared.joined.Joined.the-variants as Joined′
+
+-- what the body of t from f up to u means, by a family and an escape character's bytes e
+abbrev pub bodyOf : Family → List ℕ → ℕ → ℕ → List ℕ → Answer
+bodyOf k e f u t = answer f u (courseOf k e (part f u t))
 
 abbrev pub oneOf : Answer → One
 oneOf (borrowed f u) = One′.Borrowed f u

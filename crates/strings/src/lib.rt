@@ -1,4 +1,5 @@
-// [01 Cutting, One segment] Reading strings: writing a body, one segment, joined text. Every public function answers for every input.
+// [01 Cutting, One segment] Reading strings: writing a body, one segment, an identifier, joined text. Every public function answers for every input.
+pub mod ident;
 pub mod joined;
 pub mod one;
 mod writing;

@@ -11,10 +11,8 @@ use spellings::spelling::Spelled;
 use spellings::spelling::string_spelling;
 ghost use mathlib.Core.Path.{_≡_};
 ghost use lib.ListN.{length};
-ghost use Rattle.meaning.specs.Bytes.{part};
-ghost use Rattle.meaning.specs.Reading.{valueOf, answer, one, alone};
-ghost use Rattle.escapes.specs.Families.{courseOf};
-ghost use Rattle.strings.specs.Answers.{Inside, oneOf, Holds, Put};
+ghost use Rattle.meaning.specs.Reading.{valueOf, one, alone};
+ghost use Rattle.strings.specs.Answers.{Inside, bodyOf, oneOf, Holds, Put};
 
 // What one segment means.
 pub enum One {
@@ -24,9 +22,15 @@ pub enum One {
 }
 
 // The body from a place up to another, measured: the text's own part where it is plain.
-fn measure_body(text: &[u8], from: usize, until: usize, family: Family, escape: &[u8]) -> One
+pub(crate) fn measure_body(
+    text: &[u8],
+    from: usize,
+    until: usize,
+    family: Family,
+    escape: &[u8],
+) -> One
     requires { ⌜ Inside (length (now text)) from until ⌝ }
-    ensures { λ r. ⌜ r ≡ oneOf (answer from until (courseOf family (now (escape .entry)) (part from until (now (text .entry))))) ⌝ }
+    ensures { λ r. ⌜ r ≡ oneOf (bodyOf family (now (escape .entry)) from until (now (text .entry))) ⌝ }
 {
     match measure(&text[from..until], family, escape) {
         Measured::Plain => One::Borrowed { from, until },
@@ -76,7 +80,7 @@ pub(crate) fn measure_one(text: &[u8], settings: Settings) -> One
 }
 
 // Writes the value of the body from a place up to another.
-fn write_body(
+pub(crate) fn write_body(
     text: &[u8],
     from: usize,
     until: usize,
@@ -85,8 +89,8 @@ fn write_body(
     out: &mut [u8],
 ) -> usize
     requires { ⌜ Inside (length (now text)) from until ⌝ }
-    requires { ⌜ Holds (valueOf (now text) (answer from until (courseOf family (now escape) (part from until (now text))))) (length (now out)) ⌝ }
-    ensures { λ r. ⌜ Put (valueOf (now (text .entry)) (answer from until (courseOf family (now (escape .entry)) (part from until (now (text .entry)))))) (now (out .entry)) r (now (out .exit)) ⌝ }
+    requires { ⌜ Holds (valueOf (now text) (bodyOf family (now escape) from until (now text))) (length (now out)) ⌝ }
+    ensures { λ r. ⌜ Put (valueOf (now (text .entry)) (bodyOf family (now (escape .entry)) from until (now (text .entry)))) (now (out .entry)) r (now (out .exit)) ⌝ }
 {
     write(&text[from..until], family, escape, out)
 }

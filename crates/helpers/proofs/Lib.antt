@@ -1,0 +1,3 @@
+-- What the functions of this crate share, callees first.
+pub mod Validity
+pub mod Identifiers
