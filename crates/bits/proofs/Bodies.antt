@@ -29,7 +29,7 @@ unfolding isMark
 quote-opens [] e = absurd (false≢true e)
 quote-opens (b ∷ s) e = rw e
 
-letter-opens : (s : List ℕ) (n : ℕ) → has (s ! 0) (ascii "BbXx") ≡ true → opening s ≡ suc n → suc n ≡ 2
+pub letter-opens : (s : List ℕ) (n : ℕ) → has (s ! 0) (ascii "BbXx") ≡ true → opening s ≡ suc n → suc n ≡ 2
 unfolding isMark
 letter-opens [] n e o = absurd (omega arith)
 letter-opens (b ∷ s) n e o = go (eqb b 66) (eqb b 98) (eqb b 88) (eqb b 120) refl refl refl refl e

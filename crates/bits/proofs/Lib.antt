@@ -3,3 +3,4 @@ pub mod Asking
 pub mod Bodies
 pub mod Turns
 pub mod Wholes
+pub mod Inside

@@ -1,0 +1,7 @@
+pub mod Spanned
+pub mod Moved
+pub mod Inside
+pub mod Telling
+pub mod Ranging
+pub mod Counting
+pub mod Viewing

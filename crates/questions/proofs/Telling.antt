@@ -1,0 +1,88 @@
+-- The questions whose answer is a text: what the code told of the tests and of the reading is the definition's outcome, and no sum wraps. Assumes nothing.
+use mathlib.Core.Path.{_≡_}
+use mathlib.Core.Bool.{_&&_}
+use mathlib.Core.List.{List}
+use Prim.Native.Nat.{ℕ, _<_, _^_}
+use lib.Dec.{eqb, leb, ltb}
+use lib.ListN.{length}
+use Rattle.meaning.specs.declared.Settings.{Settings}
+use Rattle.meaning.specs.declared.Literal.{Literal}
+use Rattle.meaning.specs.declared.LiteralExpected.the-variants as Expected
+use Rattle.meaning.specs.declared.Read.{Read}
+use Rattle.meaning.specs.declared.Refusal.{Refusal}
+use Rattle.meaning.specs.declared.Refusal.the-variants.{InvalidInteger, InvalidString, InvalidBitString}
+use Rattle.meaning.specs.declared.Text.{Text}
+use Rattle.meaning.specs.declared.Text.the-variants.{Refused}
+use Rattle.meaning.specs.Bytes.{part}
+use Rattle.meaning.specs.Reading.{read}
+use Rattle.meaning.specs.Reads.{Reads}
+use Rattle.meaning.specs.Numbers.{decimalOf}
+use Rattle.meaning.specs.Kinds.{bits, temporal}
+use Rattle.meaning.specs.Answers.{Meets, kindCode}
+use Rattle.meaning.specs.Questions as Definition
+use Rattle.meaning.specs.Questions.{tested, stringQuestion, decimalQuestion, bitsQuestion, temporalQuestion}
+use Rattle.laws.proofs.Ranges.{read-inside}
+use Rattle.spans.specs.declared.tests.Tested.{Tested}
+use Rattle.spans.specs.declared.tests.Tested.the-variants.{Passes, Barred}
+use Rattle.spans.specs.Tests.{Tests}
+use Rattle.questions.specs.Told.{toldBy, InText, baseBy}
+use Rattle.questions.proofs.Moved.{fits-text, told-meets, told-barred}
+use Rattle.bits.proofs.Inside.{bits-inside}
+use Rattle.questions.proofs.Inside.{decimal-inside, temporal-inside}
+
+-- NO SUM WRAPS
+module _ {l : Literal} {S : List ℕ} {r : Tested} {x : Definition.Tested} (v : Tests l S r x) (s e : ℕ) (q : r ≡ Passes s e) (h : length S < 2 ^ 64)
+    {out after : List ℕ} {d : Read} where
+  pub string-fits : (σ : Settings) → Reads (read σ (part s e S)) out d after → InText s d
+  string-fits σ k = fits-text (read σ) InvalidString v s e q (read-inside σ) h (length out) d (k .answer)
+
+  pub decimal-fits : Reads (decimalOf (part s e S)) out d after → InText s d
+  decimal-fits k = fits-text decimalOf InvalidInteger v s e q decimal-inside h (length out) d (k .answer)
+
+  pub bits-fits : (β : ℕ) → Reads (bits β (part s e S)) out d after → InText s d
+  bits-fits β k = fits-text (bits β) InvalidBitString v s e q (bits-inside β) h (length out) d (k .answer)
+
+  pub temporal-fits : Reads (temporal (part s e S)) out d after → InText s d
+  temporal-fits k = fits-text temporal InvalidString v s e q temporal-inside h (length out) d (k .answer)
+
+-- WHAT IS TOLD, by the code of the kind
+module _ {l : Literal} {S : List ℕ} {r : Tested} {code : ℕ} (c : code ≡ kindCode (l .kind)) where
+  module _ (σ : Settings) (v : Tests l S r (tested (eqb code 4) Expected.String l S)) where
+    pub string-told : (s e : ℕ) → r ≡ Passes s e → (out after : List ℕ) (d : Read) → Reads (read σ (part s e S)) out d after → (a : Text)
+        → a ≡ toldBy (InvalidString (l .span)) s d → Meets (stringQuestion l S σ out) a after
+    unfolding stringQuestion
+    string-told s e q out after d k a o = rw (← c) (told-meets (read σ) InvalidString v s e q out after d k a o)
+
+    pub string-barred : (out : List ℕ) (w : Refusal) → r ≡ Barred w → Meets (stringQuestion l S σ out) (Refused w) out
+    unfolding stringQuestion
+    string-barred out w q = rw (← c) (told-barred (read σ) InvalidString v out w q)
+
+  module _ (v : Tests l S r (tested (leb code 3) Expected.DecimalText l S)) where
+    pub decimal-told : (s e : ℕ) → r ≡ Passes s e → (out after : List ℕ) (d : Read) → Reads (decimalOf (part s e S)) out d after → (a : Text)
+        → a ≡ toldBy (InvalidInteger (l .span)) s d → Meets (decimalQuestion l S out) a after
+    unfolding decimalQuestion
+    decimal-told s e q out after d k a o = rw (← c) (told-meets decimalOf InvalidInteger v s e q out after d k a o)
+
+    pub decimal-barred : (out : List ℕ) (w : Refusal) → r ≡ Barred w → Meets (decimalQuestion l S out) (Refused w) out
+    unfolding decimalQuestion
+    decimal-barred out w q = rw (← c) (told-barred decimalOf InvalidInteger v out w q)
+
+  module _ (β : ℕ) (b : β ≡ baseBy code) (v : Tests l S r (tested (ltb 0 β) Expected.BitString l S)) where
+    pub bits-told : (s e : ℕ) → r ≡ Passes s e → (out after : List ℕ) (d : Read) → Reads (bits β (part s e S)) out d after → (a : Text)
+        → a ≡ toldBy (InvalidBitString (l .span)) s d → Meets (bitsQuestion l S out) a after
+    unfolding bitsQuestion
+    bits-told s e q out after d k a o = rw (← c, ← b) (told-meets (bits β) InvalidBitString v s e q out after d k a o)
+
+    pub bits-barred : (out : List ℕ) (w : Refusal) → r ≡ Barred w → Meets (bitsQuestion l S out) (Refused w) out
+    unfolding bitsQuestion
+    bits-barred out w q = rw (← c, ← b) (told-barred (bits β) InvalidBitString v out w q)
+
+  module _ (v : Tests l S r (tested (leb 8 code && leb code 11) Expected.Temporal l S)) where
+    pub temporal-told : (s e : ℕ) → r ≡ Passes s e → (out after : List ℕ) (d : Read) → Reads (temporal (part s e S)) out d after → (a : Text)
+        → a ≡ toldBy (InvalidString (l .span)) s d → Meets (temporalQuestion l S out) a after
+    unfolding temporalQuestion
+    temporal-told s e q out after d k a o = rw (← c) (told-meets temporal InvalidString v s e q out after d k a o)
+
+    pub temporal-barred : (out : List ℕ) (w : Refusal) → r ≡ Barred w → Meets (temporalQuestion l S out) (Refused w) out
+    unfolding temporalQuestion
+    temporal-barred out w q = rw (← c) (told-barred temporal InvalidString v out w q)

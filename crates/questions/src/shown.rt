@@ -1,0 +1,42 @@
+// The view: what an answer shows of the source or of the buffer. A range that does not fit its slice, or a refusal, shows an empty part.
+use leaves::views::part_of;
+use meaning::Charset;
+use meaning::Range;
+use meaning::Text;
+ghost use mathlib.Core.Path.{_≡_};
+ghost use Rattle.meaning.specs.Answers.{shown, rangeShown, charsetShown};
+
+// Either the source's part or the buffer's.
+// Rules out: the source shown for a written text; a written text shown from its second byte on (must-fail: first_of_each, second_of_each).
+pub fn text_shown<'a>(source: &'a [u8], out: &'a [u8], answer: Text) -> &'a [u8]
+    ensures { λ r. ⌜ now r ≡ shown (now (source .entry)) (now (out .entry)) answer ⌝ }
+{
+    match answer {
+        Text::Borrowed { start, end } => part_of(source, start, end),
+        Text::Written { len } => part_of(out, 0, len),
+        Text::Refused(_) => &source[..0],
+    }
+}
+
+// The part of the source that a range stands for.
+// Rules out: the part from the source's start; an empty part (must-fail: first_of_each, second_of_each).
+pub fn range_shown(source: &[u8], answer: Range) -> &[u8]
+    ensures { λ r. ⌜ now r ≡ rangeShown (now (source .entry)) answer ⌝ }
+{
+    match answer {
+        Range::Found { start, end } => part_of(source, start, end),
+        Range::Refused(_) => &source[..0],
+    }
+}
+
+// The charset's name.
+// Rules out: the part from the source's start; an empty part (must-fail: first_of_each, second_of_each).
+pub fn charset_shown(source: &[u8], answer: Charset) -> &[u8]
+    ensures { λ r. ⌜ now r ≡ charsetShown (now (source .entry)) answer ⌝ }
+{
+    match answer {
+        Charset::Named { start, end } => part_of(source, start, end),
+        Charset::Unnamed => &source[..0],
+        Charset::Refused(_) => &source[..0],
+    }
+}

@@ -1,0 +1,126 @@
+// Questions whose answer is a text, a part of the source or written into the buffer: string, decimal, bits, temporal.
+use bits::reading::read_bits;
+use decimals::decimal::read_decimal;
+use kinds::temporal::read_temporal;
+use meaning::Literal;
+use meaning::LiteralExpected;
+use meaning::Read;
+use meaning::Refusal;
+use meaning::Settings;
+use meaning::Text;
+use spans::kinds::kind_code;
+use spans::tests::Tested;
+use spans::tests::test;
+use strings::joined::read_string;
+ghost use mathlib.Core.Path.{_≡_};
+ghost use Rattle.meaning.specs.Answers.{Meets};
+ghost use Rattle.meaning.specs.Questions.{stringQuestion, plainQuestion, decimalQuestion, bitsQuestion, temporalQuestion};
+ghost use Rattle.questions.specs.Told.{InText, toldBy, baseBy};
+
+// A reading of the text at a place of the source, told of the source; `bad` is why a refused one is refused.
+fn text_of(read: Read, start: usize, bad: Refusal) -> Text
+    requires { ⌜ InText start read ⌝ }
+    ensures { λ r. ⌜ r ≡ toldBy bad start read ⌝ }
+{
+    match read {
+        Read::Borrowed { from, until } => Text::Borrowed {
+            start: start + from,
+            end: start + until,
+        },
+        Read::Written { len } => Text::Written { len },
+        Read::Refused { place: _ } => Text::Refused(bad),
+        Read::NoRoom { needed } => Text::Refused(Refusal::NoRoom { needed }),
+    }
+}
+
+// What a string literal means at a setting.
+// Rules out: the setting passed over; dates asked (must-fail: first_of_each, second_of_each).
+pub fn as_str_in(literal: Literal, source: &[u8], settings: Settings, out: &mut [u8]) -> Text
+    ensures { λ r. ⌜ Meets (stringQuestion literal (now (source .entry)) settings (now (out .entry))) r (now (out .exit)) ⌝ }
+{
+    let kind = literal.kind;
+    let span = literal.span;
+    let right = kind_code(kind) == 4;
+    match test(right, LiteralExpected::String, literal, source) {
+        Tested::Passes { start, end } => {
+            let read = read_string(&source[start..end], settings, out);
+            text_of(read, start, Refusal::InvalidString(span))
+        }
+        Tested::Barred(refusal) => Text::Refused(refusal),
+    }
+}
+
+// What a string literal means with the setting off.
+// Rules out: the setting on; a number's text given (must-fail: first_byte_shown, whole_source_shown).
+pub fn as_str(literal: Literal, source: &[u8], out: &mut [u8]) -> Text
+    ensures { λ r. ⌜ Meets (plainQuestion literal (now (source .entry)) (now (out .entry))) r (now (out .exit)) ⌝ }
+{
+    as_str_in(literal, source, Settings { backslash: false }, out)
+}
+
+// A number's decimal text.
+// Rules out: 6 for 5; integers alone asked (must-fail: first_of_each, second_of_each).
+pub fn as_decimal_text(literal: Literal, source: &[u8], out: &mut [u8]) -> Text
+    ensures { λ r. ⌜ Meets (decimalQuestion literal (now (source .entry)) (now (out .entry))) r (now (out .exit)) ⌝ }
+{
+    let kind = literal.kind;
+    let span = literal.span;
+    let right = kind_code(kind) <= 3;
+    match test(right, LiteralExpected::DecimalText, literal, source) {
+        Tested::Passes { start, end } => {
+            let read = read_decimal(&source[start..end], out);
+            text_of(read, start, Refusal::InvalidInteger(span))
+        }
+        Tested::Barred(refusal) => Text::Refused(refusal),
+    }
+}
+
+// The base of a bit string's digits, by its kind's code; 0 for any other kind.
+fn bit_base(code: u32) -> u8
+    ensures { λ r. ⌜ r ≡ baseBy code ⌝ }
+{
+    if code == 12 {
+        return 2;
+    }
+    if code == 13 {
+        return 16;
+    }
+    0
+}
+
+// A bit string's digits.
+// Rules out: 6 for 7; hex digits asked of every bit string (must-fail: first_of_each, second_of_each).
+pub fn as_bit_text(literal: Literal, source: &[u8], out: &mut [u8]) -> Text
+    ensures { λ r. ⌜ Meets (bitsQuestion literal (now (source .entry)) (now (out .entry))) r (now (out .exit)) ⌝ }
+{
+    let kind = literal.kind;
+    let span = literal.span;
+    let code = kind_code(kind);
+    let base = bit_base(code);
+    let right = 0 < base;
+    match test(right, LiteralExpected::BitString, literal, source) {
+        Tested::Passes { start, end } => {
+            let read = read_bits(&source[start..end], base, out);
+            text_of(read, start, Refusal::InvalidBitString(span))
+        }
+        Tested::Barred(refusal) => Text::Refused(refusal),
+    }
+}
+
+// What a temporal literal's token means.
+// Rules out: intervals refused; strings asked (must-fail: first_of_each, second_of_each).
+pub fn as_temporal_text(literal: Literal, source: &[u8], out: &mut [u8]) -> Text
+    ensures { λ r. ⌜ Meets (temporalQuestion literal (now (source .entry)) (now (out .entry))) r (now (out .exit)) ⌝ }
+{
+    let kind = literal.kind;
+    let span = literal.span;
+    let code = kind_code(kind);
+    let right = (8 <= code) & (code <= 11);
+    match test(right, LiteralExpected::Temporal, literal, source) {
+        Tested::Passes { start, end } => {
+            let read = read_temporal(&source[start..end], out);
+            text_of(read, start, Refusal::InvalidString(span))
+        }
+        Tested::Barred(refusal) => Text::Refused(refusal),
+    }
+}

@@ -1,0 +1,17 @@
+-- `spans::tests::test` meets its contract, by whether the kind fits. Assumes nothing.
+use Rattle.spans.proofs.Passing.{fitting, unfitting}
+use borrow.Author.Needs.{needs}
+use Rattle.spans.proofs.tests.test.Statement.{statement}
+use Rattle.spans.proofs.tests.test.Tie as tie
+
+test-source-requires : tie.Need-test-source-requires
+test-source-requires c κs = search needs
+
+returns : tie.Need-returns
+returns c = search fitting
+
+returns-2 : tie.Need-returns-2
+returns-2 c = search unfitting
+
+pub test-spec : {M : Type 1} → statement M
+test-spec = tie.close (tie.spec test-source-requires returns returns-2)

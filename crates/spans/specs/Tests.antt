@@ -1,0 +1,25 @@
+-- What the tests 1 to 4 tell. Assumes nothing.
+use mathlib.Core.Path.{_≡_}
+use mathlib.Core.List.{List}
+use Prim.Native.Nat.{ℕ, _≤_}
+use lib.ListN.{length}
+use Rattle.meaning.specs.declared.Literal.{Literal}
+use Rattle.meaning.specs.Bytes.{part}
+use Rattle.meaning.specs.Questions.{passes, barred}
+use Rattle.meaning.specs.Questions as Definition
+use Rattle.spans.specs.declared.tests.Tested.{Tested}
+use Rattle.spans.specs.declared.tests.Tested.the-variants.{Passes, Barred}
+
+-- the text in a source that a range stands for
+abbrev pub testedOf : List ℕ → Tested → Definition.Tested
+testedOf source (Passes s e) = passes (part s e source)
+testedOf source (Barred r) = barred r
+
+-- a range is the literal's span, and lies in the source
+abbrev pub SpanInside : Literal → ℕ → Tested → Type 0
+SpanInside l n (Passes s e) = (s ≡ l .span .start) × (e ≡ l .span .end) × (s ≤ e) × (e ≤ n)
+SpanInside l n (Barred r) = Unit {0}
+
+pub record Tests (l : Literal) (source : List ℕ) (r : Tested) (x : Definition.Tested) : Type 0 where
+  pub means : testedOf source r ≡ x
+  pub inside : SpanInside l (length source) r

@@ -1,0 +1,68 @@
+// The tests 1 to 4, in their order: kind, source, span, UTF-8.
+use leaves::bytes::byte_at;
+use meaning::Literal;
+use meaning::LiteralExpected;
+use meaning::Refusal;
+use meaning::Span;
+use utf8::check::is_utf8;
+ghost use mathlib.Core.Path.{_≡_};
+ghost use Rattle.meaning.specs.Questions.{cutsCharacter, badSpan, sourceText, tested};
+ghost use Rattle.spans.specs.Tests.{Tests};
+
+// The text of a literal, from a place of the source up to another; or why there is none.
+pub enum Tested {
+    Passes { start: usize, end: usize },
+    Barred(Refusal),
+}
+
+// Whether a place cuts a character: it is below the source's length, and its byte is 80 to BF hex.
+fn cuts_character(source: &[u8], at: usize) -> bool
+    ensures { λ r. ⌜ r ≡ cutsCharacter at (now (source .entry)) ⌝ }
+{
+    let byte = byte_at(source, at);
+    (at < source.len()) & ((0x80 <= byte) & (byte <= 0xBF))
+}
+
+// Whether a span is no span of the source: backwards, past the end, or cutting a character at either place.
+fn is_bad_span(span: Span, source: &[u8]) -> bool
+    ensures { λ r. ⌜ r ≡ badSpan span (now (source .entry)) ⌝ }
+{
+    let start = span.start as usize;
+    let end = span.end as usize;
+    (end < start)
+        | (source.len() < end)
+        | cuts_character(source, start)
+        | cuts_character(source, end)
+}
+
+// The tests 2, 3 and 4: the literal stands in a source, its span is one of the source, and its text is UTF-8.
+// Rules out: one reason given for another; a part of the text given (must-fail: text_left_out, wrong_reason).
+pub fn test_source(literal: Literal, source: &[u8]) -> Tested
+    ensures { λ r. ⌜ Tests literal (now (source .entry)) r (sourceText literal (now (source .entry))) ⌝ }
+{
+    let span = literal.span;
+    if literal.synthetic {
+        return Tested::Barred(Refusal::MissingSource(span));
+    }
+    if is_bad_span(span, source) {
+        return Tested::Barred(Refusal::InvalidSourceRange(span));
+    }
+    let start = span.start as usize;
+    let end = span.end as usize;
+    if is_utf8(&source[start..end]) {
+        return Tested::Passes { start, end };
+    }
+    Tested::Barred(Refusal::NotUtf8(span))
+}
+
+// The tests 1 to 4: `right` says whether the kind fits the question, which expects `expected`.
+// Rules out: the kind passed over; another family told (must-fail: another_expected, kind_passed_over).
+pub fn test(right: bool, expected: LiteralExpected, literal: Literal, source: &[u8]) -> Tested
+    ensures { λ r. ⌜ Tests literal (now (source .entry)) r (tested right expected literal (now (source .entry))) ⌝ }
+{
+    if right {
+        return test_source(literal, source);
+    }
+    let kind = literal.kind;
+    Tested::Barred(Refusal::WrongKind(expected, kind))
+}
