@@ -17,7 +17,7 @@ pub(crate) fn negated_low(lo: u64) -> u64
 }
 
 // The high half of the negation, which wraps, and which the low half borrows from unless it is zero.
-// Rules out: no carry into the high half.
+// Rules out: no carry into the high half (must-fail: no_carry_into_high).
 pub(crate) fn negated_high(hi: u64, lo: u64) -> u64
     ensures { λ r. ⌜ r ≡ negatedHigh hi lo ⌝ }
 {
@@ -29,7 +29,8 @@ pub(crate) fn negated_high(hi: u64, lo: u64) -> u64
 }
 
 // The 128 bits of the number with this sign and this magnitude, if it is a signed number of 128 bits.
-// Rules out: limits off by one, on each side.
+// Rules out: limits off by one, on each side (must-fail: halves_above_greatest_accepted, halves_greatest_refused, halves_below_least_accepted,
+// halves_least_refused).
 fn signed_halves(minus: bool, hi: u64, lo: u64) -> Halves
     ensures { λ r. ⌜ r ≡ halvesOf (within-bits 127 (int (signed minus (joinedHalves hi lo)))) ⌝ }
 {
@@ -69,6 +70,7 @@ fn negated_halves(hi: u64, lo: u64) -> Halves
 }
 
 // A sign or none, then digits of base 2, 8 or 16 with `_` between two of them.
+// Rules out: this sign, the second of the text, passed over (must-fail: second_sign_lost).
 fn read_signed_halves(text: &[u8], base: u32) -> Halves
     requires { ⌜ radixBy base ≡ base ⌝ }
     ensures { λ r. ⌜ r ≡ halvesOf (parsedApart 127 base (now (text .entry))) ⌝ }

@@ -1,6 +1,6 @@
 -- The sign and the radix prefix at the front of a text. Assumes nothing.
 use mathlib.Core.Path.{_≡_, refl, ap, sym, _∙_}
-use mathlib.Core.Bool.{Bool, true, false}
+use mathlib.Core.Bool.{Bool, true, false, _||_, false≢true}
 use mathlib.Core.List.{List, [], _∷_}
 use Prim.Native.Nat.{ℕ, suc, _-_, _≤_, _<_}
 use native.Mathlib.Nat.{le-of-eq}
@@ -19,18 +19,24 @@ unfolding isMinus signLength
 sign-none [] h = (refl, refl)
 sign-none (b ∷ t) h = absurd (omega arith)
 
-module _ (t : List ℕ) where
-  pub sign-minus : getD t 0 0 ≡ 45 → (true ≡ isMinus t) × (1 ≡ signLength t)
-  unfolding isMinus signLength
-  sign-minus e = rw e (refl, refl)
+pub sign-there : (t : List ℕ) → (eqb (getD t 0 0) 45 || eqb (getD t 0 0) 43) ≡ true → (eqb (getD t 0 0) 45 ≡ isMinus t) × (1 ≡ signLength t)
+unfolding isMinus signLength
+sign-there t e = (refl, go (eqb (t ! 0) 43) (eqb (t ! 0) 45) e)
+  where
+    go : (x y : Bool) → (y || x) ≡ true → _≡_ {A = ℕ} 1 (if x || (y || false) then 1 else 0)
+    go true y e = refl
+    go false true e = refl
+    go false false e = absurd (false≢true e)
 
-  pub sign-plus : getD t 0 0 ≡ 43 → (false ≡ isMinus t) × (1 ≡ signLength t)
-  unfolding isMinus signLength
-  sign-plus e = rw e (refl, refl)
-
-  pub sign-other : (getD t 0 0 ≡ 45 → ⊥) → (getD t 0 0 ≡ 43 → ⊥) → (false ≡ isMinus t) × (0 ≡ signLength t)
-  unfolding isMinus signLength
-  sign-other m p = (sym (ne-eqb (t ! 0) 45 m), rw (ne-eqb (t ! 0) 43 p, ne-eqb (t ! 0) 45 m))
+pub sign-other : (t : List ℕ) → (eqb (getD t 0 0) 45 || eqb (getD t 0 0) 43) ≡ false → (false ≡ isMinus t) × (0 ≡ signLength t)
+unfolding isMinus signLength
+sign-other t e = go (eqb (t ! 0) 43) (eqb (t ! 0) 45) e
+  where
+    go : (x y : Bool) → (y || x) ≡ false → (false ≡ y) × _≡_ {A = ℕ} 0 (if x || (y || false) then 1 else 0)
+    go false false e = (refl, refl)
+    go true true e = absurd (false≢true (sym e))
+    go true false e = absurd (false≢true (sym e))
+    go false true e = absurd (false≢true (sym e))
 
 pub sign-inside : (t : List ℕ) (s : ℕ) → s ≡ signLength t → s ≤ length t
 unfolding signLength

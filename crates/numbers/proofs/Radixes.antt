@@ -11,7 +11,7 @@ use lib.ListN.{length, take, drop}
 use Rattle.meaning.specs.Bytes.{if_then_else_, within, digit}
 use Rattle.meaning.specs.Numbers.{signLength, unsigned}
 use Rattle.meaning.specs.Halves.{joinedHalves}
-use Rattle.laws.proofs.Tests.{within-bounds, within-yes, within-below, within-above, within-outside}
+use Rattle.laws.proofs.Tests.{within-bounds, within-below, within-above, within-outside}
 use Rattle.numbers.specs.Values.{Spelt, misspelt, spelt, digitsFrom, capped, radixBy, halvesBy, wideOf}
 use Rattle.numbers.specs.declared.radix.Halves.{Halves}
 use Rattle.numbers.specs.declared.radix.Halves.the-variants as H

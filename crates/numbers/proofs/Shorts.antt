@@ -1,5 +1,5 @@
 -- A text that is nothing but digits of base ten: the loop over it, and that it has no sign and no radix prefix. Assumes nothing.
-use mathlib.Core.Path.{_≡_, refl, ap, sym, _∙_, subst}
+use mathlib.Core.Path.{_≡_, refl, ap, sym, subst}
 use mathlib.Core.Bool.{Bool, true, false, _||_, false≢true}
 use mathlib.Core.List.{List, [], _∷_}
 use Prim.Native.Nat.{ℕ, zero, suc, _+_, _-_, _*_, _^_, _≤_, _<_}
@@ -8,7 +8,7 @@ use native.Mathlib.Nat.{pow-le-pow-right, lt-of-lt-of-le, lt-of-le-of-lt, le-add
 use native.Mathlib.Numerals.{add-one}
 use native.Mathlib.Omega.{arith}
 use borrow.Author.Count.{below-more}
-use borrow.Author.Tests.{lt-ltb, ltb-false, ne-eqb, eq-eqb}
+use borrow.Author.Tests.{lt-ltb, ltb-false, ne-eqb}
 use lib.Dec.{eqb, ltb, lit≤}
 use lib.ListN.{length, getD}
 use mir.Syntax.{w64}
@@ -17,7 +17,7 @@ use Rattle.meaning.specs.Bytes.{if_then_else_, _!_, within, digit, number, allD
 use Rattle.meaning.specs.Numbers.{signLength, isMinus, baseBy, radixPrefix}
 use Rattle.laws.proofs.Tests.{within-bounds}
 use Rattle.laws.proofs.Digits.{DigitsTo, allDigits-of, allDigits-at, number-suc, number-lt}
-use Rattle.numbers.specs.Values.{Spelt, spelt, digitsFrom, shortOf}
+use Rattle.numbers.specs.Values.{spelt, digitsFrom, shortOf}
 use Rattle.numbers.specs.declared.digits.Magnitude.the-variants as M
 
 -- THE LOOP of `read_short`. Too short or too long a text
