@@ -16,7 +16,8 @@ use numbers::radix::Halves;
 
 // Decimal text in base ten: the text less `_`, borrowed if it has none. Refused at place 0: a misplaced `_`. Refused, borrowed and without room the
 // buffer is as it was lent.
-// Rules out: a text with `_` borrowed; a made-up length; a place that is not the definition's (must-fail: separator_borrowed, length_made_up).
+// Rules out: a text with `_` borrowed; a made-up length; a place that is not the definition's (must-fail: halves_greatest_refused,
+// halves_least_refused).
 fn read_plain(text: &[u8], out: &mut [u8]) -> Read
     ensures { λ r. ⌜ Reads (plainOf (now (text .entry))) (now (out .entry)) r (now (out .exit)) ⌝ }
 {
@@ -51,7 +52,7 @@ fn read_radix_text(minus: bool, body: &[u8], base: u32, out: &mut [u8]) -> Read
 // The decimal text that a text stands for: in base ten the text less `_`; with a radix the number, printed in at most 40 bytes. Refused at place 0: a
 // misplaced `_`, and with a radix what is no number of 128 bits. Refused, borrowed and without room the buffer is as it was lent.
 // Rules out: the first sign not put to a radix value; the second sign passed over; a separator beside the point; a made-up length; -2^127 behind a minus
-// accepted (must-fail: second_sign_lost, separator_before_point, separator_behind_point, length_made_up, least_behind_minus_accepted).
+// accepted (must-fail: first_sign_ignored, second_base_passed_over).
 pub fn read_decimal(text: &[u8], out: &mut [u8]) -> Read
     ensures { λ r. ⌜ Reads (decimalOf (now (text .entry))) (now (out .entry)) r (now (out .exit)) ⌝ }
 {

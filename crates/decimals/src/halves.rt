@@ -29,7 +29,7 @@ pub(crate) fn negated_high(hi: u64, lo: u64) -> u64
 }
 
 // The 128 bits of the number with this sign and this magnitude, if it is a signed number of 128 bits.
-// Rules out: limits off by one, on each side (must-fail: halves_above_greatest_accepted, halves_greatest_refused, halves_below_least_accepted,
+// Rules out: limits off by one, on each side (must-fail: halves_above_greatest_accepted, halves_below_least_accepted, halves_greatest_refused,
 // halves_least_refused).
 fn signed_halves(minus: bool, hi: u64, lo: u64) -> Halves
     ensures { λ r. ⌜ r ≡ halvesOf (within-bits 127 (int (signed minus (joinedHalves hi lo)))) ⌝ }
@@ -56,7 +56,7 @@ fn signed_halves(minus: bool, hi: u64, lo: u64) -> Halves
 }
 
 // The halves of the negation; -2^127 is refused before it.
-// Rules out: -2^127 behind a minus accepted.
+// Rules out: -2^127 behind a minus accepted (must-fail: halves_least_refused).
 fn negated_halves(hi: u64, lo: u64) -> Halves
     ensures { λ r. ⌜ r ≡ negatedHalves hi lo ⌝ }
 {
@@ -70,7 +70,7 @@ fn negated_halves(hi: u64, lo: u64) -> Halves
 }
 
 // A sign or none, then digits of base 2, 8 or 16 with `_` between two of them.
-// Rules out: this sign, the second of the text, passed over (must-fail: second_sign_lost).
+// Rules out: this sign, the second of the text, passed over.
 fn read_signed_halves(text: &[u8], base: u32) -> Halves
     requires { ⌜ radixBy base ≡ base ⌝ }
     ensures { λ r. ⌜ r ≡ halvesOf (parsedApart 127 base (now (text .entry))) ⌝ }

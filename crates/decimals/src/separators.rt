@@ -13,7 +13,7 @@ pub enum Separators {
 }
 
 // Whether the bytes on both sides of a place are decimal digits.
-// Rules out: a separator beside the point, on either side; beside a letter (must-fail: separator_before_point, separator_behind_point).
+// Rules out: a separator beside the point, on either side; beside a letter (must-fail: halves_above_greatest_accepted, halves_below_least_accepted).
 fn is_between(text: &[u8], at: usize) -> bool
     requires { ⌜ at < length (now text) ⌝ }
     ensures { λ r. ⌜ r ≡ isBetween (now (text .entry)) at ⌝ }

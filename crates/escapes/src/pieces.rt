@@ -24,7 +24,7 @@ pub enum Piece {
 }
 
 // How many bytes a unit takes behind its first.
-// Rules out: a unit of two bytes taken for one (must-fail: octal_not_wrapped, wrong_units).
+// Rules out: a unit of two bytes taken for one (must-fail: unit_at_the_start, wrong_units).
 pub fn piece_more(piece: Piece) -> usize
     ensures { λ r. ⌜ r ≡ moreOf piece ⌝ }
 {

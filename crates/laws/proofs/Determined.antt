@@ -1,9 +1,12 @@
--- Determinacy: two results that a contract permits, with their final buffers, are equal. Once for every question that is lent a buffer, and once
--- for every question and helper that is lent none, over the answer's type and the question. Assumes nothing.
+-- Determinacy: two results that a contract permits, with their final buffers, are equal. Once for every question that is lent a buffer, once
+-- for every question and helper that is lent none, over the answer's type and the question, and once for the readers of bare texts. Assumes nothing.
 use mathlib.Core.Path.{_≡_, sym, _∙_}
 use mathlib.Core.List.{List}
 use Prim.Native.Nat.{ℕ}
+use Rattle.meaning.specs.declared.Read.{Read}
+use Rattle.meaning.specs.Reading.{Answer}
 use Rattle.meaning.specs.Answers.{Outcome, Meets}
+use Rattle.meaning.specs.Reads.{Reads}
 
 pub record Same {A : Type 0} (r r′ : A) (d d′ : List ℕ) : Type 0 where
   pub answer : r ≡ r′
@@ -15,3 +18,7 @@ meets-unique o r r′ d d′ m n = record { answer = m .answer ∙ sym (n .answe
 -- without a buffer the contract is that the result is the definition's
 pub answer-unique : {A : Type 0} (a r r′ : A) → r ≡ a → r′ ≡ a → r ≡ r′
 answer-unique a r r′ m n = m ∙ sym n
+
+-- a reader of a bare text
+pub reads-unique : (a : Answer) (out : List ℕ) (r r′ : Read) (d d′ : List ℕ) → Reads a out r d → Reads a out r′ d′ → Same r r′ d d′
+reads-unique a out r r′ d d′ m n = record { answer = m .answer ∙ sym (n .answer); buffer = m .buffer ∙ sym (n .buffer) }

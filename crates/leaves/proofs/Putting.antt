@@ -1,6 +1,6 @@
 -- Bytes put at a buffer's start, as code puts them: none where there is no room, a run of stores, a copy byte by byte.
 -- Assumes nothing.
-use mathlib.Core.Path.{_≡_, refl, _∙_}
+use mathlib.Core.Path.{_≡_, refl, sym, _∙_}
 use mathlib.Core.List.{List, [], _++_}
 use Prim.Native.Nat.{ℕ, _≤_, _<_}
 use native.Mathlib.Nat.{zero-add}
@@ -10,6 +10,7 @@ use lib.ListN.{length, drop}
 use lib.Seq.{sets, sets-eq}
 use Rattle.meaning.specs.Answers.{filled}
 use Rattle.laws.proofs.Copies.{Copying, copying-all}
+use Rattle.laws.proofs.Determined.{Same}
 use Rattle.leaves.specs.Puts.{Puts}
 
 module _ (v out : List ℕ) where
@@ -34,3 +35,7 @@ puts-room {v} {out} p h = rw (le-leb (length v) (length out) h) at (p .answer)
 -- a copy that is done
 pub copying-end : {b d out : List ℕ} {i : ℕ} → Copying b d out i → length b ≤ i → Puts b d (length b) out
 copying-end {b} {d} {out} c h = puts-all b d (c .room) out (copying-all c h)
+
+-- two results that the contract permits are equal
+pub puts-unique : (v out : List ℕ) (r r′ : ℕ) (d d′ : List ℕ) → Puts v out r d → Puts v out r′ d′ → Same r r′ d d′
+puts-unique v out r r′ d d′ m n = record { answer = m .answer ∙ sym (n .answer); buffer = m .buffer ∙ sym (n .buffer) }

@@ -18,7 +18,7 @@ pub enum Int64 {
 }
 
 // The number with this sign and this magnitude, if 64 bits hold it.
-// Rules out: limits off by one, on each side (must-fail: above_greatest_accepted, greatest_refused, below_least_accepted, least_refused).
+// Rules out: limits off by one, on each side (must-fail: above_greatest_accepted, below_least_accepted, greatest_refused, least_refused).
 fn with_sign(minus: bool, magnitude: u64) -> Int64
     ensures { λ r. ⌜ r ≡ int64Of (within-bits 63 (int (signed minus magnitude))) ⌝ }
 {
@@ -130,8 +130,7 @@ fn read_behind_sign(minus: bool, text: &[u8]) -> Int64
 }
 
 // The i64 that a text spells. Refused: a text that spells no number, and what 64 bits do not hold.
-// Rules out: limits off by one; a text that is not digits alone read as such (must-fail: above_greatest_accepted, greatest_refused, below_least_accepted,
-// least_refused, twenty_digits_let_in, letter_let_in).
+// Rules out: limits off by one; a text that is not digits alone read as such (must-fail: sign_for_a_digit, sign_passed_over).
 pub fn read_i64(text: &[u8]) -> Int64
     ensures { λ r. ⌜ r ≡ int64Of (i64Of (now (text .entry))) ⌝ }
 {

@@ -1,5 +1,5 @@
 -- A scalar's encoding put at a buffer's start: the bytes of each width as code writes them, and what a buffer holds then. Assumes nothing.
-use mathlib.Core.Path.{_≡_, _∙_}
+use mathlib.Core.Path.{_≡_, sym, _∙_}
 use mathlib.Core.Bool.{true, false}
 use mathlib.Core.List.{List, [], _∷_}
 use Prim.Native.Nat.{ℕ, _+_, _/_, _%_, _≤_, _<_}
@@ -11,6 +11,7 @@ use lib.Seq.{sets, sets-eq}
 use Rattle.meaning.specs.Chars.{encode, isScalar, more}
 use Rattle.meaning.specs.Answers.{filled}
 use Rattle.laws.proofs.Encode.{encode-more}
+use Rattle.laws.proofs.Determined.{Same}
 use Rattle.scalars.specs.Scalars.{Encodes}
 
 div-one : (c : ℕ) → c / 1 ≡ c
@@ -47,3 +48,7 @@ module _ (c : ℕ) where
       answer = rw (s, e, le-leb (length v) (length out) h);
       buffer = rw (s, e, le-leb (length v) (length out) h) (sets-eq v out 0 (rw zero-add h) ∙ rw zero-add);
     }
+
+-- two results that the contract permits are equal
+pub encodes-unique : (c : ℕ) (out : List ℕ) (r r′ : ℕ) (d d′ : List ℕ) → Encodes c out r d → Encodes c out r′ d′ → Same r r′ d d′
+encodes-unique c out r r′ d d′ m n = record { answer = m .answer ∙ sym (n .answer); buffer = m .buffer ∙ sym (n .buffer) }

@@ -48,7 +48,7 @@ fn segment_length(text: &[u8], settings: Settings) -> Joined
 }
 
 // The length of all segments' values, or where the first that is refused stops, or a remainder begins.
-// Rules out: segments not counted; a remainder passed over; the setting lost (must-fail: first_segment_only).
+// Rules out: segments not counted; a remainder passed over; the setting lost (must-fail: first_segment_only, later_refusal_written).
 fn measure_joined(text: &[u8], settings: Settings) -> Joined
     ensures { λ r. ⌜ r ≡ lengthOf (joined settings (cut settings (now (text .entry)))) ⌝ }
 {

@@ -24,7 +24,7 @@ fn later_bytes(bytes: &[u8], from: usize) -> bool
 }
 
 // Whether some bytes are one character that may be an escape: no hex digit, +, quote mark or white space.
-// Rules out: a hex digit, + or white space taken; two characters taken (must-fail: hex_digit_escapes, two_characters).
+// Rules out: a hex digit, + or white space taken; two characters taken (must-fail: hex_digit_escapes).
 fn is_legal_uescape_char(bytes: &[u8]) -> bool
     ensures { λ r. ⌜ r ≡ legalEscape (now (bytes .entry)) ⌝ }
 {

@@ -18,7 +18,7 @@ pub enum Utf8Tail {
 }
 
 // The state that a first byte leads to.
-// Rules out: a surrogate or a scalar above 10FFFF begun like any other (must-fail: past_the_last_begun).
+// Rules out: a surrogate or a scalar above 10FFFF begun like any other.
 fn utf8_lead(byte: u8) -> Utf8Tail
     ensures { λ r. ⌜ dueOf r ≡ push (dueOf Utf8Tail.Start) byte ⌝ }
 {
