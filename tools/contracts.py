@@ -2,8 +2,8 @@
 """The table of docs/CONTRACTS.md: every public function with its contract, what it rules out and the wrong programs that the gate tries.
 
     tools/contracts.py            writes the table anew, behind its mark
-    tools/contracts.py --check    exits 1 if the table is not what the sources say, or if a public function has no contract, asks something of its caller,
-                                  or has fewer than two wrong programs under must-fail/
+    tools/contracts.py --check    exits 1 if the table is not what the sources say, if a public function has no contract, asks something of its caller or has
+                                  fewer than two wrong programs under must-fail/, or if an edit no longer fits its file
 
 A program (a crate whose root has fn main) has no public function. `out` is a lent buffer before the call and `out′` behind it.
 """
@@ -15,7 +15,7 @@ import sys
 os.chdir(os.path.join(os.path.dirname(os.path.abspath(__file__)), '..'))
 PAGE = 'docs/CONTRACTS.md'
 MARK = '<!-- from here on written by tools/contracts.py -->\n\n'
-HEAD = '| function | contract, on the result `r` | wrong programs that the gate tries, and the edit of each |\n|---|---|---|\n'
+HEAD = '| function | contract, on the result `r` | wrong programs, and the edit of each |\n|---|---|---|\n'
 
 
 def listed():
@@ -23,11 +23,29 @@ def listed():
         return [line.split(':')[0] for line in f if ':' in line and not line.startswith('#')]
 
 
+def edits():
+    """the edits that the gate tries, then the wider ones"""
+    return sorted(glob.glob('crates/*/must-fail/*.edit')) + sorted(glob.glob('crates/*/must-fail/wider/*.edit'))
+
+
+def unfit():
+    """the edits of which a text to be replaced does not stand in its file just once"""
+    for edit in edits():
+        crate, path = edit.split('/')[1], ''
+        with open(edit) as f:
+            for line in f.read().split('\n'):
+                if line.startswith('file: '):
+                    with open(f'crates/{crate}/{line[6:]}') as g:
+                        path = g.read()
+                elif line.startswith('old: ') and path.count(line[5:]) != 1:
+                    yield f'{edit}: {line}: {path.count(line[5:])} times'
+
+
 def wrong_programs():
     """function -> what is wrong with each of its wrong programs, and the label of the edit that holds it"""
     wrong = {}
-    for edit in sorted(glob.glob('crates/*/must-fail/*.edit')):
-        label = os.path.basename(edit)[:-len('.edit')]
+    for edit in edits():
+        label = edit.split('/must-fail/')[1][:-len('.edit')]
         with open(edit) as f:
             for function, why in re.findall(r'^refused: (\S+)\nwhy: (.*)$', f.read(), re.M):
                 wrong.setdefault(function, []).append((why, label))
@@ -70,7 +88,7 @@ def cell(text):
 
 
 def main():
-    wrong, rows, faults = wrong_programs(), [], []
+    wrong, rows, faults = wrong_programs(), [], list(unfit())
     for crate in listed():
         if os.path.exists(f'crates/{crate}/src/main.rt'):
             continue
