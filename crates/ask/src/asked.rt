@@ -1,9 +1,11 @@
 // What is asked. A literal is all of its source.
 use crate::said::say;
 use crate::said::say_bool;
+use crate::said::say_charset;
 use crate::said::say_identifier;
 use crate::said::say_integer;
 use crate::said::say_question;
+use crate::said::say_range;
 use crate::said::say_refusal;
 use crate::said::say_text;
 use crate::said::say_writing;
@@ -24,6 +26,9 @@ use meaning::Truth;
 use numbers::prefix::split_radix_prefix;
 use questions::parts::as_money_text;
 use questions::parts::charset_introducer;
+use questions::parts::charset_range;
+use questions::parts::money_range;
+use questions::parts::source_range;
 use questions::parts::source_text;
 use questions::texts::as_bit_text;
 use questions::texts::as_decimal_text;
@@ -117,19 +122,28 @@ pub(crate) fn texts() {
     say_text(source, &out, answer);
 }
 
-// Parts of the source: they come back as a part of it.
+// Parts of the source: they come back as a part of it, and their sisters tell from where to where.
 pub(crate) fn parts() {
     let amount = b"$12.50";
+    let money = whole(LiteralKind::Money, amount);
     say_question(b"money", amount);
-    say(as_money_text(whole(LiteralKind::Money, amount), amount));
-    say(b"\n");
+    say(as_money_text(money, amount));
+    say(b"\nmoney, its range: ");
+    say_range(money_range(money, amount));
     let named = b"_utf8mb4'a'";
+    let string = whole(LiteralKind::String, named);
     say_question(b"charset", named);
-    say(charset_introducer(whole(LiteralKind::String, named), named));
-    say(b"\n");
+    say(charset_introducer(string, named));
+    say(b"\ncharset, its range: ");
+    say_charset(charset_range(string, named));
+    let plain = b"'a'";
+    say_question(b"charset, its range,", plain);
+    say_charset(charset_range(whole(LiteralKind::String, plain), plain));
+    let null = whole(LiteralKind::Null, named);
     say_question(b"source text", named);
-    say(source_text(whole(LiteralKind::Null, named), named));
-    say(b"\n");
+    say(source_text(null, named));
+    say(b"\nsource text, its range: ");
+    say_range(source_range(null, named));
 }
 
 fn ask_i64(source: &[u8], expected: i64, spelled: &[u8]) {

@@ -1,7 +1,9 @@
 // Printing: a question with its text, and an answer.
 use libc::STDOUT_FILENO;
+use meaning::Charset;
 use meaning::Identifier;
 use meaning::Integer;
+use meaning::Range;
 use meaning::Refusal;
 use meaning::Text;
 use meaning::Writing;
@@ -60,6 +62,38 @@ pub(crate) fn say_integer(answer: Integer, expected: i64, spelled: &[u8]) {
             say(b"\n");
         }
         Integer::Refused(refusal) => {
+            say_refusal(refusal);
+        }
+    }
+}
+
+fn say_places(start: usize, end: usize) {
+    say_number(start as u64);
+    say(b" to ");
+    say_number(end as u64);
+    say(b"\n");
+}
+
+pub(crate) fn say_range(answer: Range) {
+    match answer {
+        Range::Found { start, end } => {
+            say_places(start, end);
+        }
+        Range::Refused(refusal) => {
+            say_refusal(refusal);
+        }
+    }
+}
+
+pub(crate) fn say_charset(answer: Charset) {
+    match answer {
+        Charset::Named { start, end } => {
+            say_places(start, end);
+        }
+        Charset::Unnamed => {
+            say(b"none\n");
+        }
+        Charset::Refused(refusal) => {
             say_refusal(refusal);
         }
     }
