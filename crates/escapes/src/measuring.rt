@@ -20,6 +20,7 @@ pub enum Measured {
     Refused(usize),
 }
 
+// Whether what a family's body stands for is checked to be UTF-8.
 fn is_checked(family: Family) -> bool
     ensures { λ r. ⌜ r ≡ checks family ⌝ }
 {
@@ -44,6 +45,7 @@ fn next_tail(checked: bool, tail: Utf8Tail, piece: Piece, byte: u8, escape: &[u8
     tail
 }
 
+// What a body's value is: the body itself, so many bytes, or the place of the unit at which reading stops.
 // Rules out: a body with a doubled mark called plain; a refusal placed behind its unit (must-fail: escaped_is_plain, unit_one_longer).
 pub fn measure(body: &[u8], family: Family, escape: &[u8]) -> Measured
     ensures { λ r. ⌜ r ≡ measuredOf (courseOf family (now (escape .entry)) (now (body .entry))) ⌝ }

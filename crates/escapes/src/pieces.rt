@@ -42,6 +42,7 @@ pub fn piece_more(piece: Piece) -> usize
     }
 }
 
+// Whether a unit is a byte that stands for itself.
 pub(crate) fn is_keep(piece: Piece) -> bool
     ensures { λ r. ⌜ r ≡ isKeep piece ⌝ }
 {

@@ -34,6 +34,7 @@ fn put_piece(piece: Piece, byte: u8, escape: &[u8], out: &mut [u8]) -> usize
     }
 }
 
+// One byte at the buffer's start, and how many were put.
 fn put_byte(byte: u8, out: &mut [u8]) -> usize
     ensures { λ r. ⌜ Puts (byte ∷ []) (now (out .entry)) r (now (out .exit)) ⌝ }
 {
@@ -44,6 +45,7 @@ fn put_byte(byte: u8, out: &mut [u8]) -> usize
     1
 }
 
+// Two bytes at the buffer's start, and how many were put.
 fn put_two(first: u8, second: u8, out: &mut [u8]) -> usize
     ensures { λ r. ⌜ Puts (first ∷ second ∷ []) (now (out .entry)) r (now (out .exit)) ⌝ }
 {
@@ -54,6 +56,7 @@ fn put_two(first: u8, second: u8, out: &mut [u8]) -> usize
     out[1] = second;
     2
 }
+
 // Writes a body's value, for which there is room, and says how long it is.
 pub(crate) fn write(body: &[u8], family: Family, escape: &[u8], out: &mut [u8]) -> usize
     requires { ⌜ Room (courseOf family (now escape) (now body)) (length (now out)) ⌝ }
