@@ -9,6 +9,7 @@ ghost use Prim.Native.Nat.{_≤_};
 ghost use Rattle.meaning.specs.Records.{kindOf};
 
 // Time zones are unspecified, interval data absent.
+// Rules out: floats and decimals by one kind (must-fail: first_of_each).
 pub(crate) fn kind_of(code: u8) -> LiteralKind
     requires { ⌜ (1 ≤ code) × (code ≤ 14) ⌝ }
     ensures { λ r. ⌜ r ≡ kindOf code ⌝ }

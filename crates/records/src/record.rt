@@ -26,6 +26,7 @@ ghost use Rattle.records.specs.Adding.{Adds};
 ghost use Rattle.records.specs.Goods.{Good};
 
 // Whether every byte is 0.
+// Rules out: ones for zeros (must-fail: first_of_each).
 fn is_all_zero(bytes: &[u8]) -> bool
     ensures { λ r. ⌜ r ≡ allZero (now (bytes .entry)) ⌝ }
 {
@@ -40,23 +41,24 @@ fn is_all_zero(bytes: &[u8]) -> bool
 }
 
 // Whether 64 bytes are a question, a kind, a setting, a length, and a text with zeros behind it.
-fn is_good_record(record: &[u8]) -> bool
-    ensures { λ r. ⌜ r ≡ goodRecord (now («record» .entry)) ⌝ }
+// Rules out: money's kind refused (must-fail: second_of_each).
+fn is_good_record(bytes: &[u8]) -> bool
+    ensures { λ r. ⌜ r ≡ goodRecord (now (bytes .entry)) ⌝ }
 {
-    if record.len() != 64 {
+    if bytes.len() != 64 {
         return false;
     }
-    let question = record[0];
-    let kind = record[1];
-    let len = record[3] as usize;
+    let question = bytes[0];
+    let kind = bytes[1];
+    let len = bytes[3] as usize;
     if 60 < len {
         return false;
     }
     (1 <= question)
         & (question <= 7)
         & ((1 <= kind) & (kind <= 14))
-        & (record[2] <= 1)
-        & is_all_zero(&record[4 + len..])
+        & (bytes[2] <= 1)
+        & is_all_zero(&bytes[4 + len..])
 }
 
 // A string's line, at the record's setting.
@@ -132,43 +134,45 @@ fn asked_line(
 }
 
 // The line of a record that is good.
-fn good_line(record: &[u8], row: &mut [u8]) -> usize
-    requires { ⌜ (Good (now «record»)) × (length (now row) ≡ 192) ⌝ }
-    ensures { λ r. ⌜ Adds (recordLine (now («record» .entry))) (now (row .entry)) 0 (now (row .exit)) r ⌝ }
+// Rules out: the setting turned (must-fail: setting_turned).
+fn good_line(bytes: &[u8], row: &mut [u8]) -> usize
+    requires { ⌜ (Good (now bytes)) × (length (now row) ≡ 192) ⌝ }
+    ensures { λ r. ⌜ Adds (recordLine (now (bytes .entry))) (now (row .entry)) 0 (now (row .exit)) r ⌝ }
 {
-    let len = record[3] as usize;
+    let len = bytes[3] as usize;
     let end = 4 + len;
     let literal = Literal {
-        kind: kind_of(record[1]),
+        kind: kind_of(bytes[1]),
         synthetic: false,
         span: Span {
             start: 0,
-            end: record[3] as u32,
+            end: bytes[3] as u32,
         },
     };
     let settings = Settings {
-        backslash: record[2] == 1,
+        backslash: bytes[2] == 1,
     };
-    asked_line(record[0], literal, &record[4..end], settings, row)
+    asked_line(bytes[0], literal, &bytes[4..end], settings, row)
 }
 
 // The line of any record.
-fn make_line(record: &[u8], row: &mut [u8]) -> usize
+// Rules out: 9 for 10 (must-fail: nine_for_ten).
+fn make_line(bytes: &[u8], row: &mut [u8]) -> usize
     requires { ⌜ length (now row) ≡ 192 ⌝ }
-    ensures { λ r. ⌜ Adds (recordLine (now («record» .entry))) (now (row .entry)) 0 (now (row .exit)) r ⌝ }
+    ensures { λ r. ⌜ Adds (recordLine (now (bytes .entry))) (now (row .entry)) 0 (now (row .exit)) r ⌝ }
 {
-    if is_good_record(record) {
-        return good_line(record, row);
+    if is_good_record(bytes) {
+        return good_line(bytes, row);
     }
     bare_line(10, 45, row)
 }
 
 // Puts a record's line at the buffer's start and says how long it is; where there is no room it puts nothing and says 0.
-// Rules out: the line told one byte short; a bad record answered (must-fail: first_of_each, second_of_each).
-pub fn record_line(record: &[u8], out: &mut [u8]) -> usize
-    ensures { λ r. ⌜ Puts (recordLine (now («record» .entry))) (now (out .entry)) r (now (out .exit)) ⌝ }
+// Rules out: nothing put; the line's first byte put alone (must-fail: nothing_put, first_byte_put).
+pub fn record_line(bytes: &[u8], out: &mut [u8]) -> usize
+    ensures { λ r. ⌜ Puts (recordLine (now (bytes .entry))) (now (out .entry)) r (now (out .exit)) ⌝ }
 {
     let mut row = [0u8; 192];
-    let n = make_line(record, &mut row);
+    let n = make_line(bytes, &mut row);
     put_bytes(&row[..n], out)
 }

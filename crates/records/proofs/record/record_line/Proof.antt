@@ -16,7 +16,7 @@ array-share-prefix-row : tie.Need-array-share-prefix-row
 array-share-prefix-row c = search needs
 
 slice-aggregate-put-bytes : tie.Need-slice-aggregate-put-bytes
-slice-aggregate-put-bytes c = sym (length-take-le _ _ (c .before .before .make-line .ensures .inside))
+slice-aggregate-put-bytes c = sym (length-take-le _ _ (search needs))
 
 put-bytes-requires : tie.Need-put-bytes-requires
 put-bytes-requires c κs = search needs
