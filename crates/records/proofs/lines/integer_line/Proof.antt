@@ -1,0 +1,50 @@
+-- `records::lines::integer_line` meets its contract, case by case. Assumes nothing.
+use Rattle.records.proofs.Answering.{integer-value, integer-refused}
+use borrow.Author.Needs.{needs}
+use Rattle.records.proofs.lines.integer_line.Statement.{statement}
+use Rattle.records.proofs.lines.integer_line.Tie as tie
+
+enum-known-answer : tie.Need-enum-known-answer
+enum-known-answer c = search needs
+
+value-line-requires : tie.Need-value-line-requires
+value-line-requires c κs = search needs
+
+enum-known-answer-2 : tie.Need-enum-known-answer-2
+enum-known-answer-2 c = search needs
+
+refusal-number-requires : tie.Need-refusal-number-requires
+refusal-number-requires c κs = search needs
+
+cast-bare-line : tie.Need-cast-bare-line
+cast-bare-line c = search needs
+
+bare-line-requires : tie.Need-bare-line-requires
+bare-line-requires c κs = search needs
+
+same-length : tie.Need-same-length
+same-length c = search needs
+
+returns : tie.Need-returns
+returns c = search integer-value
+
+same-length-2 : tie.Need-same-length-2
+same-length-2 c = search needs
+
+returns-2 : tie.Need-returns-2
+returns-2 c = search integer-refused
+
+pub integer-line-spec : {M : Type 1} → statement M
+integer-line-spec =
+    tie.close
+    (tie.spec
+    enum-known-answer
+    value-line-requires
+    enum-known-answer-2
+    refusal-number-requires
+    cast-bare-line
+    bare-line-requires
+    same-length
+    returns
+    same-length-2
+    returns-2)
