@@ -1,0 +1,189 @@
+/*
+ * valdrabus: reads the literals of SQL dumps, and writes plain ones.
+ *
+ * Link libvaldrabus.a (made by `rt staticlib valdrabus`, x86-64). No function allocates, keeps a pointer, or has any state.
+ *
+ * WHAT THE CALLER OWES, and no more:
+ *   - a pointer with a length is valid for that many bytes, for reading, and for writing where it is not const; with the length 0 it is any pointer but NULL;
+ *   - a pointer to a number (how, first, second, value, len ..) is valid for writing and aligned;
+ *   - what is written through (the buffer, each lent number) overlaps nothing else that is given.
+ * Everything else is tested: every kind, span, source, setting and buffer gets an answer or a number.
+ *
+ * A LITERAL is given by four numbers: its kind's code (VALDRABUS_KIND_..), 1 if it stands in no source and else 0 (synthetic), and where its text begins and ends
+ * in the source, in bytes. Time zones and interval data decide nothing, so they are not asked for.
+ *
+ * A SETTING is 1 where MySQL's backslash escapes hold in strings without a prefix, else 0.
+ *
+ * NUMBERS. A function that can refuse returns a number:
+ *    0  answered
+ *    1  the kind does not fit the question         first: what was expected (VALDRABUS_EXPECTED_..), second: the kind's code
+ *    2  the literal stands in no source            first, second: its span
+ *    3  start > end, end past the source, or either place cuts a character       first, second: its span
+ *    4  the text (for the writer: the value) is not UTF-8                        first, second: its span; 0 and 0 without a literal
+ *    5  not a readable integer                     first, second: its span
+ *    6  not a readable string                      first, second: its span; 0 and 0 without a literal
+ *    7  not a readable bit string                  first, second: its span
+ *    8  not a money text                           first, second: its span
+ *    9  would be written, and the buffer is shorter                              first: 0, second: the length needed
+ *   10  a number that is given names nothing: an unknown kind, or a mark or setting that is neither 0 nor 1       first, second: 0
+ *   11  writer: NUL with the setting 0
+ *   12  writer: more than 268435456 bytes, or a part size below 4
+ * 10 is tested before all others; then 1, 2, 3, 4, then 5 to 8, then 9. The writer tests 10, 12, 4, 11, 9.
+ *
+ * WHAT STAYS UNCHANGED. On any number but 0, and on a borrowed answer, the buffer is byte for byte as it was lent. A written answer fills the buffer's start; the rest
+ * is unchanged. The lent numbers (how, first, second ..) are written by every call, with 0 where nothing else is said.
+ *
+ * HOW a text is answered:
+ *   VALDRABUS_NONE      no text: a refusal, or no charset's name
+ *   VALDRABUS_BORROWED  the bytes first to second (second not included) of the source
+ *   VALDRABUS_WRITTEN   the bytes first (which is 0) to second of the buffer
+ */
+#ifndef VALDRABUS_H
+#define VALDRABUS_H
+
+#include <stdbool.h>
+#include <stddef.h>
+#include <stdint.h>
+
+#ifdef __cplusplus
+extern "C" {
+#endif
+
+enum {
+    VALDRABUS_KIND_INTEGER = 1,
+    VALDRABUS_KIND_FLOAT = 2,
+    VALDRABUS_KIND_DECIMAL = 3,
+    VALDRABUS_KIND_STRING = 4,
+    VALDRABUS_KIND_TRUE = 5,
+    VALDRABUS_KIND_FALSE = 6,
+    VALDRABUS_KIND_NULL = 7,
+    VALDRABUS_KIND_DATE = 8,
+    VALDRABUS_KIND_TIME = 9,
+    VALDRABUS_KIND_TIMESTAMP = 10,
+    VALDRABUS_KIND_INTERVAL = 11,
+    VALDRABUS_KIND_BINARY_BITS = 12,
+    VALDRABUS_KIND_HEX_BITS = 13,
+    VALDRABUS_KIND_MONEY = 14
+};
+
+enum {
+    VALDRABUS_EXPECTED_INTEGER = 1,
+    VALDRABUS_EXPECTED_DECIMAL_TEXT = 2,
+    VALDRABUS_EXPECTED_STRING = 3,
+    VALDRABUS_EXPECTED_BOOLEAN = 4,
+    VALDRABUS_EXPECTED_NULL = 5,
+    VALDRABUS_EXPECTED_TEMPORAL = 6,
+    VALDRABUS_EXPECTED_BIT_STRING = 7,
+    VALDRABUS_EXPECTED_MONEY = 8
+};
+
+enum {
+    VALDRABUS_OK = 0,
+    VALDRABUS_WRONG_KIND = 1,
+    VALDRABUS_MISSING_SOURCE = 2,
+    VALDRABUS_INVALID_SOURCE_RANGE = 3,
+    VALDRABUS_NOT_UTF8 = 4,
+    VALDRABUS_INVALID_INTEGER = 5,
+    VALDRABUS_INVALID_STRING = 6,
+    VALDRABUS_INVALID_BIT_STRING = 7,
+    VALDRABUS_INVALID_MONEY = 8,
+    VALDRABUS_NO_ROOM = 9,
+    VALDRABUS_BAD_NUMBER = 10,
+    VALDRABUS_HOLDS_NUL = 11,
+    VALDRABUS_OVER_LIMIT = 12
+};
+
+enum {
+    VALDRABUS_NONE = 0,
+    VALDRABUS_BORROWED = 1,
+    VALDRABUS_WRITTEN = 2
+};
+
+/* TEXTS: a part of the source, or written into the buffer. */
+
+/* What a string literal means at a setting. 1, 2, 3, 4, 6, 9, 10. */
+uint32_t valdrabus_as_str_in(uint32_t kind, uint32_t synthetic, uint32_t start, uint32_t end, const uint8_t *source, size_t source_len,
+                             uint32_t setting, uint8_t *out, size_t out_len, uint32_t *how, size_t *first, size_t *second);
+
+/* A number's decimal text (integer, float, decimal). 1, 2, 3, 4, 5, 9, 10. A buffer of 40 bytes holds every radix value; without a radix prefix the text is no longer
+   than the literal's. */
+uint32_t valdrabus_as_decimal_text(uint32_t kind, uint32_t synthetic, uint32_t start, uint32_t end, const uint8_t *source, size_t source_len,
+                                   uint8_t *out, size_t out_len, uint32_t *how, size_t *first, size_t *second);
+
+/* A bit string's digits. 1, 2, 3, 4, 7, 9, 10. */
+uint32_t valdrabus_as_bit_text(uint32_t kind, uint32_t synthetic, uint32_t start, uint32_t end, const uint8_t *source, size_t source_len,
+                               uint8_t *out, size_t out_len, uint32_t *how, size_t *first, size_t *second);
+
+/* What the quoted token of a date, time, timestamp or interval means, at the setting 0. 1, 2, 3, 4, 6, 9, 10. */
+uint32_t valdrabus_as_temporal_text(uint32_t kind, uint32_t synthetic, uint32_t start, uint32_t end, const uint8_t *source, size_t source_len,
+                                    uint8_t *out, size_t out_len, uint32_t *how, size_t *first, size_t *second);
+
+/* PARTS of the source: never written. */
+
+/* A literal's text, of any kind. 2, 3, 4, 10. */
+uint32_t valdrabus_source_text(uint32_t kind, uint32_t synthetic, uint32_t start, uint32_t end, const uint8_t *source, size_t source_len,
+                               uint32_t *how, size_t *first, size_t *second);
+
+/* A money literal's text behind its $. 1, 2, 3, 4, 8, 10. */
+uint32_t valdrabus_as_money_text(uint32_t kind, uint32_t synthetic, uint32_t start, uint32_t end, const uint8_t *source, size_t source_len,
+                                 uint32_t *how, size_t *first, size_t *second);
+
+/* The name of a string literal's character set; with the number 0 and how 0 it names none. 1, 2, 3, 4, 10. */
+uint32_t valdrabus_charset_introducer(uint32_t kind, uint32_t synthetic, uint32_t start, uint32_t end, const uint8_t *source, size_t source_len,
+                                      uint32_t *how, size_t *first, size_t *second);
+
+/* VALUES */
+
+/* An integer literal's value; 0 on a refusal. 1, 2, 3, 4, 5, 10. */
+uint32_t valdrabus_as_i64(uint32_t kind, uint32_t synthetic, uint32_t start, uint32_t end, const uint8_t *source, size_t source_len,
+                          int64_t *value, size_t *first, size_t *second);
+
+/* A boolean literal's value, 1 or 0; 0 on a refusal. It reads no source, so it asks for the kind alone. 1, 10. */
+uint32_t valdrabus_as_bool(uint32_t kind, uint32_t *value, size_t *first, size_t *second);
+
+/* That a literal is NULL. 1, 10. */
+uint32_t valdrabus_as_null(uint32_t kind, size_t *first, size_t *second);
+
+/* Whether a literal is NULL; false for a code that names no kind. */
+bool valdrabus_is_null(uint32_t kind);
+
+/* THE VIEW of an answer by how, first and second, for a source and a buffer of these lengths: it returns which of the two it shows (VALDRABUS_NONE, _BORROWED, _WRITTEN) and the
+   range in it. A range that does not fit, or a refusal, shows an empty part: VALDRABUS_NONE, 0, 0. */
+uint32_t valdrabus_view(uint32_t how, size_t first, size_t second, size_t source_len, size_t out_len, size_t *from, size_t *until);
+
+/* THE WRITER */
+
+/* A value as one plain literal at a setting. len: the text's length, also the length needed with 9, else 0. 4, 9, 10, 11, 12. */
+uint32_t valdrabus_write_literal(const uint8_t *value, size_t value_len, uint32_t setting, uint8_t *out, size_t out_len, size_t *len);
+
+/* The same in parts of at most part_size bytes of the value, a space between. 4, 9, 10, 11, 12. */
+uint32_t valdrabus_write_parts(const uint8_t *value, size_t value_len, size_t part_size, uint32_t setting, uint8_t *out, size_t out_len, size_t *len);
+
+/* HELPERS, on bare text */
+
+/* The base that a number's first two bytes choose, 2, 8, 10 or 16; start: where the digits begin. It looks at no sign. */
+uint32_t valdrabus_split_radix_prefix(const uint8_t *text, size_t text_len, size_t *start);
+
+/* Whether a quoted argument holds a legal UESCAPE character and nothing else. */
+bool valdrabus_uescape_argument_is_legal(const uint8_t *text, size_t text_len);
+
+/* Whether an E string can be read; true for other UTF-8 text. */
+bool valdrabus_postgres_escape_string_is_valid(const uint8_t *text, size_t text_len);
+
+/* Whether a U& string can be read; true for other UTF-8 text. */
+bool valdrabus_unicode_escape_string_is_valid(const uint8_t *text, size_t text_len);
+
+/* Whether a text holds a raw NUL. */
+bool valdrabus_string_literal_embeds_nul(const uint8_t *text, size_t text_len);
+
+/* Whether a text begins as a U& identifier. */
+bool valdrabus_is_unicode_ident(const uint8_t *text, size_t text_len);
+
+/* An identifier's text, a part of the given text or written into the buffer. 4, 6, 9. */
+uint32_t valdrabus_materialize_unicode_ident(const uint8_t *text, size_t text_len, uint8_t *out, size_t out_len, uint32_t *how, size_t *first, size_t *second);
+
+#ifdef __cplusplus
+}
+#endif
+
+#endif
