@@ -1,5 +1,4 @@
 // [01 Record program litrec] A record of 64 bytes, and the line that answers it.
-mod kinds;
 mod lines;
 mod printing;
 mod pushing;

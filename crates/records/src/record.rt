@@ -1,5 +1,4 @@
 // [01 Record program litrec] A record and its line.
-use crate::kinds::kind_of;
 use crate::lines::bare_line;
 use crate::lines::charset_line;
 use crate::lines::integer_line;
@@ -16,6 +15,7 @@ use questions::texts::as_decimal_text;
 use questions::texts::as_str_in;
 use questions::texts::as_temporal_text;
 use questions::values::as_i64;
+use spans::kinds::kind_of;
 ghost use mathlib.Core.Path.{_≡_};
 ghost use Prim.Native.Nat.{_≤_};
 ghost use lib.ListN.{length};
@@ -142,7 +142,7 @@ fn good_line(bytes: &[u8], row: &mut [u8]) -> usize
     let len = bytes[3] as usize;
     let end = 4 + len;
     let literal = Literal {
-        kind: kind_of(bytes[1]),
+        kind: kind_of(bytes[1] as u32),
         synthetic: false,
         span: Span {
             start: 0,

@@ -16,14 +16,17 @@ add-end c = search needs
 shared-slice-read-kind-of : tie.Need-shared-slice-read-kind-of
 shared-slice-read-kind-of c = search needs
 
+cast-kind-of : tie.Need-cast-kind-of
+cast-kind-of c = search needs
+
 kind-of-requires : tie.Need-kind-of-requires
 kind-of-requires c κs = search needs
 
-shared-slice-read-t12 : tie.Need-shared-slice-read-t12
-shared-slice-read-t12 c = search needs
+shared-slice-read-t13 : tie.Need-shared-slice-read-t13
+shared-slice-read-t13 c = search needs
 
-cast-t13 : tie.Need-cast-t13
-cast-t13 c = search needs
+cast-t14 : tie.Need-cast-t14
+cast-t14 c = search needs
 
 shared-slice-read-t8 : tie.Need-shared-slice-read-t8
 shared-slice-read-t8 c = search needs
@@ -57,9 +60,10 @@ good-line-spec =
     cast-len
     add-end
     shared-slice-read-kind-of
+    cast-kind-of
     kind-of-requires
-    shared-slice-read-t12
-    cast-t13
+    shared-slice-read-t13
+    cast-t14
     shared-slice-read-t8
     shared-slice-read-asked-line
     sub-asked-line

@@ -1,0 +1,164 @@
+-- A call: numbers that name nothing are refused with 10, and the buffer is as lent; else the answer is the question's own. Assumes nothing.
+use mathlib.Core.Path.{_≡_, refl, sym, ap, _∙_}
+use mathlib.Core.Bool.{Bool, true, false, _&&_, not, false≢true}
+use mathlib.Core.List.{List}
+use Prim.Native.Nat.{ℕ, _≤_, _<_}
+use lib.Dec.{leb}
+use lib.IntN.{pos}
+use borrow.Author.Tests.{le-leb, lt-leb}
+use Rattle.meaning.specs.declared.Settings.{Settings}
+use Rattle.meaning.specs.declared.Literal.{Literal}
+use Rattle.meaning.specs.declared.Text.{Text}
+use Rattle.meaning.specs.declared.Range.{Range}
+use Rattle.meaning.specs.declared.Charset.{Charset}
+use Rattle.meaning.specs.declared.Integer.{Integer}
+use Rattle.meaning.specs.declared.Truth.{Truth}
+use Rattle.meaning.specs.declared.Nullness.{Nullness}
+use Rattle.meaning.specs.declared.Writing.{Writing}
+use Rattle.meaning.specs.declared.PartSize.{PartSize}
+use Rattle.meaning.specs.Records.{kindOf}
+use Rattle.meaning.specs.Answers.{Outcome, Meets}
+use Rattle.meaning.specs.Questions.{stringQuestion, decimalQuestion, bitsQuestion, temporalQuestion, sourceQuestion, moneyQuestion, charsetQuestion, i64Question, boolQuestion, nullQuestion, isNull}
+use Rattle.meaning.specs.Writer.{writeQuestion}
+use Rattle.valdrabus.specs.declared.told.Told.{Told}
+use Rattle.valdrabus.specs.declared.counted.Counted.{Counted}
+use Rattle.valdrabus.specs.Literals.{isKnown, literalOf, settingsOf}
+use Rattle.valdrabus.specs.Numbers.{numberTold, textTold, rangeTold, charsetTold, truthTold, nullnessTold, writingTold}
+use Rattle.valdrabus.specs.Calls.{outcomeTold, called, calledBare, calledCount, countedOf, stringCall, decimalCall, bitsCall, temporalCall, sourceCall, moneyCall, charsetCall, i64Call, boolCall, nullCall, isNullCall, writeCall}
+
+-- WITH A BUFFER
+unknown : (b known : Bool) → b ≡ known → not b ≡ true → (out : List ℕ) (o : Outcome Told) (t : Told) → t ≡ numberTold 10 → Meets (called known out o) t out
+unknown b true e h out o t p = absurd (false≢true (sym (ap not e) ∙ h))
+unknown b false e h out o t p = record { answer = p; buffer = refl }
+
+answered : {A : Type 0} (b known : Bool) → b ≡ known → not b ≡ false → (f : A → Told) (q : Outcome A) (out after : List ℕ) (a : A) → Meets q a after → (t : Told)
+    → t ≡ f a → Meets (called known out (outcomeTold f q)) t after
+answered b true e h f q out after a m t p = record { answer = p ∙ ap f (m .answer); buffer = m .buffer }
+answered b false e h f q out after a m t p = absurd (false≢true (sym h ∙ ap not e))
+
+-- WITHOUT
+unknown-bare : (b known : Bool) → b ≡ known → not b ≡ true → (t o : Told) → t ≡ numberTold 10 → t ≡ calledBare known o
+unknown-bare b true e h t o p = absurd (false≢true (sym (ap not e) ∙ h))
+unknown-bare b false e h t o p = p
+
+answered-bare : (b known : Bool) → b ≡ known → not b ≡ false → (t o : Told) → t ≡ o → t ≡ calledBare known o
+answered-bare b true e h t o p = p
+answered-bare b false e h t o p = absurd (false≢true (sym h ∙ ap not e))
+
+unknown-count : (b known : Bool) → b ≡ known → not b ≡ true → (t : Told) (n : Counted) → t ≡ numberTold 10
+    → _≡_ {A = Counted} (record { told = t; value = pos 0 }) (calledCount known n)
+unknown-count b true e h t n p = absurd (false≢true (sym (ap not e) ∙ h))
+unknown-count b false e h t n p = ap (λ (x : Told). record { told = x; value = pos 0 }) p
+
+answered-count : (b known : Bool) → b ≡ known → not b ≡ false → (n o : Counted) → n ≡ o → n ≡ calledCount known o
+answered-count b true e h n o p = p
+answered-count b false e h n o p = absurd (false≢true (sym h ∙ ap not e))
+
+module _ (k y s e σ : ℕ) (S out : List ℕ) (b : Bool) (known : b ≡ isKnown k y σ) where
+  pub string-unknown : not b ≡ true → (t : Told) → t ≡ numberTold 10 → Meets (stringCall k y s e S σ out) t out
+  unfolding stringCall
+  string-unknown h t p = unknown b (isKnown k y σ) known h out (outcomeTold textTold (stringQuestion (literalOf k y s e) S (settingsOf σ) out)) t p
+
+  pub string-answered : not b ≡ false → (l : Literal) → l ≡ literalOf k y s e → (g : Settings) → g ≡ settingsOf σ → (a : Text) (after : List ℕ)
+      → Meets (stringQuestion l S g out) a after → (t : Told) → t ≡ textTold a → Meets (stringCall k y s e S σ out) t after
+  unfolding stringCall
+  string-answered h l p g q a after m t w =
+      answered b (isKnown k y σ) known h textTold (stringQuestion (literalOf k y s e) S (settingsOf σ) out) out after a (rw (← p, ← q) m) t w
+
+module _ (k y s e : ℕ) (S : List ℕ) (b : Bool) (known : b ≡ isKnown k y 0) where
+  pub decimal-unknown : not b ≡ true → (out : List ℕ) (t : Told) → t ≡ numberTold 10 → Meets (decimalCall k y s e S out) t out
+  unfolding decimalCall
+  decimal-unknown h out t p = unknown b (isKnown k y 0) known h out (outcomeTold textTold (decimalQuestion (literalOf k y s e) S out)) t p
+
+  pub decimal-answered : not b ≡ false → (l : Literal) → l ≡ literalOf k y s e → (out : List ℕ) (a : Text) (after : List ℕ) → Meets (decimalQuestion l S out) a after
+      → (t : Told) → t ≡ textTold a → Meets (decimalCall k y s e S out) t after
+  unfolding decimalCall
+  decimal-answered h l p out a after m t w = answered b (isKnown k y 0) known h textTold (decimalQuestion (literalOf k y s e) S out) out after a (rw (← p) m) t w
+
+  pub bits-unknown : not b ≡ true → (out : List ℕ) (t : Told) → t ≡ numberTold 10 → Meets (bitsCall k y s e S out) t out
+  unfolding bitsCall
+  bits-unknown h out t p = unknown b (isKnown k y 0) known h out (outcomeTold textTold (bitsQuestion (literalOf k y s e) S out)) t p
+
+  pub bits-answered : not b ≡ false → (l : Literal) → l ≡ literalOf k y s e → (out : List ℕ) (a : Text) (after : List ℕ) → Meets (bitsQuestion l S out) a after
+      → (t : Told) → t ≡ textTold a → Meets (bitsCall k y s e S out) t after
+  unfolding bitsCall
+  bits-answered h l p out a after m t w = answered b (isKnown k y 0) known h textTold (bitsQuestion (literalOf k y s e) S out) out after a (rw (← p) m) t w
+
+  pub temporal-unknown : not b ≡ true → (out : List ℕ) (t : Told) → t ≡ numberTold 10 → Meets (temporalCall k y s e S out) t out
+  unfolding temporalCall
+  temporal-unknown h out t p = unknown b (isKnown k y 0) known h out (outcomeTold textTold (temporalQuestion (literalOf k y s e) S out)) t p
+
+  pub temporal-answered : not b ≡ false → (l : Literal) → l ≡ literalOf k y s e → (out : List ℕ) (a : Text) (after : List ℕ) → Meets (temporalQuestion l S out) a after
+      → (t : Told) → t ≡ textTold a → Meets (temporalCall k y s e S out) t after
+  unfolding temporalCall
+  temporal-answered h l p out a after m t w = answered b (isKnown k y 0) known h textTold (temporalQuestion (literalOf k y s e) S out) out after a (rw (← p) m) t w
+
+  pub source-unknown : not b ≡ true → (t : Told) → t ≡ numberTold 10 → t ≡ sourceCall k y s e S
+  unfolding sourceCall
+  source-unknown h t p = unknown-bare b (isKnown k y 0) known h t (rangeTold (sourceQuestion (literalOf k y s e) S)) p
+
+  pub source-answered : not b ≡ false → (l : Literal) → l ≡ literalOf k y s e → (a : Range) → a ≡ sourceQuestion l S → (t : Told) → t ≡ rangeTold a → t ≡ sourceCall k y s e S
+  unfolding sourceCall
+  source-answered h l p a q t w = answered-bare b (isKnown k y 0) known h t (rangeTold (sourceQuestion (literalOf k y s e) S)) (w ∙ ap rangeTold q ∙ ap (λ (x : Literal). rangeTold (sourceQuestion x S)) p)
+
+  pub money-unknown : not b ≡ true → (t : Told) → t ≡ numberTold 10 → t ≡ moneyCall k y s e S
+  unfolding moneyCall
+  money-unknown h t p = unknown-bare b (isKnown k y 0) known h t (rangeTold (moneyQuestion (literalOf k y s e) S)) p
+
+  pub money-answered : not b ≡ false → (l : Literal) → l ≡ literalOf k y s e → (a : Range) → a ≡ moneyQuestion l S → (t : Told) → t ≡ rangeTold a → t ≡ moneyCall k y s e S
+  unfolding moneyCall
+  money-answered h l p a q t w = answered-bare b (isKnown k y 0) known h t (rangeTold (moneyQuestion (literalOf k y s e) S)) (w ∙ ap rangeTold q ∙ ap (λ (x : Literal). rangeTold (moneyQuestion x S)) p)
+
+  pub charset-unknown : not b ≡ true → (t : Told) → t ≡ numberTold 10 → t ≡ charsetCall k y s e S
+  unfolding charsetCall
+  charset-unknown h t p = unknown-bare b (isKnown k y 0) known h t (charsetTold (charsetQuestion (literalOf k y s e) S)) p
+
+  pub charset-answered : not b ≡ false → (l : Literal) → l ≡ literalOf k y s e → (a : Charset) → a ≡ charsetQuestion l S → (t : Told) → t ≡ charsetTold a → t ≡ charsetCall k y s e S
+  unfolding charsetCall
+  charset-answered h l p a q t w = answered-bare b (isKnown k y 0) known h t (charsetTold (charsetQuestion (literalOf k y s e) S)) (w ∙ ap charsetTold q ∙ ap (λ (x : Literal). charsetTold (charsetQuestion x S)) p)
+
+  pub i64-unknown : not b ≡ true → (t : Told) → t ≡ numberTold 10 → _≡_ {A = Counted} (record { told = t; value = pos 0 }) (i64Call k y s e S)
+  unfolding i64Call
+  i64-unknown h t p = unknown-count b (isKnown k y 0) known h t (countedOf (i64Question (literalOf k y s e) S)) p
+
+  pub i64-answered : not b ≡ false → (l : Literal) → l ≡ literalOf k y s e → (a : Integer) → a ≡ i64Question l S → (n : Counted) → n ≡ countedOf a
+      → n ≡ i64Call k y s e S
+  unfolding i64Call
+  i64-answered h l p a q n w =
+      answered-count b (isKnown k y 0) known h n (countedOf (i64Question (literalOf k y s e) S)) (w ∙ ap countedOf q ∙ ap (λ (x : Literal). countedOf (i64Question x S)) p)
+
+-- BY THE KIND ALONE
+module _ (k : ℕ) (b : Bool) (known : b ≡ isKnown k 0 0) where
+  pub bool-unknown : not b ≡ true → (t : Told) → t ≡ numberTold 10 → t ≡ boolCall k
+  unfolding boolCall
+  bool-unknown h t p = unknown-bare b (isKnown k 0 0) known h t (truthTold (boolQuestion (kindOf k))) p
+
+  pub bool-answered : not b ≡ false → (l : Literal) → l ≡ literalOf k 0 0 0 → (a : Truth) → a ≡ boolQuestion (l .kind) → (t : Told) → t ≡ truthTold a → t ≡ boolCall k
+  unfolding boolCall
+  bool-answered h l p a q t w =
+      answered-bare b (isKnown k 0 0) known h t (truthTold (boolQuestion (kindOf k))) (w ∙ ap truthTold q ∙ ap (λ (x : Literal). truthTold (boolQuestion (x .kind))) p)
+
+  pub null-unknown : not b ≡ true → (t : Told) → t ≡ numberTold 10 → t ≡ nullCall k
+  unfolding nullCall
+  null-unknown h t p = unknown-bare b (isKnown k 0 0) known h t (nullnessTold (nullQuestion (kindOf k))) p
+
+  pub null-answered : not b ≡ false → (l : Literal) → l ≡ literalOf k 0 0 0 → (a : Nullness) → a ≡ nullQuestion (l .kind) → (t : Told) → t ≡ nullnessTold a → t ≡ nullCall k
+  unfolding nullCall
+  null-answered h l p a q t w =
+      answered-bare b (isKnown k 0 0) known h t (nullnessTold (nullQuestion (kindOf k))) (w ∙ ap nullnessTold q ∙ ap (λ (x : Literal). nullnessTold (nullQuestion (x .kind))) p)
+
+  pub is-null-called : (l : Literal) → l ≡ literalOf k 0 0 0 → (n : Bool) → n ≡ isNull (l .kind) → b && n ≡ isNullCall k
+  unfolding isNullCall
+  is-null-called l p n q = ap (λ (x : Bool). x && n) known ∙ ap (λ (x : Bool). isKnown k 0 0 && x) (q ∙ ap (λ (x : Literal). isNull (x .kind)) p)
+
+-- THE WRITER
+module _ (p : PartSize) (v : List ℕ) (σ : ℕ) (out : List ℕ) where
+  pub write-unknown : 1 < σ → (t : Told) → t ≡ numberTold 10 → Meets (writeCall p v σ out) t out
+  unfolding writeCall
+  write-unknown h t q = unknown false (leb σ 1) (sym (lt-leb σ 1 h)) refl out (outcomeTold writingTold (writeQuestion (settingsOf σ) p v out)) t q
+
+  pub write-answered : σ ≤ 1 → (g : Settings) → g ≡ settingsOf σ → (a : Writing) (after : List ℕ) → Meets (writeQuestion g p v out) a after → (t : Told)
+      → t ≡ writingTold a → Meets (writeCall p v σ out) t after
+  unfolding writeCall
+  write-answered h g q a after m t w =
+      answered true (leb σ 1) (sym (le-leb σ 1 h)) refl writingTold (writeQuestion (settingsOf σ) p v out) out after a (rw (← q) m) t w

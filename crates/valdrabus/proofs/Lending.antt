@@ -1,0 +1,51 @@
+-- The numbers lent out are those that were told. Assumes nothing.
+use mathlib.Core.Path.{_≡_, ap, _∙_}
+use mathlib.Core.List.{List}
+use Prim.Native.Nat.{ℕ}
+use mir.Syntax.{w64}
+use mir.Val.{SFits, toZ, ofZ}
+use mir.Facts.{toZ-ofZ}
+use Rattle.meaning.specs.declared.Identifier.{Identifier}
+use Rattle.meaning.specs.declared.RadixPrefix.{RadixPrefix}
+use Rattle.meaning.specs.Answers.{Outcome, Meets}
+use Rattle.meaning.specs.Questions.{identifierQuestion}
+use Rattle.valdrabus.specs.declared.told.Told.{Told}
+use Rattle.valdrabus.specs.declared.counted.Counted.{Counted}
+use Rattle.valdrabus.specs.declared.views.View.{View}
+use Rattle.valdrabus.specs.Numbers.{identifierTold, Says, Tells}
+use Rattle.valdrabus.specs.Calls.{identifierCall, Counts, Bare, Lengths, Splits}
+use Rattle.valdrabus.specs.Views.{Shows}
+
+module _ (t : Told) where
+  module _ (r how first second : ℕ) (w : Says t r how first second) where
+    pub says-of : (t′ : Told) → t ≡ t′ → Says t′ r how first second
+    says-of t′ p = rw (← p) w
+
+    pub tells-of : (o : Outcome Told) (after : List ℕ) → Meets o t after → Tells o r how first second after
+    tells-of o after m = record { says = says-of (o .answer) (m .answer); buffer = m .buffer }
+
+    pub identifier-tells : (text out after : List ℕ) (a : Identifier) → Meets (identifierQuestion text out) a after → t ≡ identifierTold a
+        → Tells (identifierCall text out) r how first second after
+    unfolding identifierCall
+    identifier-tells text out after a m p = record { says = says-of (identifierTold (identifierQuestion text out .answer)) (p ∙ ap identifierTold (m .answer)); buffer = m .buffer }
+
+  pub bare-of : (t′ : Told) → t ≡ t′ → Bare t′ (t .number) (t .first) (t .second)
+  bare-of t′ p = record { result = ap (λ (x : Told). x .number) p; one = ap (λ (x : Told). x .first) p; two = ap (λ (x : Told). x .second) p }
+
+  pub lengths-of : (o : Outcome Told) (after : List ℕ) → Meets o t after → Lengths o (t .number) (t .second) after
+  lengths-of o after m = record { result = ap (λ (x : Told). x .number) (m .answer); long = ap (λ (x : Told). x .second) (m .answer); buffer = m .buffer }
+
+pub counts-of : (n n′ : Counted) → n ≡ n′ → SFits w64 (n .value) → Counts n′ (n .told .number) (toZ w64 (ofZ w64 (n .value))) (n .told .first) (n .told .second)
+counts-of n n′ p f =
+    record {
+      result = ap (λ (x : Counted). x .told .number) p;
+      counted = toZ-ofZ {w = w64} f ∙ ap (λ (x : Counted). x .value) p;
+      one = ap (λ (x : Counted). x .told .first) p;
+      two = ap (λ (x : Counted). x .told .second) p;
+    }
+
+pub splits-of : (p p′ : RadixPrefix) → p ≡ p′ → Splits p′ (p .base) (p .start)
+splits-of p p′ e = record { base = ap (λ (x : RadixPrefix). x .base) e; digits = ap (λ (x : RadixPrefix). x .start) e }
+
+pub shows-of : (v v′ : View) → v ≡ v′ → Shows v′ (v .which) (v .from) (v .until)
+shows-of v v′ e = record { result = ap (λ (x : View). x .which) e; first = ap (λ (x : View). x .from) e; last = ap (λ (x : View). x .until) e }

@@ -1,0 +1,6 @@
+-- What the proofs of several functions use, and what holds of the contracts.
+mod Telling
+mod Calling
+mod Lending
+mod Viewing
+mod Determined

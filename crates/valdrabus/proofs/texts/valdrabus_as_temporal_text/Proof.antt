@@ -1,0 +1,21 @@
+-- `valdrabus::texts::valdrabus_as_temporal_text` meets its contract. Assumes nothing.
+use Rattle.valdrabus.proofs.Lending.{tells-of}
+use borrow.Author.Needs.{needs}
+use Rattle.valdrabus.proofs.texts.valdrabus_as_temporal_text.Statement.{statement}
+use Rattle.valdrabus.proofs.texts.valdrabus_as_temporal_text.Tie as tie
+
+temporal-called-requires : tie.Need-temporal-called-requires
+temporal-called-requires c κs = search needs
+
+tell-requires : tie.Need-tell-requires
+tell-requires c κs = search needs
+
+same-length : tie.Need-same-length
+same-length c = search needs
+
+returns : tie.Need-returns
+returns c = search tells-of
+
+pub valdrabus-as-temporal-text-spec : {M : Type 1} → statement M
+valdrabus-as-temporal-text-spec =
+    tie.close (tie.spec temporal-called-requires tell-requires same-length returns)

@@ -1,0 +1,42 @@
+-- `valdrabus::told::charset_told` meets its contract, by the answer. Assumes nothing.
+use Rattle.valdrabus.proofs.Telling.{charset-named, charset-unnamed}
+use borrow.Author.Needs.{needs}
+use Rattle.valdrabus.proofs.told.charset_told.Statement.{statement}
+use Rattle.valdrabus.proofs.told.charset_told.Tie as tie
+
+enum-known-answer : tie.Need-enum-known-answer
+enum-known-answer c = search needs
+
+enum-told : tie.Need-enum-told
+enum-told c = search needs
+
+number-told-requires : tie.Need-number-told-requires
+number-told-requires c κs = search needs
+
+enum-known-answer-2 : tie.Need-enum-known-answer-2
+enum-known-answer-2 c = search needs
+
+refusal-told-requires : tie.Need-refusal-told-requires
+refusal-told-requires c κs = search needs
+
+returns : tie.Need-returns
+returns c = search charset-named
+
+returns-2 : tie.Need-returns-2
+returns-2 c = search charset-unnamed
+
+returns-3 : tie.Need-returns-3
+returns-3 c = search needs
+
+pub charset-told-spec : {M : Type 1} → statement M
+charset-told-spec =
+    tie.close
+    (tie.spec
+    enum-known-answer
+    enum-told
+    number-told-requires
+    enum-known-answer-2
+    refusal-told-requires
+    returns
+    returns-2
+    returns-3)

@@ -1,0 +1,58 @@
+-- `valdrabus::told::identifier_told` meets its contract, by the answer. Assumes nothing.
+use Rattle.valdrabus.proofs.Telling.{identifier-borrowed, identifier-number, identifier-room, identifier-written}
+use borrow.Author.Needs.{needs}
+use Rattle.valdrabus.proofs.told.identifier_told.Statement.{statement}
+use Rattle.valdrabus.proofs.told.identifier_told.Tie as tie
+
+enum-known-answer : tie.Need-enum-known-answer
+enum-known-answer c = search needs
+
+enum-known-answer-2 : tie.Need-enum-known-answer-2
+enum-known-answer-2 c = search needs
+
+enum-told : tie.Need-enum-told
+enum-told c = search needs
+
+number-told-requires : tie.Need-number-told-requires
+number-told-requires c κs = search needs
+
+enum-told-2 : tie.Need-enum-told-2
+enum-told-2 c = search needs
+
+number-told-requires-2 : tie.Need-number-told-requires-2
+number-told-requires-2 c κs = search needs
+
+enum-known-answer-3 : tie.Need-enum-known-answer-3
+enum-known-answer-3 c = search needs
+
+returns : tie.Need-returns
+returns c = search identifier-borrowed
+
+returns-2 : tie.Need-returns-2
+returns-2 c = search identifier-written
+
+returns-3 : tie.Need-returns-3
+returns-3 c = search identifier-number
+
+returns-4 : tie.Need-returns-4
+returns-4 c = search identifier-number
+
+returns-5 : tie.Need-returns-5
+returns-5 c = search identifier-room
+
+pub identifier-told-spec : {M : Type 1} → statement M
+identifier-told-spec =
+    tie.close
+    (tie.spec
+    enum-known-answer
+    enum-known-answer-2
+    enum-told
+    number-told-requires
+    enum-told-2
+    number-told-requires-2
+    enum-known-answer-3
+    returns
+    returns-2
+    returns-3
+    returns-4
+    returns-5)

@@ -1,0 +1,38 @@
+-- `valdrabus::told::text_told` meets its contract, by the answer. Assumes nothing.
+use Rattle.valdrabus.proofs.Telling.{text-borrowed, text-written}
+use borrow.Author.Needs.{needs}
+use Rattle.valdrabus.proofs.told.text_told.Statement.{statement}
+use Rattle.valdrabus.proofs.told.text_told.Tie as tie
+
+enum-known-answer : tie.Need-enum-known-answer
+enum-known-answer c = search needs
+
+enum-known-answer-2 : tie.Need-enum-known-answer-2
+enum-known-answer-2 c = search needs
+
+enum-known-answer-3 : tie.Need-enum-known-answer-3
+enum-known-answer-3 c = search needs
+
+refusal-told-requires : tie.Need-refusal-told-requires
+refusal-told-requires c κs = search needs
+
+returns : tie.Need-returns
+returns c = search text-borrowed
+
+returns-2 : tie.Need-returns-2
+returns-2 c = search text-written
+
+returns-3 : tie.Need-returns-3
+returns-3 c = search needs
+
+pub text-told-spec : {M : Type 1} → statement M
+text-told-spec =
+    tie.close
+    (tie.spec
+    enum-known-answer
+    enum-known-answer-2
+    enum-known-answer-3
+    refusal-told-requires
+    returns
+    returns-2
+    returns-3)

@@ -1,0 +1,34 @@
+-- `valdrabus::told::truth_told` meets its contract, by the answer. Assumes nothing.
+use Rattle.valdrabus.proofs.Telling.{truth-value}
+use borrow.Author.Needs.{needs}
+use Rattle.valdrabus.proofs.told.truth_told.Statement.{statement}
+use Rattle.valdrabus.proofs.told.truth_told.Tie as tie
+
+enum-known-answer : tie.Need-enum-known-answer
+enum-known-answer c = search needs
+
+cast-t5 : tie.Need-cast-t5
+cast-t5 c = search needs
+
+enum-known-answer-2 : tie.Need-enum-known-answer-2
+enum-known-answer-2 c = search needs
+
+refusal-told-requires : tie.Need-refusal-told-requires
+refusal-told-requires c κs = search needs
+
+returns : tie.Need-returns
+returns c = search truth-value
+
+returns-2 : tie.Need-returns-2
+returns-2 c = search needs
+
+pub truth-told-spec : {M : Type 1} → statement M
+truth-told-spec =
+    tie.close
+    (tie.spec
+    enum-known-answer
+    cast-t5
+    enum-known-answer-2
+    refusal-told-requires
+    returns
+    returns-2)

@@ -1,0 +1,62 @@
+-- `valdrabus::told::writing_told` meets its contract, by the answer. Assumes nothing.
+use Rattle.valdrabus.proofs.Telling.{writing-number, writing-room, writing-written}
+use borrow.Author.Needs.{needs}
+use Rattle.valdrabus.proofs.told.writing_told.Statement.{statement}
+use Rattle.valdrabus.proofs.told.writing_told.Tie as tie
+
+enum-known-answer : tie.Need-enum-known-answer
+enum-known-answer c = search needs
+
+enum-told : tie.Need-enum-told
+enum-told c = search needs
+
+number-told-requires : tie.Need-number-told-requires
+number-told-requires c κs = search needs
+
+enum-told-2 : tie.Need-enum-told-2
+enum-told-2 c = search needs
+
+number-told-requires-2 : tie.Need-number-told-requires-2
+number-told-requires-2 c κs = search needs
+
+enum-told-3 : tie.Need-enum-told-3
+enum-told-3 c = search needs
+
+number-told-requires-3 : tie.Need-number-told-requires-3
+number-told-requires-3 c κs = search needs
+
+enum-known-answer-2 : tie.Need-enum-known-answer-2
+enum-known-answer-2 c = search needs
+
+returns : tie.Need-returns
+returns c = search writing-written
+
+returns-2 : tie.Need-returns-2
+returns-2 c = search writing-number
+
+returns-3 : tie.Need-returns-3
+returns-3 c = search writing-number
+
+returns-4 : tie.Need-returns-4
+returns-4 c = search writing-number
+
+returns-5 : tie.Need-returns-5
+returns-5 c = search writing-room
+
+pub writing-told-spec : {M : Type 1} → statement M
+writing-told-spec =
+    tie.close
+    (tie.spec
+    enum-known-answer
+    enum-told
+    number-told-requires
+    enum-told-2
+    number-told-requires-2
+    enum-told-3
+    number-told-requires-3
+    enum-known-answer-2
+    returns
+    returns-2
+    returns-3
+    returns-4
+    returns-5)

@@ -1,0 +1,112 @@
+-- What each exported call answers, in numbers: 10 where a number names nothing, else the question's own answer. Assumes nothing.
+use mathlib.Core.Bool.{Bool, true, false, _&&_}
+use mathlib.Core.Path.{_≡_}
+use mathlib.Core.List.{List}
+use Prim.Native.Nat.{ℕ}
+use lib.Dec.{leb}
+use lib.IntN.{ℤ, pos}
+use Rattle.meaning.specs.declared.Integer.{Integer}
+use Rattle.meaning.specs.declared.Integer.the-variants as Integer′
+use Rattle.meaning.specs.declared.PartSize.{PartSize}
+use Rattle.meaning.specs.declared.RadixPrefix.{RadixPrefix}
+use Rattle.meaning.specs.Bytes.{if_then_else_}
+use Rattle.meaning.specs.Records.{kindOf}
+use Rattle.meaning.specs.Answers.{Outcome}
+use Rattle.meaning.specs.Questions.{stringQuestion, decimalQuestion, bitsQuestion, temporalQuestion, sourceQuestion, moneyQuestion, charsetQuestion, i64Question, boolQuestion, nullQuestion, isNull, identifierQuestion}
+use Rattle.meaning.specs.Writer.{writeQuestion}
+use Rattle.valdrabus.specs.declared.told.Told.{Told}
+use Rattle.valdrabus.specs.declared.counted.Counted.{Counted}
+use Rattle.valdrabus.specs.Literals.{isKnown, literalOf, settingsOf}
+use Rattle.valdrabus.specs.Numbers.{numberTold, refusalTold, textTold, rangeTold, charsetTold, truthTold, nullnessTold, identifierTold, writingTold}
+
+-- an answer and its buffer, told in numbers
+abbrev pub outcomeTold : {A : Type 0} → (A → Told) → Outcome A → Outcome Told
+outcomeTold f o = record { answer = f (o .answer); buffer = o .buffer }
+
+-- a call whose numbers name something, or not: then the buffer is as lent
+abbrev pub called : Bool → List ℕ → Outcome Told → Outcome Told
+called true out o = o
+called false out o = record { answer = numberTold 10; buffer = out }
+
+abbrev pub calledBare : Bool → Told → Told
+calledBare true t = t
+calledBare false t = numberTold 10
+
+-- TEXTS: kind, synthetic, start, end, source, (setting,) buffer
+unfoldable pub stringCall : ℕ → ℕ → ℕ → ℕ → List ℕ → ℕ → List ℕ → Outcome Told
+stringCall k y s e source σ out = called (isKnown k y σ) out (outcomeTold textTold (stringQuestion (literalOf k y s e) source (settingsOf σ) out))
+
+unfoldable pub decimalCall : ℕ → ℕ → ℕ → ℕ → List ℕ → List ℕ → Outcome Told
+decimalCall k y s e source out = called (isKnown k y 0) out (outcomeTold textTold (decimalQuestion (literalOf k y s e) source out))
+
+unfoldable pub bitsCall : ℕ → ℕ → ℕ → ℕ → List ℕ → List ℕ → Outcome Told
+bitsCall k y s e source out = called (isKnown k y 0) out (outcomeTold textTold (bitsQuestion (literalOf k y s e) source out))
+
+unfoldable pub temporalCall : ℕ → ℕ → ℕ → ℕ → List ℕ → List ℕ → Outcome Told
+temporalCall k y s e source out = called (isKnown k y 0) out (outcomeTold textTold (temporalQuestion (literalOf k y s e) source out))
+
+-- PARTS of the source
+unfoldable pub sourceCall : ℕ → ℕ → ℕ → ℕ → List ℕ → Told
+sourceCall k y s e source = calledBare (isKnown k y 0) (rangeTold (sourceQuestion (literalOf k y s e) source))
+
+unfoldable pub moneyCall : ℕ → ℕ → ℕ → ℕ → List ℕ → Told
+moneyCall k y s e source = calledBare (isKnown k y 0) (rangeTold (moneyQuestion (literalOf k y s e) source))
+
+unfoldable pub charsetCall : ℕ → ℕ → ℕ → ℕ → List ℕ → Told
+charsetCall k y s e source = calledBare (isKnown k y 0) (charsetTold (charsetQuestion (literalOf k y s e) source))
+
+-- VALUES
+abbrev pub integerValue : Integer → ℤ
+integerValue (Integer′.Value z) = z
+integerValue (Integer′.Refused r) = pos 0
+
+abbrev pub integerTold : Integer → Told
+integerTold (Integer′.Value z) = numberTold 0
+integerTold (Integer′.Refused r) = refusalTold r
+
+abbrev pub countedOf : Integer → Counted
+countedOf a = record { told = integerTold a; value = integerValue a }
+
+abbrev pub calledCount : Bool → Counted → Counted
+calledCount true n = n
+calledCount false n = record { told = numberTold 10; value = pos 0 }
+
+unfoldable pub i64Call : ℕ → ℕ → ℕ → ℕ → List ℕ → Counted
+i64Call k y s e source = calledCount (isKnown k y 0) (countedOf (i64Question (literalOf k y s e) source))
+
+unfoldable pub boolCall : ℕ → Told
+boolCall k = calledBare (isKnown k 0 0) (truthTold (boolQuestion (kindOf k)))
+
+unfoldable pub nullCall : ℕ → Told
+nullCall k = calledBare (isKnown k 0 0) (nullnessTold (nullQuestion (kindOf k)))
+
+unfoldable pub isNullCall : ℕ → Bool
+isNullCall k = isKnown k 0 0 && isNull (kindOf k)
+
+-- THE WRITER, and an identifier: no literal
+unfoldable pub writeCall : PartSize → List ℕ → ℕ → List ℕ → Outcome Told
+writeCall p v σ out = called (leb σ 1) out (outcomeTold writingTold (writeQuestion (settingsOf σ) p v out))
+
+unfoldable pub identifierCall : List ℕ → List ℕ → Outcome Told
+identifierCall t out = outcomeTold identifierTold (identifierQuestion t out)
+
+-- WHAT A CONTRACT SAYS of an integer, of NULL and of the writer, which lend fewer numbers
+pub record Counts (n : Counted) (r : ℕ) (value : ℤ) (first second : ℕ) : Type 0 where
+  pub result : r ≡ n .told .number
+  pub counted : value ≡ n .value
+  pub one : first ≡ n .told .first
+  pub two : second ≡ n .told .second
+
+pub record Bare (t : Told) (r first second : ℕ) : Type 0 where
+  pub result : r ≡ t .number
+  pub one : first ≡ t .first
+  pub two : second ≡ t .second
+
+pub record Lengths (o : Outcome Told) (r len : ℕ) (after : List ℕ) : Type 0 where
+  pub result : r ≡ o .answer .number
+  pub long : len ≡ o .answer .second
+  pub buffer : after ≡ o .buffer
+
+pub record Splits (p : RadixPrefix) (r start : ℕ) : Type 0 where
+  pub base : r ≡ p .base
+  pub digits : start ≡ p .start

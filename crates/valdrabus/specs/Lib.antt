@@ -1,0 +1,4 @@
+pub mod Literals
+pub mod Numbers
+pub mod Calls
+pub mod Views

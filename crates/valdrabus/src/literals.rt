@@ -1,0 +1,34 @@
+// A literal and a setting by their numbers.
+use meaning::Literal;
+use meaning::Settings;
+use meaning::Span;
+use spans::kinds::kind_of;
+ghost use mathlib.Core.Path.{_≡_};
+ghost use Rattle.valdrabus.specs.Literals.{isKnown, literalOf, settingsOf};
+
+// Whether the numbers name a kind, a mark and a setting.
+pub(crate) fn is_known(kind: u32, synthetic: u32, setting: u32) -> bool
+    ensures { λ r. ⌜ r ≡ isKnown kind synthetic setting ⌝ }
+{
+    ((1 <= kind) & (kind <= 14)) & ((synthetic <= 1) & (setting <= 1))
+}
+
+// The literal that four numbers stand for.
+pub(crate) fn literal_of(kind: u32, synthetic: u32, start: u32, end: u32) -> Literal
+    ensures { λ r. ⌜ r ≡ literalOf kind synthetic start end ⌝ }
+{
+    Literal {
+        kind: kind_of(kind),
+        synthetic: synthetic == 1,
+        span: Span { start, end },
+    }
+}
+
+// The setting that a number stands for.
+pub(crate) fn settings_of(setting: u32) -> Settings
+    ensures { λ r. ⌜ r ≡ settingsOf setting ⌝ }
+{
+    Settings {
+        backslash: setting == 1,
+    }
+}

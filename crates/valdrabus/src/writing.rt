@@ -1,0 +1,52 @@
+// The writer: a value as one plain literal, or as several.
+use crate::literals::settings_of;
+use crate::told::Told;
+use crate::told::number_told;
+use crate::told::writing_told;
+use meaning::PartSize;
+use writer::literal::write_literal;
+ghost use Rattle.meaning.specs.declared.PartSize.the-variants.{Whole, AtMost};
+ghost use Rattle.meaning.specs.Answers.{Meets};
+ghost use Rattle.valdrabus.specs.Calls.{writeCall, Lengths};
+
+fn write_called(value: &[u8], size: PartSize, setting: u32, out: &mut [u8]) -> Told
+    ensures { λ r. ⌜ Meets (writeCall size (now (value .entry)) setting (now (out .entry))) r (now (out .exit)) ⌝ }
+{
+    if 1 < setting {
+        return number_told(10);
+    }
+    writing_told(write_literal(value, size, settings_of(setting), out))
+}
+
+// A value as one plain literal.
+// Rules out: the setting passed over; parts of four bytes (must-fail: first_of_each, second_of_each).
+#[no_mangle]
+pub extern "C" fn valdrabus_write_literal(
+    value: &[u8],
+    setting: u32,
+    out: &mut [u8],
+    len: &mut usize,
+) -> u32
+    ensures { λ r. ⌜ Lengths (writeCall Whole (now (value .entry)) setting (now (out .entry))) r (now (len .exit)) (now (out .exit)) ⌝ }
+{
+    let told = write_called(value, PartSize::Whole, setting, out);
+    *len = told.second;
+    told.number
+}
+
+// A value in parts of at most so many bytes, a space between.
+// Rules out: one part for several; the setting passed over (must-fail: first_of_each, second_of_each).
+#[no_mangle]
+pub extern "C" fn valdrabus_write_parts(
+    value: &[u8],
+    part_size: usize,
+    setting: u32,
+    out: &mut [u8],
+    len: &mut usize,
+) -> u32
+    ensures { λ r. ⌜ Lengths (writeCall (AtMost «part_size») (now (value .entry)) setting (now (out .entry))) r (now (len .exit)) (now (out .exit)) ⌝ }
+{
+    let told = write_called(value, PartSize::AtMost(part_size), setting, out);
+    *len = told.second;
+    told.number
+}
