@@ -31,7 +31,11 @@ fn made(root: &Path) -> PathBuf {
     }
     match Command::new("rt").args(["staticlib", "valdrabus"]).env("LC_ALL", "C").current_dir(root).output() {
         Ok(said) if said.status.success() => root.join("target/staticlib/libvaldrabus.a"),
-        Ok(said) => fail(&format!("rt staticlib valdrabus failed\n{}{}", String::from_utf8_lossy(&said.stdout), String::from_utf8_lossy(&said.stderr))),
+        Ok(said) => fail(&format!(
+            "rt staticlib valdrabus failed\n{}{}",
+            String::from_utf8_lossy(&said.stdout),
+            String::from_utf8_lossy(&said.stderr)
+        )),
         Err(why) => fail(&format!("rt cannot be run ({why}), and VALDRABUS_ARCHIVE names no archive")),
     }
 }

@@ -57,8 +57,9 @@ mod writer;
 
 pub use errors::Error;
 pub use helpers::{
-    is_unicode_ident, materialize_unicode_ident, materialize_unicode_ident_bytes, postgres_escape_string_is_valid, split_radix_prefix,
-    split_radix_prefix_bytes, string_literal_embeds_nul, to_unicode_ident, uescape_argument_is_legal, unicode_escape_string_is_valid,
+    is_unicode_ident, materialize_unicode_ident, materialize_unicode_ident_bytes, postgres_escape_string_is_valid,
+    split_radix_prefix, split_radix_prefix_bytes, string_literal_embeds_nul, to_unicode_ident,
+    uescape_argument_is_legal, unicode_escape_string_is_valid,
 };
 pub use in_bytes::InBytes;
 pub use kinds::{BitStringRadix, Expected, IntervalFields, Kind, TimeZone};

@@ -10,7 +10,11 @@ use std::borrow::Cow;
 const SMALL: usize = 128;
 
 /// Asks with a small buffer, and once more with the length needed where that is too short.
-pub(crate) fn cow<'s>(literal: Option<&Literal>, source: &'s str, ask: impl Fn(&mut [u8]) -> Said) -> Result<Cow<'s, str>, Error> {
+pub(crate) fn cow<'s>(
+    literal: Option<&Literal>,
+    source: &'s str,
+    ask: impl Fn(&mut [u8]) -> Said,
+) -> Result<Cow<'s, str>, Error> {
     let mut small = [0; SMALL];
     match ask(&mut small).text(literal, source, &small) {
         Err(Error::NoRoom { needed }) => written(literal, needed, ask).map(Cow::Owned),

@@ -88,7 +88,12 @@ impl Literal {
     /// assert_eq!(literal.as_str_in(source, Settings::STANDARD, &mut out).unwrap_err().number(), 6);
     /// # Ok::<(), valdrabus::Error>(())
     /// ```
-    pub fn as_str_in<'s, 'b>(&self, source: &'s str, settings: Settings, out: &'b mut [u8]) -> Result<Text<'s, 'b>, Error> {
+    pub fn as_str_in<'s, 'b>(
+        &self,
+        source: &'s str,
+        settings: Settings,
+        out: &'b mut [u8],
+    ) -> Result<Text<'s, 'b>, Error> {
         calls::as_str_in(self, source.as_bytes(), settings, out).text(Some(self), source, out)
     }
 
@@ -168,20 +173,20 @@ impl Literal {
     /// # Ok::<(), valdrabus::Error>(())
     /// ```
     pub fn to_decimal_text<'s>(&self, source: &'s str) -> Result<Cow<'s, str>, Error> {
-        self.to_text(TextQuestion::Decimal, source)
+        self.owned_text(TextQuestion::Decimal, source)
     }
 
     /// As [`as_bit_text`](Literal::as_bit_text). Refusals: 1, 2, 3, 7.
     pub fn to_bit_text<'s>(&self, source: &'s str) -> Result<Cow<'s, str>, Error> {
-        self.to_text(TextQuestion::Bits, source)
+        self.owned_text(TextQuestion::Bits, source)
     }
 
     /// As [`as_temporal_text`](Literal::as_temporal_text). Refusals: 1, 2, 3, 6.
     pub fn to_temporal_text<'s>(&self, source: &'s str) -> Result<Cow<'s, str>, Error> {
-        self.to_text(TextQuestion::Temporal, source)
+        self.owned_text(TextQuestion::Temporal, source)
     }
 
-    fn to_text<'s>(&self, question: TextQuestion, source: &'s str) -> Result<Cow<'s, str>, Error> {
+    fn owned_text<'s>(&self, question: TextQuestion, source: &'s str) -> Result<Cow<'s, str>, Error> {
         owned::cow(Some(self), source, |out| calls::text(question, self, source.as_bytes(), out))
     }
 }

@@ -19,7 +19,7 @@ pub const LEAST_PART: usize = 4;
 /// assert_eq!(write_literal("a\0b", Settings::MYSQL, &mut out)?, r"'a\0b'");
 /// # Ok::<(), valdrabus::Error>(())
 /// ```
-pub fn write_literal<'b>(value: impl AsRef<[u8]>, settings: Settings, out: &'b mut [u8]) -> Result<&'b str, Error> {
+pub fn write_literal(value: impl AsRef<[u8]>, settings: Settings, out: &mut [u8]) -> Result<&str, Error> {
     write(value.as_ref(), None, settings, out)
 }
 
@@ -32,7 +32,12 @@ pub fn write_literal<'b>(value: impl AsRef<[u8]>, settings: Settings, out: &'b m
 /// assert_eq!(write_parts("éééé", 5, Settings::STANDARD, &mut out)?, "'éé' 'éé'");
 /// # Ok::<(), valdrabus::Error>(())
 /// ```
-pub fn write_parts<'b>(value: impl AsRef<[u8]>, part_size: usize, settings: Settings, out: &'b mut [u8]) -> Result<&'b str, Error> {
+pub fn write_parts(
+    value: impl AsRef<[u8]>,
+    part_size: usize,
+    settings: Settings,
+    out: &mut [u8],
+) -> Result<&str, Error> {
     write(value.as_ref(), Some(part_size), settings, out)
 }
 

@@ -37,7 +37,7 @@ fn number_1_gives_the_family_and_the_kind_with_its_data() {
 
 #[test]
 fn number_2_comes_before_any_look_at_the_span() {
-    let literal = Literal { synthetic: true, ..Literal::new(Kind::String, 7..5) };
+    let literal = Literal { synthetic: true, ..Literal::new(Kind::String, Span { start: 7, end: 5 }) };
     let error = refused(9, |out| literal.as_str("'a'", out).err());
     assert_eq!(error, Error::MissingSource { span: Span { start: 7, end: 5 } });
     assert_eq!(error.number(), 2);
@@ -46,10 +46,12 @@ fn number_2_comes_before_any_look_at_the_span() {
 
 #[test]
 fn number_3_for_spans_that_do_not_fit() {
-    for (span, source) in [(2..1, "'a'"), (0..4, "'a'"), (4..4, "'a'"), (2..4, "'é'"), (0..2, "'é'"), (u32::MAX..u32::MAX, "")] {
-        let literal = Literal::new(Kind::String, span.clone());
-        let error = refused(9, |out| literal.as_str(source, out).err());
-        assert_eq!((error, error.number()), (Error::InvalidSourceRange { span: span.into() }, 3));
+    for (start, end, source) in
+        [(2, 1, "'a'"), (0, 4, "'a'"), (4, 4, "'a'"), (2, 4, "'é'"), (0, 2, "'é'"), (u32::MAX, u32::MAX, "")]
+    {
+        let span = Span { start, end };
+        let error = refused(9, |out| Literal::new(Kind::String, span).as_str(source, out).err());
+        assert_eq!((error, error.number()), (Error::InvalidSourceRange { span }, 3));
     }
 }
 
@@ -69,9 +71,18 @@ fn number_4_in_bytes_and_in_values_that_are_written() {
 fn numbers_5_to_8_for_texts_that_cannot_be_read() {
     let span = Span { start: 0, end: 3 };
     assert_eq!(whole(Kind::Integer, "1__").as_i64("1__"), Err(Error::InvalidInteger { span }));
-    assert_eq!(refused(9, |out| whole(Kind::Decimal, "1__").as_decimal_text("1__", out).err()), Error::InvalidInteger { span });
-    assert_eq!(refused(9, |out| whole(Kind::String, "'''").as_str("'''", out).err()), Error::InvalidString { span: Some(span) });
-    assert_eq!(refused(9, |out| whole(Kind::Date, "\"a\"").as_temporal_text("\"a\"", out).err()), Error::InvalidString { span: Some(span) });
+    assert_eq!(
+        refused(9, |out| whole(Kind::Decimal, "1__").as_decimal_text("1__", out).err()),
+        Error::InvalidInteger { span }
+    );
+    assert_eq!(
+        refused(9, |out| whole(Kind::String, "'''").as_str("'''", out).err()),
+        Error::InvalidString { span: Some(span) }
+    );
+    assert_eq!(
+        refused(9, |out| whole(Kind::Date, "\"a\"").as_temporal_text("\"a\"", out).err()),
+        Error::InvalidString { span: Some(span) }
+    );
     assert_eq!(refused(9, |out| whole(BINARY, "B'2").as_bit_text("B'2", out).err()), Error::InvalidBitString { span });
     assert_eq!(whole(Kind::Money, " $1").as_money_text(" $1"), Err(Error::InvalidMoney { span }));
     assert_eq!(refused(9, |out| materialize_unicode_ident("\"a\"", out).err()), Error::InvalidString { span: None });
@@ -98,9 +109,18 @@ fn number_9_gives_the_length_needed() {
         let error = refused(len, |out| whole(Kind::String, joined).as_str(joined, out).err());
         assert_eq!((error, error.number()), (Error::NoRoom { needed: 4 }, 9));
     }
-    assert_eq!(refused(1, |out| whole(Kind::Integer, "0x1F").as_decimal_text("0x1F", out).err()), Error::NoRoom { needed: 2 });
-    assert_eq!(refused(1, |out| whole(BINARY, "B'0' '1'").as_bit_text("B'0' '1'", out).err()), Error::NoRoom { needed: 2 });
-    assert_eq!(refused(1, |out| whole(Kind::Date, joined).as_temporal_text(joined, out).err()), Error::NoRoom { needed: 4 });
+    assert_eq!(
+        refused(1, |out| whole(Kind::Integer, "0x1F").as_decimal_text("0x1F", out).err()),
+        Error::NoRoom { needed: 2 }
+    );
+    assert_eq!(
+        refused(1, |out| whole(BINARY, "B'0' '1'").as_bit_text("B'0' '1'", out).err()),
+        Error::NoRoom { needed: 2 }
+    );
+    assert_eq!(
+        refused(1, |out| whole(Kind::Date, joined).as_temporal_text(joined, out).err()),
+        Error::NoRoom { needed: 4 }
+    );
     assert_eq!(refused(0, |out| materialize_unicode_ident("U&\"\\0041\"", out).err()), Error::NoRoom { needed: 1 });
     assert_eq!(refused(4, |out| write_literal("abc", Settings::STANDARD, out).err()), Error::NoRoom { needed: 5 });
     assert_eq!(refused(9, |out| write_parts("abcde", 4, Settings::STANDARD, out).err()), Error::NoRoom { needed: 10 });
@@ -130,7 +150,7 @@ fn the_longest_value_is_read_and_a_longer_one_is_not() {
 
 #[test]
 fn the_order_of_the_tests() {
-    let odd = Literal { synthetic: true, ..Literal::new(Kind::Integer, 9..2) };
+    let odd = Literal { synthetic: true, ..Literal::new(Kind::Integer, Span { start: 9, end: 2 }) };
     assert_eq!(odd.in_bytes(b"\xFF").as_str(&mut []).unwrap_err().number(), 1);
     assert_eq!(Literal::new(Kind::String, 1..9).in_bytes(b"\xFF\xFF").as_str(&mut []).unwrap_err().number(), 3);
     assert_eq!(write_parts(b"\xFF\0", 3, Settings::STANDARD, &mut []).unwrap_err().number(), 12);

@@ -26,7 +26,9 @@ fn request() -> Result<Request, String> {
         match word.as_str() {
             "--backslash" => request.settings = Settings::MYSQL,
             "--doubles" => request.doubles_only = true,
-            option if option.starts_with("--") => return Err(format!("no option {option}; keys [--backslash] [--doubles] [FILE ..]")),
+            option if option.starts_with("--") => {
+                return Err(format!("no option {option}; keys [--backslash] [--doubles] [FILE ..]"));
+            }
             _ => request.files.push(word),
         }
     }

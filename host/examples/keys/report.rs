@@ -30,7 +30,12 @@ pub fn doubles(rows: &[Row<'_>]) -> String {
     }
     let counted: usize = products.iter().map(|(_, lines)| lines.len()).sum();
     let refused = rows.len() - counted;
-    writeln!(text, "{counted} products with doubles, {} without; {count} doubled; {refused} rows refused", products.len()).expect("a String takes all");
+    writeln!(
+        text,
+        "{counted} products with doubles, {} without; {count} doubled; {refused} rows refused",
+        products.len()
+    )
+    .expect("a String takes all");
     text
 }
 
@@ -53,7 +58,11 @@ fn products<'r>(rows: &'r [Row<'_>]) -> Vec<(&'r [u8], Vec<usize>)> {
 /// A key as it can stand in a line: control characters by their escapes.
 fn shown(key: &[u8]) -> String {
     String::from_utf8_lossy(key).chars().fold(String::new(), |mut text, next| {
-        if next.is_control() { text.extend(next.escape_default()) } else { text.push(next) }
+        if next.is_control() {
+            text.extend(next.escape_default())
+        } else {
+            text.push(next)
+        }
         text
     })
 }
