@@ -7,12 +7,14 @@ use std::{env, fs, process};
 fn main() {
     println!("cargo:rerun-if-changed=build.rs");
     println!("cargo:rerun-if-env-changed=VALDRABUS_ARCHIVE");
-    let archive = match env::var_os("VALDRABUS_ARCHIVE") {
-        Some(path) => PathBuf::from(path),
-        None => made(&repository()),
-    };
+    link(&named().unwrap_or_else(|| made(&repository())));
+}
+
+/// The archive that is given.
+fn named() -> Option<PathBuf> {
+    let archive = PathBuf::from(env::var_os("VALDRABUS_ARCHIVE").filter(|path| !path.is_empty())?);
     println!("cargo:rerun-if-changed={}", archive.display());
-    link(&archive);
+    Some(archive)
 }
 
 /// The folder that holds `crates/`: the parent of this crate's own.
@@ -24,7 +26,7 @@ fn repository() -> PathBuf {
     }
 }
 
-/// Proves the archive's crate, and gives the archive's path. A crate that is proved already is not proved again.
+/// Proves the archive's crate, and gives the archive's path. What it is made from is watched, and not the archive: this script makes it anew whenever it runs.
 fn made(root: &Path) -> PathBuf {
     for source in ["crates", "crates.txt"] {
         println!("cargo:rerun-if-changed={}", root.join(source).display());
