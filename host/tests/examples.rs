@@ -80,6 +80,14 @@ fn a_literal_inside_a_source() {
 }
 
 #[test]
+fn the_readmes_example() {
+    let row = r"('Bob\'s balm', '50' ' ml')";
+    let read = |span: std::ops::Range<u32>| Literal::new(Kind::String, span).to_str_in(row, Settings::MYSQL);
+    assert_eq!(read(1..14).unwrap(), "Bob's balm");
+    assert_eq!(read(16..26).unwrap(), "50 ml");
+}
+
+#[test]
 fn many_parts_and_long_values_are_allocated_exactly() {
     let (count, part) = (5_000, "'abcdefghij' ");
     let source = part.repeat(count);
