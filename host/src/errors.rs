@@ -19,6 +19,7 @@ use std::fmt;
 /// assert!(matches!(error, Error::WrongKind { actual: Kind::Date, .. }));
 /// ```
 #[derive(Clone, Copy, Debug, PartialEq, Eq, Hash)]
+#[non_exhaustive]
 pub enum Error {
     /// 1: the kind does not fit the question.
     WrongKind {

@@ -80,6 +80,7 @@ fn view(how: u32, first: usize, second: usize) -> (u32, usize, usize) {
 fn the_view_shows_a_part_that_fits_or_an_empty_one() {
     assert_eq!(view(1, 3, 10), (1, 3, 10));
     assert_eq!(view(2, 0, 4), (2, 0, 4));
+    assert_eq!(view(1, 10, 10), (1, 10, 10));
     for (how, first, second) in [(0, 0, 1), (1, 3, 11), (1, 4, 3), (2, 0, 5), (3, 0, 1), (1, usize::MAX, usize::MAX)] {
         assert_eq!(view(how, first, second), (0, 0, 0), "{how} {first} {second}");
     }
