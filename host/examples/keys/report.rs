@@ -1,0 +1,68 @@
+//! What is said of a list's rows.
+
+use crate::list::Row;
+use std::collections::HashMap;
+use std::fmt::Write;
+
+/// Each row's line and key, or why it has none.
+pub fn keys(rows: &[Row<'_>]) -> String {
+    let mut text = String::new();
+    for row in rows {
+        let said = match &row.key {
+            Ok(key) => shown(key),
+            Err(error) => format!("refused: {error}"),
+        };
+        writeln!(text, "{:6}  {said}", row.line).expect("a String takes all");
+    }
+    text
+}
+
+/// The keys that stand in several rows, with their lines; then the counts.
+pub fn doubles(rows: &[Row<'_>]) -> String {
+    let products = products(rows);
+    let doubled = products.iter().filter(|(_, lines)| lines.len() > 1);
+    let mut text = String::new();
+    let mut count = 0;
+    for (key, lines) in doubled {
+        let lines: Vec<String> = lines.iter().map(usize::to_string).collect();
+        writeln!(text, "doubled: {}, on lines {}", shown(key), lines.join(", ")).expect("a String takes all");
+        count += 1;
+    }
+    let counted: usize = products.iter().map(|(_, lines)| lines.len()).sum();
+    let refused = rows.len() - counted;
+    writeln!(
+        text,
+        "{counted} products with doubles, {} without; {count} doubled; {refused} rows refused",
+        products.len()
+    )
+    .expect("a String takes all");
+    text
+}
+
+/// Each key with its lines, in the order of first lines.
+fn products<'r>(rows: &'r [Row<'_>]) -> Vec<(&'r [u8], Vec<usize>)> {
+    let mut place = HashMap::new();
+    let mut products: Vec<(&[u8], Vec<usize>)> = Vec::new();
+    for row in rows {
+        let Ok(key) = &row.key else { continue };
+        let key: &[u8] = key;
+        let at = *place.entry(key).or_insert(products.len());
+        if at == products.len() {
+            products.push((key, Vec::new()));
+        }
+        products[at].1.push(row.line);
+    }
+    products
+}
+
+/// A key as it can stand in a line: control characters by their escapes.
+fn shown(key: &[u8]) -> String {
+    String::from_utf8_lossy(key).chars().fold(String::new(), |mut text, next| {
+        if next.is_control() {
+            text.extend(next.escape_default())
+        } else {
+            text.push(next)
+        }
+        text
+    })
+}

@@ -1,0 +1,198 @@
+//! Each C function as a safe one on slices. All unsafe code of the crate stands here.
+//!
+//! What the header asks of a caller, Rust's references give: a slice's pointer is never null and is valid for the slice's length, also when that is 0; a `&mut` is
+//! aligned, valid for writing and overlaps nothing else that is borrowed. No function keeps a pointer. The `SAFETY` comments name this as "slices".
+
+use crate::literal::Literal;
+use crate::said::Said;
+use crate::settings::Settings;
+use crate::sys;
+
+/// A question whose text is read at no setting.
+#[derive(Clone, Copy)]
+pub(crate) enum TextQuestion {
+    Decimal,
+    Bits,
+    Temporal,
+}
+
+/// A question whose answer is a part of the source.
+#[derive(Clone, Copy)]
+pub(crate) enum PartQuestion {
+    Source,
+    Money,
+    Charset,
+}
+
+pub(crate) fn as_str_in(literal: &Literal, source: &[u8], settings: Settings, out: &mut [u8]) -> Said {
+    let mut said = Said::default();
+    // SAFETY: slices.
+    said.number = unsafe {
+        sys::valdrabus_as_str_in(
+            literal.kind.code(),
+            literal.synthetic.into(),
+            literal.span.start,
+            literal.span.end,
+            source.as_ptr(),
+            source.len(),
+            settings.number(),
+            out.as_mut_ptr(),
+            out.len(),
+            &mut said.how,
+            &mut said.first,
+            &mut said.second,
+        )
+    };
+    said
+}
+
+pub(crate) fn text(question: TextQuestion, literal: &Literal, source: &[u8], out: &mut [u8]) -> Said {
+    let ask = match question {
+        TextQuestion::Decimal => sys::valdrabus_as_decimal_text,
+        TextQuestion::Bits => sys::valdrabus_as_bit_text,
+        TextQuestion::Temporal => sys::valdrabus_as_temporal_text,
+    };
+    let mut said = Said::default();
+    // SAFETY: slices.
+    said.number = unsafe {
+        ask(
+            literal.kind.code(),
+            literal.synthetic.into(),
+            literal.span.start,
+            literal.span.end,
+            source.as_ptr(),
+            source.len(),
+            out.as_mut_ptr(),
+            out.len(),
+            &mut said.how,
+            &mut said.first,
+            &mut said.second,
+        )
+    };
+    said
+}
+
+pub(crate) fn part(question: PartQuestion, literal: &Literal, source: &[u8]) -> Said {
+    let ask = match question {
+        PartQuestion::Source => sys::valdrabus_source_text,
+        PartQuestion::Money => sys::valdrabus_as_money_text,
+        PartQuestion::Charset => sys::valdrabus_charset_introducer,
+    };
+    let mut said = Said::default();
+    // SAFETY: slices.
+    said.number = unsafe {
+        ask(
+            literal.kind.code(),
+            literal.synthetic.into(),
+            literal.span.start,
+            literal.span.end,
+            source.as_ptr(),
+            source.len(),
+            &mut said.how,
+            &mut said.first,
+            &mut said.second,
+        )
+    };
+    said
+}
+
+/// The value beside what is said; 0 on a refusal.
+pub(crate) fn as_i64(literal: &Literal, source: &[u8]) -> (Said, i64) {
+    let (mut said, mut value) = (Said::default(), 0);
+    // SAFETY: slices.
+    said.number = unsafe {
+        sys::valdrabus_as_i64(
+            literal.kind.code(),
+            literal.synthetic.into(),
+            literal.span.start,
+            literal.span.end,
+            source.as_ptr(),
+            source.len(),
+            &mut value,
+            &mut said.first,
+            &mut said.second,
+        )
+    };
+    (said, value)
+}
+
+/// The value beside what is said; 0 on a refusal.
+pub(crate) fn as_bool(literal: &Literal) -> (Said, u32) {
+    let (mut said, mut value) = (Said::default(), 0);
+    // SAFETY: each lent number is a `&mut`.
+    said.number = unsafe { sys::valdrabus_as_bool(literal.kind.code(), &mut value, &mut said.first, &mut said.second) };
+    (said, value)
+}
+
+pub(crate) fn as_null(literal: &Literal) -> Said {
+    let mut said = Said::default();
+    // SAFETY: each lent number is a `&mut`.
+    said.number = unsafe { sys::valdrabus_as_null(literal.kind.code(), &mut said.first, &mut said.second) };
+    said
+}
+
+pub(crate) fn is_null(literal: &Literal) -> bool {
+    // SAFETY: no pointer is given.
+    unsafe { sys::valdrabus_is_null(literal.kind.code()) }
+}
+
+pub(crate) fn identifier(text: &[u8], out: &mut [u8]) -> Said {
+    let mut said = Said::default();
+    // SAFETY: slices.
+    said.number = unsafe {
+        sys::valdrabus_materialize_unicode_ident(
+            text.as_ptr(),
+            text.len(),
+            out.as_mut_ptr(),
+            out.len(),
+            &mut said.how,
+            &mut said.first,
+            &mut said.second,
+        )
+    };
+    said
+}
+
+/// A value as a literal, whole or in parts of a size: the number, and the length.
+pub(crate) fn write(value: &[u8], part_size: Option<usize>, settings: Settings, out: &mut [u8]) -> (u32, usize) {
+    let (from, setting, to) = (value.as_ptr(), settings.number(), out.as_mut_ptr());
+    let mut len = 0;
+    // SAFETY: slices, in both calls.
+    let number = unsafe {
+        match part_size {
+            None => sys::valdrabus_write_literal(from, value.len(), setting, to, out.len(), &mut len),
+            Some(size) => sys::valdrabus_write_parts(from, value.len(), size, setting, to, out.len(), &mut len),
+        }
+    };
+    (number, len)
+}
+
+/// The base, and where the digits begin.
+pub(crate) fn split_radix_prefix(text: &[u8]) -> (u32, usize) {
+    let mut start = 0;
+    // SAFETY: slices.
+    let base = unsafe { sys::valdrabus_split_radix_prefix(text.as_ptr(), text.len(), &mut start) };
+    (base, start)
+}
+
+/// A test of a bare text.
+#[derive(Clone, Copy)]
+pub(crate) enum Test {
+    UescapeArgument,
+    EscapeString,
+    UnicodeString,
+    EmbedsNul,
+    UnicodeIdent,
+}
+
+pub(crate) fn holds(test: Test, text: &[u8]) -> bool {
+    let ask = match test {
+        Test::UescapeArgument => sys::valdrabus_uescape_argument_is_legal,
+        Test::EscapeString => sys::valdrabus_postgres_escape_string_is_valid,
+        Test::UnicodeString => sys::valdrabus_unicode_escape_string_is_valid,
+        Test::EmbedsNul => sys::valdrabus_string_literal_embeds_nul,
+        Test::UnicodeIdent => sys::valdrabus_is_unicode_ident,
+    };
+    // SAFETY: slices.
+    unsafe { ask(text.as_ptr(), text.len()) }
+}

@@ -1,0 +1,198 @@
+//! Why a call is refused.
+
+use crate::kinds::{Expected, Kind};
+use crate::literal::Literal;
+use crate::span::Span;
+use std::fmt;
+
+/// Why a call is refused. Each case has its [number](Error::number); a refusal leaves the lent buffer byte for byte as it was.
+///
+/// A span is the literal's own; a call on bare text, which has no literal, gives none.
+///
+/// ```
+/// use valdrabus::{Error, Kind, Literal};
+///
+/// let date = Literal::new(Kind::Date, 0..4);
+/// let error = date.as_i64("2026").unwrap_err();
+/// assert_eq!(error.number(), 1);
+/// assert_eq!(error.to_string(), "an integer is asked for, and the literal is a date (number 1)");
+/// assert!(matches!(error, Error::WrongKind { actual: Kind::Date, .. }));
+/// ```
+#[derive(Clone, Copy, Debug, PartialEq, Eq, Hash)]
+#[non_exhaustive]
+pub enum Error {
+    /// 1: the kind does not fit the question.
+    WrongKind {
+        /// What the question expects.
+        expected: Expected,
+        /// The literal's kind, with all its data.
+        actual: Kind,
+    },
+    /// 2: the literal stands in no source.
+    MissingSource {
+        /// The literal's span.
+        span: Span,
+    },
+    /// 3: the span ends before it starts, leaves the source, or cuts a character.
+    InvalidSourceRange {
+        /// The literal's span.
+        span: Span,
+    },
+    /// 4: the text, or the value to be written, is not UTF-8.
+    NotUtf8 {
+        /// The literal's span, if there is a literal.
+        span: Option<Span>,
+    },
+    /// 5: not a readable integer.
+    InvalidInteger {
+        /// The literal's span.
+        span: Span,
+    },
+    /// 6: not a readable string.
+    InvalidString {
+        /// The literal's span, if there is a literal.
+        span: Option<Span>,
+    },
+    /// 7: not a readable bit string.
+    InvalidBitString {
+        /// The literal's span.
+        span: Span,
+    },
+    /// 8: not a money text.
+    InvalidMoney {
+        /// The literal's span.
+        span: Span,
+    },
+    /// 9: the answer would be written, and the buffer is shorter.
+    NoRoom {
+        /// How many bytes a buffer must have.
+        needed: usize,
+    },
+    /// 10: this crate and the archive that it is linked with do not agree about a number. No call of this crate gives it while both are of one version.
+    BadNumber,
+    /// 11: a value with a NUL, which no plain literal spells where backslash escapes are off.
+    HoldsNul,
+    /// 12: a value longer than [`LONGEST_VALUE`](crate::LONGEST_VALUE), or parts smaller than [`LEAST_PART`](crate::LEAST_PART).
+    OverLimit,
+}
+
+impl Error {
+    /// The refusal's number, 1 to 12, as `include/valdrabus.h` lists them.
+    pub const fn number(&self) -> u32 {
+        match self {
+            Error::WrongKind { .. } => 1,
+            Error::MissingSource { .. } => 2,
+            Error::InvalidSourceRange { .. } => 3,
+            Error::NotUtf8 { .. } => 4,
+            Error::InvalidInteger { .. } => 5,
+            Error::InvalidString { .. } => 6,
+            Error::InvalidBitString { .. } => 7,
+            Error::InvalidMoney { .. } => 8,
+            Error::NoRoom { .. } => 9,
+            Error::BadNumber => 10,
+            Error::HoldsNul => 11,
+            Error::OverLimit => 12,
+        }
+    }
+
+    /// The span of the literal that is refused, where the refusal speaks of one.
+    pub const fn span(&self) -> Option<Span> {
+        match *self {
+            Error::NotUtf8 { span } | Error::InvalidString { span } => span,
+            Error::MissingSource { span }
+            | Error::InvalidSourceRange { span }
+            | Error::InvalidInteger { span }
+            | Error::InvalidBitString { span }
+            | Error::InvalidMoney { span } => Some(span),
+            _ => None,
+        }
+    }
+
+    /// The refusal of a question on a literal, by its number and the two values that come with it.
+    pub(crate) fn of_literal(number: u32, first: usize, second: usize, literal: &Literal) -> Error {
+        let span = literal.span;
+        match number {
+            1 => match Expected::of_code(first) {
+                Some(expected) => Error::WrongKind { expected, actual: literal.kind },
+                None => Error::BadNumber,
+            },
+            2 => Error::MissingSource { span },
+            3 => Error::InvalidSourceRange { span },
+            4 => Error::NotUtf8 { span: Some(span) },
+            5 => Error::InvalidInteger { span },
+            6 => Error::InvalidString { span: Some(span) },
+            7 => Error::InvalidBitString { span },
+            8 => Error::InvalidMoney { span },
+            _ => Error::of_bare(number, second),
+        }
+    }
+
+    /// The refusal of a call on bare text or a value, by its number and the length that comes with 9.
+    pub(crate) fn of_bare(number: u32, needed: usize) -> Error {
+        match number {
+            4 => Error::NotUtf8 { span: None },
+            6 => Error::InvalidString { span: None },
+            9 => Error::NoRoom { needed },
+            11 => Error::HoldsNul,
+            12 => Error::OverLimit,
+            _ => Error::BadNumber,
+        }
+    }
+}
+
+impl fmt::Display for Error {
+    fn fmt(&self, f: &mut fmt::Formatter<'_>) -> fmt::Result {
+        let text = Place("the text", self.span());
+        match self {
+            Error::WrongKind { expected, actual } => write!(f, "{expected} is asked for, and the literal is {actual}"),
+            Error::MissingSource { .. } => write!(f, "the literal stands in no source"),
+            Error::InvalidSourceRange { span } => write!(f, "{span} is no range of whole characters in the source"),
+            Error::NotUtf8 { .. } => write!(f, "{text} is not UTF-8"),
+            Error::InvalidInteger { .. } => write!(f, "{text} is not a readable integer"),
+            Error::InvalidString { .. } => write!(f, "{text} is not a readable string"),
+            Error::InvalidBitString { .. } => write!(f, "{text} is not a readable bit string"),
+            Error::InvalidMoney { .. } => write!(f, "{text} is not a money text"),
+            Error::NoRoom { needed } => write!(f, "the buffer is too short: {needed} bytes are needed"),
+            Error::BadNumber => write!(f, "the linked archive is of another version"),
+            Error::HoldsNul => write!(f, "the value holds a NUL, which no plain literal spells at this setting"),
+            Error::OverLimit => write!(f, "the value is too long to be written, or the part size too small"),
+        }?;
+        write!(f, " (number {})", self.number())
+    }
+}
+
+/// What is refused, with its place in the source where that is known.
+struct Place(&'static str, Option<Span>);
+
+impl fmt::Display for Place {
+    fn fmt(&self, f: &mut fmt::Formatter<'_>) -> fmt::Result {
+        f.write_str(self.0)?;
+        match self.1 {
+            Some(span) => write!(f, " at {span}"),
+            None => Ok(()),
+        }
+    }
+}
+
+impl std::error::Error for Error {}
+
+#[cfg(test)]
+mod tests {
+    use super::*;
+
+    #[test]
+    fn every_number_of_a_literal_comes_back_as_its_error() {
+        let literal = Literal::new(Kind::Money, 3..8);
+        for number in 1..=12 {
+            assert_eq!(Error::of_literal(number, 1, 2, &literal).number(), number);
+        }
+    }
+
+    #[test]
+    fn what_the_header_does_not_know_is_a_bad_number() {
+        let literal = Literal::new(Kind::Money, 3..8);
+        assert_eq!(Error::of_literal(13, 0, 0, &literal), Error::BadNumber);
+        assert_eq!(Error::of_literal(1, 9, 14, &literal), Error::BadNumber);
+        assert_eq!(Error::of_bare(5, 0), Error::BadNumber);
+    }
+}

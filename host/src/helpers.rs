@@ -1,0 +1,114 @@
+//! Helpers on bare text: no literal, no setting. Those that take [`AsRef<[u8]>`](AsRef) read text and bytes alike.
+
+use crate::calls::{self, Test};
+use crate::errors::Error;
+use crate::owned;
+use crate::source::Source;
+use crate::texts::Text;
+use std::borrow::Cow;
+
+/// The base that a number's first two bytes choose, 2, 8, 10 or 16, and the text behind them. It looks at no sign.
+///
+/// ```
+/// use valdrabus::split_radix_prefix;
+/// assert_eq!(split_radix_prefix("0x1F"), (16, "1F"));
+/// assert_eq!(split_radix_prefix("-0x1F"), (10, "-0x1F"));
+/// ```
+pub fn split_radix_prefix(text: &str) -> (u32, &str) {
+    split(text)
+}
+
+/// [`split_radix_prefix`] over bytes.
+pub fn split_radix_prefix_bytes(text: &[u8]) -> (u32, &[u8]) {
+    split(text)
+}
+
+// A prefix is two ASCII bytes or none, so the rest is always there.
+fn split<S: Source + ?Sized>(text: &S) -> (u32, &S) {
+    let (base, start) = calls::split_radix_prefix(text.bytes());
+    (base, text.part(start..text.bytes().len()).unwrap_or(text))
+}
+
+/// Whether a quoted argument holds a legal `UESCAPE` character and nothing else; no for what is not UTF-8.
+///
+/// ```
+/// use valdrabus::uescape_argument_is_legal;
+/// assert!(uescape_argument_is_legal("'!'"));
+/// assert!(!uescape_argument_is_legal("'+'"));
+/// ```
+pub fn uescape_argument_is_legal(argument: impl AsRef<[u8]>) -> bool {
+    calls::holds(Test::UescapeArgument, argument.as_ref())
+}
+
+/// Whether an E string can be read. Yes for other UTF-8 text, no for what is not UTF-8.
+///
+/// ```
+/// use valdrabus::postgres_escape_string_is_valid;
+/// assert!(postgres_escape_string_is_valid(r"E'\xC3\xA9'"));
+/// assert!(!postgres_escape_string_is_valid(r"E'\400'"));
+/// ```
+pub fn postgres_escape_string_is_valid(text: impl AsRef<[u8]>) -> bool {
+    calls::holds(Test::EscapeString, text.as_ref())
+}
+
+/// Whether a U& string can be read. Yes for other UTF-8 text, no for what is not UTF-8.
+///
+/// ```
+/// use valdrabus::unicode_escape_string_is_valid;
+/// assert!(unicode_escape_string_is_valid(r"U&'\00e9'"));
+/// assert!(!unicode_escape_string_is_valid(r"U&'\D800'"));
+/// ```
+pub fn unicode_escape_string_is_valid(text: impl AsRef<[u8]>) -> bool {
+    calls::holds(Test::UnicodeString, text.as_ref())
+}
+
+/// Whether a text holds a raw NUL.
+///
+/// ```
+/// assert!(valdrabus::string_literal_embeds_nul("'a\0'"));
+/// ```
+pub fn string_literal_embeds_nul(text: impl AsRef<[u8]>) -> bool {
+    calls::holds(Test::EmbedsNul, text.as_ref())
+}
+
+/// Whether a text begins as a U& identifier.
+///
+/// ```
+/// assert!(valdrabus::is_unicode_ident("U&\"name\""));
+/// assert!(!valdrabus::is_unicode_ident("\"name\""));
+/// ```
+pub fn is_unicode_ident(text: impl AsRef<[u8]>) -> bool {
+    calls::holds(Test::UnicodeIdent, text.as_ref())
+}
+
+/// A U& identifier's text. Refusals: 6, 9.
+///
+/// ```
+/// use valdrabus::{Text, materialize_unicode_ident};
+/// let mut out = [0; 8];
+/// assert_eq!(materialize_unicode_ident("U&\"plain\"", &mut out)?, Text::Borrowed("plain"));
+/// assert_eq!(materialize_unicode_ident("U&\"caf\\00e9\"", &mut out)?, Text::Written("café"));
+/// # Ok::<(), valdrabus::Error>(())
+/// ```
+pub fn materialize_unicode_ident<'s, 'b>(text: &'s str, out: &'b mut [u8]) -> Result<Text<'s, 'b>, Error> {
+    identifier(text, out)
+}
+
+/// [`materialize_unicode_ident`] over bytes. Refusals: 4, 6, 9.
+pub fn materialize_unicode_ident_bytes<'s, 'b>(text: &'s [u8], out: &'b mut [u8]) -> Result<Text<'s, 'b, [u8]>, Error> {
+    identifier(text, out)
+}
+
+fn identifier<'s, 'b, S: Source + ?Sized>(text: &'s S, out: &'b mut [u8]) -> Result<Text<'s, 'b, S>, Error> {
+    calls::identifier(text.bytes(), out).text(None, text, out)
+}
+
+/// As [`materialize_unicode_ident`], allocated where it is not a part of the text. Refusal: 6.
+///
+/// ```
+/// assert_eq!(valdrabus::to_unicode_ident("U&\"!0041\" UESCAPE '!'")?, "A");
+/// # Ok::<(), valdrabus::Error>(())
+/// ```
+pub fn to_unicode_ident(text: &str) -> Result<Cow<'_, str>, Error> {
+    owned::cow(None, text, |out| calls::identifier(text.as_bytes(), out))
+}

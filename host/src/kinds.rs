@@ -1,0 +1,243 @@
+//! What a literal is said to be, and what a question expects it to be.
+
+use std::fmt;
+
+/// The `WITH` or `WITHOUT TIME ZONE` of a `TIME` or `TIMESTAMP`.
+#[derive(Clone, Copy, Debug, Default, PartialEq, Eq, Hash)]
+pub enum TimeZone {
+    /// Nothing is said.
+    #[default]
+    Unspecified,
+    /// `WITH TIME ZONE`
+    WithTimeZone,
+    /// `WITHOUT TIME ZONE`
+    WithoutTimeZone,
+}
+
+/// The qualifier behind an `INTERVAL`.
+#[derive(Clone, Copy, Debug, PartialEq, Eq, Hash)]
+pub enum IntervalFields {
+    /// `YEAR`
+    Year,
+    /// `MONTH`
+    Month,
+    /// `DAY`
+    Day,
+    /// `HOUR`
+    Hour,
+    /// `MINUTE`
+    Minute,
+    /// `SECOND`
+    Second,
+    /// `YEAR TO MONTH`
+    YearToMonth,
+    /// `DAY TO HOUR`
+    DayToHour,
+    /// `DAY TO MINUTE`
+    DayToMinute,
+    /// `DAY TO SECOND`
+    DayToSecond,
+    /// `HOUR TO MINUTE`
+    HourToMinute,
+    /// `HOUR TO SECOND`
+    HourToSecond,
+    /// `MINUTE TO SECOND`
+    MinuteToSecond,
+    /// `WEEK`
+    Week,
+    /// `QUARTER`
+    Quarter,
+    /// `DECADE`
+    Decade,
+    /// `CENTURY`
+    Century,
+    /// `MILLENNIUM`
+    Millennium,
+    /// `MILLISECOND`
+    Millisecond,
+    /// `MICROSECOND`
+    Microsecond,
+    /// `DAY_MICROSECOND`
+    DayToMicrosecond,
+    /// `HOUR_MICROSECOND`
+    HourToMicrosecond,
+    /// `MINUTE_MICROSECOND`
+    MinuteToMicrosecond,
+    /// `SECOND_MICROSECOND`
+    SecondToMicrosecond,
+}
+
+/// The base of a bit string's digits.
+#[derive(Clone, Copy, Debug, PartialEq, Eq, Hash)]
+pub enum BitStringRadix {
+    /// 0 and 1
+    Binary,
+    /// 0 to 9 and A to F, in either case
+    Hex,
+}
+
+/// What a literal is said to be. It is taken as given: no text is ever asked which kind it has.
+///
+/// Time zones and an interval's data decide no answer; they come back in [`Error::WrongKind`](crate::Error::WrongKind).
+#[derive(Clone, Copy, Debug, PartialEq, Eq, Hash)]
+pub enum Kind {
+    /// A whole number, as `42` or `0x2A`.
+    Integer,
+    /// A binary floating-point number, as `1.5e3`.
+    Float,
+    /// An exact number with a fraction, as `1.50`.
+    Decimal,
+    /// A string in any spelling.
+    String,
+    /// `TRUE` or `FALSE`.
+    Boolean(bool),
+    /// `NULL`
+    Null,
+    /// `DATE '..'`
+    Date,
+    /// `TIME '..'`
+    Time {
+        /// What is said of the time zone.
+        time_zone: TimeZone,
+    },
+    /// `TIMESTAMP '..'`
+    Timestamp {
+        /// What is said of the time zone.
+        time_zone: TimeZone,
+    },
+    /// `INTERVAL '..'`
+    Interval {
+        /// The qualifier, if there is one.
+        fields: Option<IntervalFields>,
+        /// The precision, if there is one.
+        precision: Option<u32>,
+    },
+    /// `B'..'` or `X'..'`. Its digits go by this base, and not by the letter.
+    BitString {
+        /// The base of its digits.
+        radix: BitStringRadix,
+    },
+    /// A price that begins with `$`.
+    Money,
+}
+
+impl Kind {
+    /// The kind's code, 1 to 14, as `include/valdrabus.h` lists them.
+    ///
+    /// ```
+    /// use valdrabus::Kind;
+    /// assert_eq!(Kind::String.code(), 4);
+    /// assert_eq!(Kind::Boolean(false).code(), 6);
+    /// ```
+    pub const fn code(self) -> u32 {
+        match self {
+            Kind::Integer => 1,
+            Kind::Float => 2,
+            Kind::Decimal => 3,
+            Kind::String => 4,
+            Kind::Boolean(true) => 5,
+            Kind::Boolean(false) => 6,
+            Kind::Null => 7,
+            Kind::Date => 8,
+            Kind::Time { .. } => 9,
+            Kind::Timestamp { .. } => 10,
+            Kind::Interval { .. } => 11,
+            Kind::BitString { radix: BitStringRadix::Binary } => 12,
+            Kind::BitString { radix: BitStringRadix::Hex } => 13,
+            Kind::Money => 14,
+        }
+    }
+}
+
+impl fmt::Display for Kind {
+    fn fmt(&self, f: &mut fmt::Formatter<'_>) -> fmt::Result {
+        f.write_str(match self {
+            Kind::Integer => "an integer",
+            Kind::Float => "a float",
+            Kind::Decimal => "a decimal",
+            Kind::String => "a string",
+            Kind::Boolean(true) => "TRUE",
+            Kind::Boolean(false) => "FALSE",
+            Kind::Null => "NULL",
+            Kind::Date => "a date",
+            Kind::Time { .. } => "a time",
+            Kind::Timestamp { .. } => "a timestamp",
+            Kind::Interval { .. } => "an interval",
+            Kind::BitString { radix: BitStringRadix::Binary } => "a binary bit string",
+            Kind::BitString { radix: BitStringRadix::Hex } => "a hex bit string",
+            Kind::Money => "a money text",
+        })
+    }
+}
+
+/// What a question expects a literal to be.
+#[derive(Clone, Copy, Debug, PartialEq, Eq, Hash)]
+pub enum Expected {
+    /// [`Kind::Integer`]
+    Integer,
+    /// [`Kind::Integer`], [`Kind::Float`] or [`Kind::Decimal`]
+    DecimalText,
+    /// [`Kind::String`]
+    String,
+    /// [`Kind::Boolean`]
+    Boolean,
+    /// [`Kind::Null`]
+    Null,
+    /// [`Kind::Date`], [`Kind::Time`], [`Kind::Timestamp`] or [`Kind::Interval`]
+    Temporal,
+    /// [`Kind::BitString`]
+    BitString,
+    /// [`Kind::Money`]
+    Money,
+}
+
+impl Expected {
+    const ALL: [Expected; 8] = [
+        Expected::Integer,
+        Expected::DecimalText,
+        Expected::String,
+        Expected::Boolean,
+        Expected::Null,
+        Expected::Temporal,
+        Expected::BitString,
+        Expected::Money,
+    ];
+
+    /// The family's code, 1 to 8, as `include/valdrabus.h` lists them.
+    pub const fn code(self) -> u32 {
+        self as u32 + 1
+    }
+
+    /// The family that has a code.
+    pub(crate) fn of_code(code: usize) -> Option<Expected> {
+        Self::ALL.get(code.checked_sub(1)?).copied()
+    }
+}
+
+impl fmt::Display for Expected {
+    fn fmt(&self, f: &mut fmt::Formatter<'_>) -> fmt::Result {
+        f.write_str(match self {
+            Expected::Integer => "an integer",
+            Expected::DecimalText => "a number",
+            Expected::String => "a string",
+            Expected::Boolean => "TRUE or FALSE",
+            Expected::Null => "NULL",
+            Expected::Temporal => "a date, time, timestamp or interval",
+            Expected::BitString => "a bit string",
+            Expected::Money => "a money text",
+        })
+    }
+}
+
+#[cfg(test)]
+mod tests {
+    use super::*;
+
+    #[test]
+    fn a_familys_code_gives_the_family_back() {
+        for expected in Expected::ALL {
+            assert_eq!(Expected::of_code(expected.code() as usize), Some(expected));
+        }
+        assert_eq!([0, 9, usize::MAX].map(Expected::of_code), [None; 3]);
+    }
+}

@@ -1,0 +1,70 @@
+//! Reads the literals of SQL dumps, and writes plain ones.
+//!
+//! A string of a dump has many spellings: doubled quotes, `E'..'` and `U&'..'` escapes, dollar quotes, MySQL's backslashes, names that arrive in parts. This crate says what a
+//! literal *means*, so that a table can be keyed by it:
+//!
+//! ```
+//! use valdrabus::{Error, Kind, Literal};
+//!
+//! fn key(literal: &str) -> Result<String, Error> {
+//!     let whole = Literal::whole(Kind::String, literal).expect("a row is shorter than 4 GiB");
+//!     Ok(whole.to_str(literal)?.into_owned())
+//! }
+//!
+//! let spellings = ["'Crème 5 g'", "'Crème' ' 5 g'", r"E'Cr\xC3\xA8me 5 g'", r"U&'Cr\00E8me 5 g'", "$$Crème 5 g$$"];
+//! for literal in spellings {
+//!     assert_eq!(key(literal)?, "Crème 5 g");
+//! }
+//! assert_eq!(key("'Crème").unwrap_err().number(), 6);
+//! # Ok::<(), Error>(())
+//! ```
+//!
+//! It is a thin layer: the code that decodes is Rattle, proved to end with the answer that its definitions give or a numbered refusal, on every input. This crate adds types and lifetimes, and
+//! nothing that decides an answer. It has no dependency and no state, and every function may be called from any thread.
+//!
+//! # Where to look
+//!
+//! - [`Literal`]: a kind and a span; the questions are its methods. [`InBytes`]: the same over bytes that may not be UTF-8.
+//! - [`Text`]: an answer that is a part of the source, or written into the buffer that was lent.
+//! - [`Error`]: why a call is refused, with its number. A refusal leaves the buffer as it was.
+//! - [`write_literal`], [`write_parts`]: values as plain literals.
+//! - [`split_radix_prefix`] and the other functions: helpers on bare text.
+//!
+//! # Building
+//!
+//! The code that decodes is the archive `libvaldrabus.a`, for x86-64. Where the environment's `VALDRABUS_ARCHIVE` names one, it is linked; else `rt staticlib valdrabus` makes it, in the
+//! repository that this crate stands in.
+
+#![deny(missing_docs)]
+#![deny(unsafe_op_in_unsafe_fn)]
+
+mod calls;
+mod errors;
+mod helpers;
+mod in_bytes;
+mod kinds;
+mod literal;
+mod owned;
+mod questions;
+mod said;
+mod settings;
+mod source;
+mod span;
+#[allow(missing_docs)] // documented by the header
+pub mod sys;
+mod texts;
+mod writer;
+
+pub use errors::Error;
+pub use helpers::{
+    is_unicode_ident, materialize_unicode_ident, materialize_unicode_ident_bytes, postgres_escape_string_is_valid,
+    split_radix_prefix, split_radix_prefix_bytes, string_literal_embeds_nul, to_unicode_ident,
+    uescape_argument_is_legal, unicode_escape_string_is_valid,
+};
+pub use in_bytes::InBytes;
+pub use kinds::{BitStringRadix, Expected, IntervalFields, Kind, TimeZone};
+pub use literal::Literal;
+pub use settings::Settings;
+pub use span::Span;
+pub use texts::Text;
+pub use writer::{LEAST_PART, LONGEST_VALUE, to_literal, to_parts, write_literal, write_parts};

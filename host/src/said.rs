@@ -1,0 +1,63 @@
+//! What the archive says to a question, and what that is in Rust.
+
+use crate::errors::Error;
+use crate::literal::Literal;
+use crate::source::Source;
+use crate::texts::Text;
+
+/// How a text is answered: `VALDRABUS_NONE`, `_BORROWED` and `_WRITTEN` of the header.
+const NONE: u32 = 0;
+const BORROWED: u32 = 1;
+const WRITTEN: u32 = 2;
+
+/// A number, how a text is answered, and the two values that come with it.
+#[derive(Default)]
+pub(crate) struct Said {
+    pub(crate) number: u32,
+    pub(crate) how: u32,
+    pub(crate) first: usize,
+    pub(crate) second: usize,
+}
+
+impl Said {
+    /// Refuses by the number, where it is not 0.
+    pub(crate) fn accepted(&self, literal: Option<&Literal>) -> Result<(), Error> {
+        match (self.number, literal) {
+            (0, _) => Ok(()),
+            (number, Some(literal)) => Err(Error::of_literal(number, self.first, self.second, literal)),
+            (number, None) => Err(Error::of_bare(number, self.second)),
+        }
+    }
+
+    /// A text, of the source or of the buffer.
+    pub(crate) fn text<'s, 'b, S: Source + ?Sized>(
+        self,
+        literal: Option<&Literal>,
+        source: &'s S,
+        out: &'b [u8],
+    ) -> Result<Text<'s, 'b, S>, Error> {
+        self.accepted(literal)?;
+        let range = self.first..self.second;
+        let text = match self.how {
+            BORROWED => source.part(range).map(Text::Borrowed),
+            WRITTEN => out.get(range).and_then(S::shown).map(Text::Written),
+            _ => None,
+        };
+        text.ok_or(Error::BadNumber)
+    }
+
+    /// A part of the source, or that there is none.
+    pub(crate) fn part<'s, S: Source + ?Sized>(self, literal: &Literal, source: &'s S) -> Result<Option<&'s S>, Error> {
+        self.accepted(Some(literal))?;
+        match self.how {
+            NONE => Ok(None),
+            BORROWED => source.part(self.first..self.second).map(Some).ok_or(Error::BadNumber),
+            _ => Err(Error::BadNumber),
+        }
+    }
+
+    /// A part of the source that is always there.
+    pub(crate) fn whole_part<'s, S: Source + ?Sized>(self, literal: &Literal, source: &'s S) -> Result<&'s S, Error> {
+        self.part(literal, source)?.ok_or(Error::BadNumber)
+    }
+}

@@ -1,0 +1,87 @@
+//! What the safe functions never meet: numbers that name nothing, and the view. Through the C functions themselves.
+
+use valdrabus::sys;
+
+const BAD_NUMBER: u32 = 10;
+
+/// A string read by its raw numbers: what is returned, how, first and second, which all begin as 77.
+fn as_str(kind: u32, synthetic: u32, setting: u32) -> [usize; 4] {
+    let source = b"'a''b'";
+    let mut out = [0xA5; 8];
+    let (mut how, mut first, mut second) = (77, 77, 77);
+    // SAFETY: slices and references of this function.
+    let number = unsafe {
+        sys::valdrabus_as_str_in(
+            kind,
+            synthetic,
+            0,
+            6,
+            source.as_ptr(),
+            source.len(),
+            setting,
+            out.as_mut_ptr(),
+            out.len(),
+            &mut how,
+            &mut first,
+            &mut second,
+        )
+    };
+    if number != 0 {
+        assert_eq!(out, [0xA5; 8]);
+    }
+    [number as usize, how as usize, first, second]
+}
+
+#[test]
+fn number_10_for_what_names_nothing() {
+    assert_eq!(as_str(4, 0, 0), [0, 2, 0, 3]);
+    for (kind, synthetic, setting) in [(0, 0, 0), (15, 0, 0), (u32::MAX, 0, 0), (4, 2, 0), (4, 0, 2), (1, 0, 2)] {
+        assert_eq!(as_str(kind, synthetic, setting), [BAD_NUMBER as usize, 0, 0, 0], "{kind} {synthetic} {setting}");
+    }
+    assert_eq!(as_str(1, 2, 0)[0], BAD_NUMBER as usize);
+}
+
+#[test]
+fn number_10_of_every_function_that_takes_a_number() {
+    let (source, mut out) = (b"1", [0xA5; 8]);
+    let (from, to, room) = (source.as_ptr(), out.as_mut_ptr(), out.len());
+    let (mut how, mut first, mut second, mut value, mut truth, mut len) = (77, 77, 77, 77, 77, 77);
+    // SAFETY: slices and references of this function.
+    let numbers = unsafe {
+        [
+            sys::valdrabus_as_decimal_text(0, 0, 0, 1, from, 1, to, room, &mut how, &mut first, &mut second),
+            sys::valdrabus_as_bit_text(0, 0, 0, 1, from, 1, to, room, &mut how, &mut first, &mut second),
+            sys::valdrabus_as_temporal_text(0, 0, 0, 1, from, 1, to, room, &mut how, &mut first, &mut second),
+            sys::valdrabus_source_text(0, 0, 0, 1, from, 1, &mut how, &mut first, &mut second),
+            sys::valdrabus_as_money_text(0, 0, 0, 1, from, 1, &mut how, &mut first, &mut second),
+            sys::valdrabus_charset_introducer(0, 0, 0, 1, from, 1, &mut how, &mut first, &mut second),
+            sys::valdrabus_as_i64(0, 0, 0, 1, from, 1, &mut value, &mut first, &mut second),
+            sys::valdrabus_as_bool(0, &mut truth, &mut first, &mut second),
+            sys::valdrabus_as_null(15, &mut first, &mut second),
+            sys::valdrabus_write_literal(from, 1, 2, to, room, &mut len),
+            sys::valdrabus_write_parts(from, 1, 3, 2, to, room, &mut len),
+        ]
+    };
+    assert_eq!(numbers, [BAD_NUMBER; 11]);
+    assert_eq!((how, first, second, value, truth, len), (0, 0, 0, 0, 0, 0));
+    assert_eq!(out, [0xA5; 8]);
+    // SAFETY: no pointer is given.
+    assert!(unsafe { !sys::valdrabus_is_null(0) && !sys::valdrabus_is_null(99) && sys::valdrabus_is_null(7) });
+}
+
+fn view(how: u32, first: usize, second: usize) -> (u32, usize, usize) {
+    let (mut from, mut until) = (77, 77);
+    // SAFETY: references of this function.
+    let shown = unsafe { sys::valdrabus_view(how, first, second, 10, 4, &mut from, &mut until) };
+    (shown, from, until)
+}
+
+#[test]
+fn the_view_shows_a_part_that_fits_or_an_empty_one() {
+    assert_eq!(view(1, 3, 10), (1, 3, 10));
+    assert_eq!(view(2, 0, 4), (2, 0, 4));
+    assert_eq!(view(1, 10, 10), (1, 10, 10));
+    for (how, first, second) in [(0, 0, 1), (1, 3, 11), (1, 4, 3), (2, 0, 5), (3, 0, 1), (1, usize::MAX, usize::MAX)] {
+        assert_eq!(view(how, first, second), (0, 0, 0), "{how} {first} {second}");
+    }
+}

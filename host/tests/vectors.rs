@@ -1,0 +1,244 @@
+//! Every row of `vectors/` that a caller of this crate can ask: the Rust original's own answers, and how document 01 is read. docs/VECTORS.md says what a row holds.
+
+mod common;
+
+use common::{KINDS, LENT};
+use std::fmt::Write;
+use valdrabus::*;
+
+struct Row {
+    id: String,
+    question: String,
+    kind: String,
+    setting: Settings,
+    start: String,
+    end: String,
+    source: Vec<u8>,
+    room: String,
+    answer: String,
+}
+
+fn rows(name: &str) -> Vec<Row> {
+    let path = format!("{}/../vectors/{name}.tsv", env!("CARGO_MANIFEST_DIR"));
+    let table = std::fs::read_to_string(&path).unwrap_or_else(|why| panic!("{path}: {why}"));
+    table.lines().filter(|line| !line.starts_with('#')).map(row).filter(|row| row.question != "record").collect()
+}
+
+fn row(line: &str) -> Row {
+    let mut columns = line.split('\t').map(str::to_owned);
+    let mut next = || columns.next().expect("nine columns");
+    Row {
+        id: next(),
+        question: next(),
+        kind: next(),
+        setting: Settings { backslash: next() == "1" },
+        start: next(),
+        end: next(),
+        source: unhex(&next()),
+        room: next(),
+        answer: next(),
+    }
+}
+
+fn unhex(text: &str) -> Vec<u8> {
+    let digits = if text == "-" { "" } else { text };
+    (0..digits.len()).step_by(2).map(|at| u8::from_str_radix(&digits[at..at + 2], 16).expect("hex")).collect()
+}
+
+fn hex(bytes: &[u8]) -> String {
+    if bytes.is_empty() {
+        return "-".to_owned();
+    }
+    bytes.iter().fold(String::new(), |mut text, byte| {
+        write!(text, "{byte:02X}").unwrap();
+        text
+    })
+}
+
+impl Row {
+    fn literal(&self) -> Literal {
+        let kind = KINDS[self.kind.parse::<usize>().unwrap() - 1];
+        let span = self.start.parse().unwrap()..self.end.parse().unwrap();
+        Literal { synthetic: self.question.ends_with("/synthetic"), ..Literal::new(kind, span) }
+    }
+
+    /// The bytes that are written where there is room for them.
+    fn value(&self) -> Option<Vec<u8>> {
+        self.answer.strip_prefix("w ").map(unhex)
+    }
+
+    /// The lengths of the buffers to lend. A borrowed answer and a refusal need none, and must leave any.
+    fn lengths(&self) -> Vec<usize> {
+        match (self.room.parse::<isize>(), self.value()) {
+            (Ok(room), _) if self.question == "writer" => vec![room as usize],
+            (Ok(room), Some(value)) => vec![value.len().checked_add_signed(room).expect("a length")],
+            _ => vec![0, 64],
+        }
+    }
+
+    /// The answer that is due in a buffer of a length, and the buffer's bytes behind the call.
+    fn due(&self, len: usize) -> (String, Vec<u8>) {
+        match self.value() {
+            Some(value) if value.len() <= len => {
+                let rest = vec![LENT; len - value.len()];
+                (self.answer.clone(), [value, rest].concat())
+            }
+            Some(value) => (format!("r 9 {}", value.len()), vec![LENT; len]),
+            None => (self.answer.clone(), vec![LENT; len]),
+        }
+    }
+}
+
+fn refused(error: Error) -> String {
+    match (error, error.span()) {
+        (Error::WrongKind { expected, actual }, _) => format!("r 1 {} {}", expected.code(), actual.code()),
+        (Error::NoRoom { needed }, _) => format!("r 9 {needed}"),
+        (_, Some(span)) => format!("r {} {} {}", error.number(), span.start, span.end),
+        (_, None) => format!("r {}", error.number()),
+    }
+}
+
+/// Where a part stands in the source that it is a part of.
+fn borrowed(source: &[u8], part: &[u8]) -> String {
+    let start = part.as_ptr().addr() - source.as_ptr().addr();
+    format!("b {} {}", start, start + part.len())
+}
+
+fn told<T: AsRef<[u8]> + ?Sized>(source: &[u8], answer: Result<Text<'_, '_, T>, Error>) -> String {
+    match answer {
+        Ok(Text::Borrowed(part)) => borrowed(source, part.as_ref()),
+        Ok(Text::Written(text)) => format!("w {}", hex(text.as_ref())),
+        Err(error) => refused(error),
+    }
+}
+
+fn told_part<T: AsRef<[u8]> + ?Sized>(source: &[u8], answer: Result<Option<&T>, Error>) -> String {
+    match answer {
+        Ok(Some(part)) => borrowed(source, part.as_ref()),
+        Ok(None) => "n".to_owned(),
+        Err(error) => refused(error),
+    }
+}
+
+fn yes(truth: bool) -> String {
+    if truth { "yes" } else { "no" }.to_owned()
+}
+
+/// The row asked over bytes.
+fn in_bytes(row: &Row, out: &mut [u8]) -> String {
+    let source = &row.source[..];
+    let question = row.question.trim_end_matches("/synthetic");
+    if let Some(answer) = on_bare_text(row, question, out) {
+        return answer;
+    }
+    let literal = row.literal();
+    let asked = literal.in_bytes(source);
+    match question {
+        "string" => told(source, asked.as_str_in(row.setting, out)),
+        "plain" => told(source, asked.as_str(out)),
+        "decimal" => told(source, asked.as_decimal_text(out)),
+        "bits" => told(source, asked.as_bit_text(out)),
+        "temporal" => told(source, asked.as_temporal_text(out)),
+        "money" => told_part(source, asked.as_money_text().map(Some)),
+        "source" => told_part(source, asked.source_text().map(Some)),
+        "charset" => told_part(source, asked.charset_introducer()),
+        "i64" => asked.as_i64().map_or_else(refused, |value| format!("i {value}")),
+        "bool" => literal.as_bool().map_or_else(refused, yes),
+        "null" => literal.as_null().map_or_else(refused, |()| yes(literal.is_null())),
+        other => panic!("no question {other}"),
+    }
+}
+
+fn on_bare_text(row: &Row, question: &str, out: &mut [u8]) -> Option<String> {
+    let source = &row.source[..];
+    Some(match question {
+        "ident" => told(source, materialize_unicode_ident_bytes(source, out)),
+        "isident" => yes(is_unicode_ident(source)),
+        "evalid" => yes(postgres_escape_string_is_valid(source)),
+        "uvalid" => yes(unicode_escape_string_is_valid(source)),
+        "uescape" => yes(uescape_argument_is_legal(source)),
+        "nul" => yes(string_literal_embeds_nul(source)),
+        "radix" => {
+            let (base, rest) = split_radix_prefix_bytes(source);
+            format!("p {base} {}", source.len() - rest.len())
+        }
+        "writer" => match row.start.parse() {
+            Ok(size) => write_parts(source, size, row.setting, out),
+            Err(_) => write_literal(source, row.setting, out),
+        }
+        .map_or_else(refused, |text| format!("w {}", hex(text.as_bytes()))),
+        _ => return None,
+    })
+}
+
+/// The row asked over text, where that differs from bytes.
+fn in_text(row: &Row, text: &str, out: &mut [u8]) -> Option<String> {
+    let source = text.as_bytes();
+    let literal = || row.literal();
+    Some(match row.question.trim_end_matches("/synthetic") {
+        "string" => told(source, literal().as_str_in(text, row.setting, out)),
+        "plain" => told(source, literal().as_str(text, out)),
+        "decimal" => told(source, literal().as_decimal_text(text, out)),
+        "bits" => told(source, literal().as_bit_text(text, out)),
+        "temporal" => told(source, literal().as_temporal_text(text, out)),
+        "money" => told_part(source, literal().as_money_text(text).map(Some)),
+        "source" => told_part(source, literal().source_text(text).map(Some)),
+        "charset" => told_part(source, literal().charset_introducer(text)),
+        "i64" => literal().as_i64(text).map_or_else(refused, |value| format!("i {value}")),
+        "ident" => told(source, materialize_unicode_ident(text, out)),
+        "radix" => {
+            let (base, rest) = split_radix_prefix(text);
+            format!("p {base} {}", text.len() - rest.len())
+        }
+        _ => return None,
+    })
+}
+
+/// The row asked for a text of its own.
+fn allocated(row: &Row, text: &str) -> Option<String> {
+    let answer = match row.question.trim_end_matches("/synthetic") {
+        "string" => row.literal().to_str_in(text, row.setting),
+        "plain" => row.literal().to_str(text),
+        "decimal" => row.literal().to_decimal_text(text),
+        "bits" => row.literal().to_bit_text(text),
+        "temporal" => row.literal().to_temporal_text(text),
+        "ident" => to_unicode_ident(text),
+        _ => return None,
+    };
+    Some(match answer {
+        Ok(std::borrow::Cow::Borrowed(part)) => borrowed(text.as_bytes(), part.as_bytes()),
+        Ok(std::borrow::Cow::Owned(text)) => format!("w {}", hex(text.as_bytes())),
+        Err(error) => refused(error),
+    })
+}
+
+fn replay(name: &str) -> usize {
+    let mut asked = 0;
+    for row in rows(name) {
+        let text = std::str::from_utf8(&row.source).ok();
+        for len in row.lengths() {
+            let (answer, buffer) = row.due(len);
+            let mut out = vec![LENT; len];
+            assert_eq!((in_bytes(&row, &mut out), &out), (answer.clone(), &buffer), "{name} {} in bytes", row.id);
+            out.fill(LENT);
+            if let Some(said) = text.and_then(|text| in_text(&row, text, &mut out)) {
+                assert_eq!((said, &out), (answer, &buffer), "{name} {} in text", row.id);
+            }
+        }
+        if let Some(said) = text.and_then(|text| allocated(&row, text)) {
+            assert_eq!(said, row.answer, "{name} {} allocated", row.id);
+        }
+        asked += 1;
+    }
+    asked
+}
+
+#[test]
+fn the_rusts_own_answers() {
+    assert_eq!(replay("oracle"), 2_690);
+}
+
+#[test]
+fn how_document_01_is_read() {
+    assert_eq!(replay("clarified"), 638 - 23);
+}

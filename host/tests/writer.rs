@@ -1,0 +1,77 @@
+//! What is written, and that it reads back: whole and in parts, at both settings.
+
+mod common;
+
+use common::{LENT, whole};
+use valdrabus::*;
+
+const BOTH: [Settings; 2] = [Settings::STANDARD, Settings::MYSQL];
+
+#[test]
+fn quotes_backslashes_and_nul() {
+    assert_eq!(to_literal("", Settings::STANDARD).unwrap(), "''");
+    assert_eq!(to_literal("a'b", Settings::STANDARD).unwrap(), "'a''b'");
+    assert_eq!(to_literal(r"a\b", Settings::STANDARD).unwrap(), r"'a\b'");
+    assert_eq!(to_literal(r"a\b'", Settings::MYSQL).unwrap(), r"'a\\b'''");
+    assert_eq!(to_literal("\0", Settings::MYSQL).unwrap(), r"'\0'");
+    assert_eq!(to_literal("\"", Settings::MYSQL).unwrap(), "'\"'");
+}
+
+#[test]
+fn parts_hold_whole_characters() {
+    assert_eq!(to_parts("", 4, Settings::STANDARD).unwrap(), "''");
+    assert_eq!(to_parts("abcd", 4, Settings::STANDARD).unwrap(), "'abcd'");
+    assert_eq!(to_parts("abcde", 4, Settings::STANDARD).unwrap(), "'abcd' 'e'");
+    assert_eq!(to_parts("aaa😀b", 4, Settings::STANDARD).unwrap(), "'aaa' '😀' 'b'");
+    assert_eq!(to_parts("''''''", 4, Settings::STANDARD).unwrap(), "'''''''''' ''''''");
+}
+
+#[test]
+fn the_rest_of_the_buffer_is_unchanged() {
+    let mut out = [LENT; 8];
+    assert_eq!(write_literal("a'", Settings::STANDARD, &mut out), Ok("'a'''"));
+    assert_eq!(out, *b"'a'''\xA5\xA5\xA5");
+    out.fill(LENT);
+    assert_eq!(write_parts("abcde", 6, Settings::STANDARD, &mut out), Ok("'abcde'"));
+    assert_eq!(out, *b"'abcde'\xA5");
+}
+
+/// Values over characters of every length and of every part in a spelling.
+fn values() -> Vec<String> {
+    let alphabet = ['a', '\'', '\\', '"', '%', '0', ' ', '\n', 'é', '€', '😀', '\u{3000}'];
+    let mut values = vec![String::new()];
+    for len in 1..4 {
+        let shorter = values.iter().filter(|value| value.chars().count() == len - 1).cloned().collect::<Vec<_>>();
+        values.extend(shorter.iter().flat_map(|value| alphabet.map(|next| format!("{value}{next}"))));
+    }
+    values
+}
+
+#[test]
+fn what_is_written_reads_back() {
+    let values = values();
+    assert_eq!(values.len(), 1 + 12 + 144 + 1728);
+    for value in &values {
+        for settings in BOTH {
+            let literal = to_literal(value, settings).unwrap();
+            assert_eq!(whole(Kind::String, &literal).to_str_in(&literal, settings).unwrap(), *value, "{literal}");
+        }
+    }
+}
+
+#[test]
+fn parts_read_back_whole() {
+    for value in values() {
+        let long = format!("{value}{value}x{value}");
+        for (settings, size) in BOTH.into_iter().flat_map(|settings| [4, 5, 7, 1000].map(|size| (settings, size))) {
+            let parts = to_parts(&long, size, settings).unwrap();
+            assert_eq!(whole(Kind::String, &parts).to_str_in(&parts, settings).unwrap(), long, "{parts}");
+        }
+    }
+}
+
+#[test]
+fn nul_reads_back_where_it_can_be_written() {
+    let literal = to_literal("a\0\0b", Settings::MYSQL).unwrap();
+    assert_eq!(whole(Kind::String, &literal).to_str_in(&literal, Settings::MYSQL).unwrap(), "a\0\0b");
+}

@@ -1,0 +1,298 @@
+/*
+ * Calls each function of valdrabus.h, and compares what it answers, the lent numbers and every byte of the buffer with what document 01's examples and the tables of its
+ * reading say. Prints one line; ends with status 1 at the first difference, having said where it stands.
+ */
+#include "valdrabus.h"
+
+#include <stdio.h>
+#include <stdlib.h>
+#include <string.h>
+
+#define LENT 0xA5
+#define ROOM 64
+
+/* What a call is lent, and what it left. */
+struct call {
+    uint32_t number;
+    uint32_t how;
+    size_t first;
+    size_t second;
+    uint8_t out[ROOM];
+};
+
+static unsigned checks;
+
+static void fail(int line, const char *what)
+{
+    fprintf(stderr, "calls.c, line %d: %s\n", line, what);
+    exit(1);
+}
+
+static void check(int line, int holds, const char *what)
+{
+    checks++;
+    if (!holds)
+        fail(line, what);
+}
+
+#define CHECK(test) check(__LINE__, (test) != 0, #test)
+
+/* Numbers that no call leaves, and a buffer in which a changed byte shows. */
+static struct call lent(void)
+{
+    struct call call = {77, 77, 77, 77, {0}};
+    memset(call.out, LENT, ROOM);
+    return call;
+}
+
+static const uint8_t *bytes(const char *text)
+{
+    return (const uint8_t *)text;
+}
+
+/* Whether the buffer holds a text at its start, and what was lent behind it. */
+static int holds(const struct call *call, const char *text)
+{
+    size_t at = strlen(text);
+    if (memcmp(call->out, text, at) != 0)
+        return 0;
+    for (; at < ROOM; at++)
+        if (call->out[at] != LENT)
+            return 0;
+    return 1;
+}
+
+static int says(const struct call *call, uint32_t number, uint32_t how, size_t first, size_t second)
+{
+    return call->number == number && call->how == how && call->first == first && call->second == second;
+}
+
+/* Each of these holds of a call that was asked of a literal that is all of its source. */
+
+static int borrowed(struct call call, size_t first, size_t second)
+{
+    return says(&call, VALDRABUS_OK, VALDRABUS_BORROWED, first, second) && holds(&call, "");
+}
+
+static int written(struct call call, const char *text)
+{
+    return says(&call, VALDRABUS_OK, VALDRABUS_WRITTEN, 0, strlen(text)) && holds(&call, text);
+}
+
+static int refused(struct call call, uint32_t number, size_t first, size_t second)
+{
+    return says(&call, number, VALDRABUS_NONE, first, second) && holds(&call, "");
+}
+
+/* The questions whose signatures are alike. */
+typedef uint32_t text_question(uint32_t, uint32_t, uint32_t, uint32_t, const uint8_t *, size_t, uint8_t *, size_t, uint32_t *, size_t *, size_t *);
+typedef uint32_t part_question(uint32_t, uint32_t, uint32_t, uint32_t, const uint8_t *, size_t, uint32_t *, size_t *, size_t *);
+
+static struct call string_in(uint32_t kind, const char *source, size_t len, uint32_t setting, size_t room)
+{
+    struct call c = lent();
+    c.number = valdrabus_as_str_in(kind, 0, 0, (uint32_t)len, bytes(source), len, setting, c.out, room, &c.how, &c.first, &c.second);
+    return c;
+}
+
+static struct call string(const char *source, uint32_t setting)
+{
+    return string_in(VALDRABUS_KIND_STRING, source, strlen(source), setting, ROOM);
+}
+
+static struct call text_in(text_question *ask, uint32_t kind, const char *source, size_t room)
+{
+    struct call c = lent();
+    size_t len = strlen(source);
+    c.number = ask(kind, 0, 0, (uint32_t)len, bytes(source), len, c.out, room, &c.how, &c.first, &c.second);
+    return c;
+}
+
+static struct call part_of(part_question *ask, uint32_t kind, uint32_t synthetic, uint32_t start, uint32_t end, const char *source)
+{
+    struct call c = lent();
+    c.number = ask(kind, synthetic, start, end, bytes(source), strlen(source), &c.how, &c.first, &c.second);
+    return c;
+}
+
+static struct call part(part_question *ask, uint32_t kind, const char *source)
+{
+    return part_of(ask, kind, 0, 0, (uint32_t)strlen(source), source);
+}
+
+static void strings(void)
+{
+    CHECK(written(string("'a' 'b' ", 0), "ab"));
+    CHECK(refused(string("'a' ", 0), VALDRABUS_INVALID_STRING, 0, 4));
+    CHECK(refused(string("'a' E'c'", 0), VALDRABUS_INVALID_STRING, 0, 8));
+    CHECK(written(string("'x' 'a' E'c'", 0), "xac"));
+    CHECK(written(string("'a\\'", 1), "a\\"));
+    CHECK(borrowed(string("'a\\'", 0), 1, 3));
+    CHECK(refused(string("E'\\400'", 0), VALDRABUS_INVALID_STRING, 0, 7));
+    CHECK(written(string("E'\\477'", 0), "?"));
+    CHECK(written(string("E'\\xC3\\xA9'", 0), "\xC3\xA9"));
+    CHECK(refused(string("$a$a$", 0), VALDRABUS_INVALID_STRING, 0, 5));
+    CHECK(borrowed(string("$$a$$b$$", 0), 2, 6));
+    CHECK(refused(string_in(VALDRABUS_KIND_STRING, "E'a\0'", 5, 0, ROOM), VALDRABUS_INVALID_STRING, 0, 5));
+    CHECK(refused(string("'\xFF'", 0), VALDRABUS_NOT_UTF8, 0, 3));
+    CHECK(refused(string("", 0), VALDRABUS_INVALID_STRING, 0, 0));
+    CHECK(refused(string_in(VALDRABUS_KIND_STRING, "'ab' 'c'", 8, 0, 2), VALDRABUS_NO_ROOM, 0, 3));
+    CHECK(written(string_in(VALDRABUS_KIND_STRING, "'ab' 'c'", 8, 0, 3), "abc"));
+    CHECK(borrowed(string_in(VALDRABUS_KIND_STRING, "'abc'", 5, 0, 0), 1, 4));
+    CHECK(refused(string_in(VALDRABUS_KIND_INTEGER, "'a'", 3, 0, ROOM), VALDRABUS_WRONG_KIND, VALDRABUS_EXPECTED_STRING, VALDRABUS_KIND_INTEGER));
+    CHECK(refused(string_in(0, "'a'", 3, 0, ROOM), VALDRABUS_BAD_NUMBER, 0, 0));
+    CHECK(refused(string_in(15, "'a'", 3, 0, ROOM), VALDRABUS_BAD_NUMBER, 0, 0));
+    CHECK(refused(string("'a'", 2), VALDRABUS_BAD_NUMBER, 0, 0));
+}
+
+static void other_texts(void)
+{
+    text_question *decimal = valdrabus_as_decimal_text, *bits = valdrabus_as_bit_text, *temporal = valdrabus_as_temporal_text;
+
+    CHECK(written(text_in(decimal, VALDRABUS_KIND_INTEGER, "0x1F", ROOM), "31"));
+    CHECK(written(text_in(decimal, VALDRABUS_KIND_DECIMAL, "1_000.5", ROOM), "1000.5"));
+    CHECK(borrowed(text_in(decimal, VALDRABUS_KIND_FLOAT, "1.5e3", 0), 0, 5));
+    CHECK(written(text_in(decimal, VALDRABUS_KIND_INTEGER, "0x-80000000000000000000000000000000", 40), "-170141183460469231731687303715884105728"));
+    CHECK(refused(text_in(decimal, VALDRABUS_KIND_INTEGER, "-0x-80000000000000000000000000000000", ROOM), VALDRABUS_INVALID_INTEGER, 0, 36));
+    CHECK(refused(text_in(decimal, VALDRABUS_KIND_INTEGER, "0x1F", 1), VALDRABUS_NO_ROOM, 0, 2));
+    CHECK(refused(text_in(decimal, VALDRABUS_KIND_MONEY, "1", ROOM), VALDRABUS_WRONG_KIND, VALDRABUS_EXPECTED_DECIMAL_TEXT, VALDRABUS_KIND_MONEY));
+
+    CHECK(written(text_in(bits, VALDRABUS_KIND_BINARY_BITS, "B'01' ", ROOM), "01"));
+    CHECK(borrowed(text_in(bits, VALDRABUS_KIND_HEX_BITS, "B'aF'", ROOM), 2, 4));
+    CHECK(refused(text_in(bits, VALDRABUS_KIND_BINARY_BITS, "B'2'", ROOM), VALDRABUS_INVALID_BIT_STRING, 0, 4));
+    CHECK(refused(text_in(bits, VALDRABUS_KIND_NULL, "B'0'", ROOM), VALDRABUS_WRONG_KIND, VALDRABUS_EXPECTED_BIT_STRING, VALDRABUS_KIND_NULL));
+
+    CHECK(borrowed(text_in(temporal, VALDRABUS_KIND_DATE, "DATE $$a$$b$$", ROOM), 7, 8));
+    CHECK(borrowed(text_in(temporal, VALDRABUS_KIND_TIME, "DATE'\\n'", ROOM), 5, 7));
+    CHECK(written(text_in(temporal, VALDRABUS_KIND_TIMESTAMP, "DATE E'\\n'", ROOM), "\n"));
+    CHECK(refused(text_in(temporal, VALDRABUS_KIND_INTERVAL, "\"a\"", ROOM), VALDRABUS_INVALID_STRING, 0, 3));
+    CHECK(refused(text_in(temporal, VALDRABUS_KIND_TRUE, "'a'", ROOM), VALDRABUS_WRONG_KIND, VALDRABUS_EXPECTED_TEMPORAL, VALDRABUS_KIND_TRUE));
+}
+
+static void parts(void)
+{
+    part_question *text = valdrabus_source_text, *money = valdrabus_as_money_text, *charset = valdrabus_charset_introducer;
+
+    CHECK(borrowed(part(text, VALDRABUS_KIND_NULL, "NULL"), 0, 4));
+    CHECK(borrowed(part_of(text, VALDRABUS_KIND_STRING, 0, 2, 5, "x 'a' y"), 2, 5));
+    CHECK(refused(part_of(text, VALDRABUS_KIND_STRING, 1, 7, 5, "'a'"), VALDRABUS_MISSING_SOURCE, 7, 5));
+    CHECK(refused(part_of(text, VALDRABUS_KIND_STRING, 0, 1, 2, "\xC3\xA9"), VALDRABUS_INVALID_SOURCE_RANGE, 1, 2));
+    CHECK(refused(part_of(text, VALDRABUS_KIND_STRING, 0, 2, 1, "'a'"), VALDRABUS_INVALID_SOURCE_RANGE, 2, 1));
+    CHECK(refused(part_of(text, VALDRABUS_KIND_STRING, 0, 0, 4, "'a'"), VALDRABUS_INVALID_SOURCE_RANGE, 0, 4));
+    CHECK(refused(part_of(text, VALDRABUS_KIND_STRING, 2, 0, 3, "'a'"), VALDRABUS_BAD_NUMBER, 0, 0));
+
+    CHECK(borrowed(part(money, VALDRABUS_KIND_MONEY, "$12.50"), 1, 6));
+    CHECK(refused(part(money, VALDRABUS_KIND_MONEY, "12.50"), VALDRABUS_INVALID_MONEY, 0, 5));
+    CHECK(refused(part(money, VALDRABUS_KIND_FALSE, "$1"), VALDRABUS_WRONG_KIND, VALDRABUS_EXPECTED_MONEY, VALDRABUS_KIND_FALSE));
+
+    CHECK(borrowed(part(charset, VALDRABUS_KIND_STRING, "_utf8mb4'x'"), 1, 8));
+    CHECK(refused(part(charset, VALDRABUS_KIND_STRING, "'x'"), VALDRABUS_OK, 0, 0));
+    CHECK(refused(part(charset, VALDRABUS_KIND_STRING, "_a'\xFF'"), VALDRABUS_NOT_UTF8, 0, 5));
+}
+
+/* The number that an integer's reading gives, and the value beside it. */
+static uint32_t integer(const char *source, int64_t *value, size_t *first, size_t *second)
+{
+    size_t len = strlen(source);
+    *value = *first = *second = 77;
+    return valdrabus_as_i64(VALDRABUS_KIND_INTEGER, 0, 0, (uint32_t)len, bytes(source), len, value, first, second);
+}
+
+static void values(void)
+{
+    int64_t value;
+    uint32_t truth = 77;
+    size_t first, second;
+
+    CHECK(integer("-9223372036854775808", &value, &first, &second) == VALDRABUS_OK && value == INT64_MIN && first == 0 && second == 0);
+    CHECK(integer("-0x8000000000000000", &value, &first, &second) == VALDRABUS_INVALID_INTEGER && value == 0 && first == 0 && second == 19);
+    CHECK(integer("0x-5", &value, &first, &second) == VALDRABUS_OK && value == -5);
+    CHECK(integer("1_0", &value, &first, &second) == VALDRABUS_OK && value == 10);
+
+    CHECK(valdrabus_as_bool(VALDRABUS_KIND_TRUE, &truth, &first, &second) == VALDRABUS_OK && truth == 1);
+    CHECK(valdrabus_as_bool(VALDRABUS_KIND_FALSE, &truth, &first, &second) == VALDRABUS_OK && truth == 0);
+    truth = 77;
+    CHECK(valdrabus_as_bool(VALDRABUS_KIND_NULL, &truth, &first, &second) == VALDRABUS_WRONG_KIND && truth == 0);
+    CHECK(first == VALDRABUS_EXPECTED_BOOLEAN && second == VALDRABUS_KIND_NULL);
+    CHECK(valdrabus_as_null(VALDRABUS_KIND_NULL, &first, &second) == VALDRABUS_OK && first == 0 && second == 0);
+    CHECK(valdrabus_as_null(VALDRABUS_KIND_STRING, &first, &second) == VALDRABUS_WRONG_KIND);
+    CHECK(first == VALDRABUS_EXPECTED_NULL && second == VALDRABUS_KIND_STRING);
+    CHECK(valdrabus_as_null(99, &first, &second) == VALDRABUS_BAD_NUMBER && first == 0 && second == 0);
+    CHECK(valdrabus_is_null(VALDRABUS_KIND_NULL) && !valdrabus_is_null(VALDRABUS_KIND_STRING) && !valdrabus_is_null(99));
+}
+
+static int view(uint32_t how, size_t first, size_t second, uint32_t shown, size_t start, size_t end)
+{
+    size_t from = 77, until = 77;
+    return valdrabus_view(how, first, second, 10, 4, &from, &until) == shown && from == start && until == end;
+}
+
+static void views(void)
+{
+    CHECK(view(VALDRABUS_BORROWED, 3, 10, VALDRABUS_BORROWED, 3, 10));
+    CHECK(view(VALDRABUS_WRITTEN, 0, 4, VALDRABUS_WRITTEN, 0, 4));
+    CHECK(view(VALDRABUS_BORROWED, 3, 11, VALDRABUS_NONE, 0, 0));
+    CHECK(view(VALDRABUS_WRITTEN, 0, 5, VALDRABUS_NONE, 0, 0));
+    CHECK(view(VALDRABUS_NONE, 0, 3, VALDRABUS_NONE, 0, 0));
+}
+
+static void writer(void)
+{
+    struct call c = lent();
+
+    c.number = valdrabus_write_literal(bytes("a'b"), 3, 0, c.out, ROOM, &c.second);
+    CHECK(c.number == VALDRABUS_OK && c.second == 6 && holds(&c, "'a''b'"));
+    c = lent();
+    c.number = valdrabus_write_literal(bytes("a\\\0"), 3, 1, c.out, ROOM, &c.second);
+    CHECK(c.number == VALDRABUS_OK && c.second == 7 && holds(&c, "'a\\\\\\0'"));
+    c = lent();
+    c.number = valdrabus_write_parts(bytes("abcde"), 5, 4, 0, c.out, ROOM, &c.second);
+    CHECK(c.number == VALDRABUS_OK && c.second == 10 && holds(&c, "'abcd' 'e'"));
+    CHECK(written(string("'abcd' 'e'", 0), "abcde"));
+
+    c = lent();
+    CHECK(valdrabus_write_literal(bytes("abc"), 3, 0, c.out, 4, &c.second) == VALDRABUS_NO_ROOM && c.second == 5 && holds(&c, ""));
+    CHECK(valdrabus_write_literal(bytes("\0"), 1, 0, c.out, ROOM, &c.second) == VALDRABUS_HOLDS_NUL && c.second == 0 && holds(&c, ""));
+    CHECK(valdrabus_write_literal(bytes("\xFF"), 1, 0, c.out, ROOM, &c.second) == VALDRABUS_NOT_UTF8 && c.second == 0 && holds(&c, ""));
+    CHECK(valdrabus_write_parts(bytes("a"), 1, 3, 0, c.out, ROOM, &c.second) == VALDRABUS_OVER_LIMIT && c.second == 0 && holds(&c, ""));
+    CHECK(valdrabus_write_parts(bytes("a"), 1, 3, 2, c.out, ROOM, &c.second) == VALDRABUS_BAD_NUMBER && c.second == 0 && holds(&c, ""));
+}
+
+static struct call identifier(const char *text, size_t room)
+{
+    struct call c = lent();
+    c.number = valdrabus_materialize_unicode_ident(bytes(text), strlen(text), c.out, room, &c.how, &c.first, &c.second);
+    return c;
+}
+
+static void helpers(void)
+{
+    size_t start = 77;
+
+    CHECK(valdrabus_split_radix_prefix(bytes("0x1F"), 4, &start) == 16 && start == 2);
+    CHECK(valdrabus_split_radix_prefix(bytes("-0x1"), 4, &start) == 10 && start == 0);
+    CHECK(valdrabus_uescape_argument_is_legal(bytes("'!'"), 3) && !valdrabus_uescape_argument_is_legal(bytes("'+'"), 3));
+    CHECK(valdrabus_postgres_escape_string_is_valid(bytes("E'a\0'"), 5) && !valdrabus_postgres_escape_string_is_valid(bytes("E'\\0'"), 5));
+    CHECK(valdrabus_unicode_escape_string_is_valid(bytes("U&''"), 4) && !valdrabus_unicode_escape_string_is_valid(bytes("U&'\\'"), 5));
+    CHECK(valdrabus_string_literal_embeds_nul(bytes("a\0"), 2) && !valdrabus_string_literal_embeds_nul(bytes("a"), 1));
+    CHECK(valdrabus_is_unicode_ident(bytes("U&\"x"), 4) && !valdrabus_is_unicode_ident(bytes("U&'x'"), 5));
+
+    CHECK(borrowed(identifier("U&\"a'b\"", 0), 3, 6));
+    CHECK(written(identifier("U&\"!0041\" UESCAPE '!'", ROOM), "A"));
+    CHECK(refused(identifier("U&\"\\0041\"", 0), VALDRABUS_NO_ROOM, 0, 1));
+    CHECK(refused(identifier("\"a\"", ROOM), VALDRABUS_INVALID_STRING, 0, 0));
+    CHECK(refused(identifier("U&\"\xFF\"", ROOM), VALDRABUS_NOT_UTF8, 0, 0));
+}
+
+int main(void)
+{
+    strings();
+    other_texts();
+    parts();
+    values();
+    views();
+    writer();
+    helpers();
+    printf("%u checks of the C functions hold\n", checks);
+    return 0;
+}
