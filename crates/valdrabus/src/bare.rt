@@ -27,7 +27,7 @@ pub extern "C" fn valdrabus_split_radix_prefix(text: &[u8], start: &mut usize) -
 }
 
 // Whether a quoted argument holds a legal UESCAPE character and nothing else.
-// Rules out: another helper asked; no for yes (must-fail: first_of_each, second_of_each).
+// Rules out: no for yes; yes always (must-fail: first_of_each, second_of_each).
 #[no_mangle]
 pub extern "C" fn valdrabus_uescape_argument_is_legal(text: &[u8]) -> bool
     ensures { λ r. ⌜ r ≡ uescapeLegal (now (text .entry)) ⌝ }
@@ -36,7 +36,7 @@ pub extern "C" fn valdrabus_uescape_argument_is_legal(text: &[u8]) -> bool
 }
 
 // Whether an E string can be read.
-// Rules out: another helper asked; no for yes (must-fail: first_of_each, second_of_each).
+// Rules out: no for yes; yes always (must-fail: first_of_each, second_of_each).
 #[no_mangle]
 pub extern "C" fn valdrabus_postgres_escape_string_is_valid(text: &[u8]) -> bool
     ensures { λ r. ⌜ r ≡ escapeValid (now (text .entry)) ⌝ }
@@ -45,7 +45,7 @@ pub extern "C" fn valdrabus_postgres_escape_string_is_valid(text: &[u8]) -> bool
 }
 
 // Whether a U& string can be read.
-// Rules out: another helper asked; no for yes (must-fail: first_of_each, second_of_each).
+// Rules out: no for yes; yes always (must-fail: first_of_each, second_of_each).
 #[no_mangle]
 pub extern "C" fn valdrabus_unicode_escape_string_is_valid(text: &[u8]) -> bool
     ensures { λ r. ⌜ r ≡ unicodeValid (now (text .entry)) ⌝ }
@@ -54,7 +54,7 @@ pub extern "C" fn valdrabus_unicode_escape_string_is_valid(text: &[u8]) -> bool
 }
 
 // Whether a text holds a raw NUL.
-// Rules out: another helper asked; no for yes (must-fail: first_of_each, second_of_each).
+// Rules out: no for yes; yes always (must-fail: first_of_each, second_of_each).
 #[no_mangle]
 pub extern "C" fn valdrabus_string_literal_embeds_nul(text: &[u8]) -> bool
     ensures { λ r. ⌜ r ≡ has 0 (now (text .entry)) ⌝ }
@@ -63,7 +63,7 @@ pub extern "C" fn valdrabus_string_literal_embeds_nul(text: &[u8]) -> bool
 }
 
 // Whether a text begins as a U& identifier.
-// Rules out: another helper asked; no for yes (must-fail: first_of_each, second_of_each).
+// Rules out: no for yes; yes always (must-fail: first_of_each, second_of_each).
 #[no_mangle]
 pub extern "C" fn valdrabus_is_unicode_ident(text: &[u8]) -> bool
     ensures { λ r. ⌜ r ≡ isUnicodeIdent (now (text .entry)) ⌝ }
