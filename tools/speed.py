@@ -19,6 +19,8 @@ TARGET = os.path.join(ROOT, 'target', 'host')
 BENCH = os.path.join(TARGET, 'release', 'bench')
 BEGIN, END = '<!-- from here on written by tools/speed.py -->\n', '<!-- up to here written by tools/speed.py -->\n'
 SIDES = ['ours', 'rust', 'rust-str']
+# the columns of times in bench's table
+OURS, RUST, RUST_STR = 3, 4, 6
 
 
 def output(*command):
@@ -42,11 +44,19 @@ def machine():
     return f'{known["model name"]} (family {known["cpu family"]}, model {known["model"]}), {os.cpu_count()} cores'
 
 
+def losses(rows):
+    """The cases in which ours takes longer, for either column of times."""
+    times = [[(row[0], float(row[OURS]) / float(row[at])) for row in rows] for at in (RUST, RUST_STR)]
+    slower = [[f'{name} ({by:.2f} times)' for name, by in column if by > 1] for column in times]
+    return ''.join(f'\nWhere ours takes longer than {than}: {"; ".join(names) or "nowhere"}.\n'
+                   for than, names in zip(('the Rust', 'the Rust without `from_utf8`'), slower))
+
+
 def section():
     times = output(BENCH)
     rows = [line.strip('| \n').split(' | ') for line in times.splitlines()[2:]]
     text = f'{machine()}; {output("rustc", "--version").strip()}, release builds; {output("valgrind", "--version").strip()}.\n\n'
-    text += 'Nanoseconds for one literal:\n\n' + times
+    text += 'Nanoseconds for one literal:\n\n' + times + losses(rows)
     text += '\nInstructions for one literal:\n\n| case | ours | Rust | ratio | Rust, no `from_utf8` | ratio |\n|---|---|---|---|---|---|\n'
     for row in rows:
         ours, rust, rust_str = counted(row[0], int(row[1]))

@@ -116,12 +116,12 @@ pub fn all() -> Vec<Case> {
         string("U& escapes, 64 KiB", 0, long("U&'", &UNICODE)),
         string("name joined from 100 parts", 0, joined(100)),
         Case::numbers("radix decimals", Question::Decimal, radix_decimal),
-        Case::numbers("i64 of any length", Question::I64, signed),
-        Case::numbers("i64 with a radix", Question::I64, |rng| format!("0x{:x}", rng.next() >> (1 + rng.below(62)))),
+        Case::numbers("i64, any length", Question::I64, signed),
+        Case::numbers("i64, hex", Question::I64, |rng| format!("0x{:x}", rng.next() >> (1 + rng.below(62)))),
     ];
     cases.extend(
         [1, 3, 6, 9, 12, 15, 18, 19].map(|digits| {
-            Case::numbers(&format!("i64 of {digits} digits"), Question::I64, |rng| digit_text(rng, digits))
+            Case::numbers(&format!("i64, digits: {digits}"), Question::I64, |rng| digit_text(rng, digits))
         }),
     );
     cases

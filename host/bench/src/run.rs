@@ -88,10 +88,14 @@ fn row(ready: &Ready, best: [Duration; SIDES.len()], times: u32) {
     let literals = case.places.len();
     let [ours, rust, rust_str] = best.map(|best| best.as_nanos() as f64 / f64::from(times) / literals as f64);
     let bytes = case.bytes() as f64 / literals as f64;
+    let ratios = [rust / ours, rust_str / ours];
+    let [ours, rust, rust_str] = [ours, rust, rust_str].map(rounded);
     println!(
-        "| {} | {literals} | {bytes:.0} | {ours:.1} | {rust:.1} | {:.2} | {rust_str:.1} | {:.2} |",
-        case.name,
-        rust / ours,
-        rust_str / ours
+        "| {} | {literals} | {bytes:.0} | {ours} | {rust} | {:.2} | {rust_str} | {:.2} |",
+        case.name, ratios[0], ratios[1]
     );
+}
+
+fn rounded(time: f64) -> String {
+    if time < 1000.0 { format!("{time:.1}") } else { format!("{time:.0}") }
 }

@@ -204,11 +204,15 @@ pub fn run(comparing: &mut Comparing, pieces: usize) -> Outcome {
         }
         report(frame.name, comparing, texts, before);
     }
-    let (texts, before) = (comparing.tally.texts, comparing.tally.comparisons());
-    if pieces > 0 {
-        placed(comparing, &mut padded)?;
+    if pieces == 0 {
+        return Ok(());
     }
+    let (texts, before) = (comparing.tally.texts, comparing.tally.comparisons());
+    placed(comparing, &mut padded)?;
     report("one odd piece at each place of a run", comparing, texts, before);
+    let (texts, before) = (comparing.tally.texts, comparing.tally.comparisons());
+    broken(comparing)?;
+    report("broken bytes at each place of a run", comparing, texts, before);
     Ok(())
 }
 
@@ -253,13 +257,56 @@ fn placed(comparing: &mut Comparing, padded: &mut Padded) -> Outcome {
     const ODD: [&str; 10] = ["'", "''", "\"", "\"\"", "\\", "\\n", "\0", "é", "😀", "\\0041"];
     for (open, close, set) in SPELLINGS {
         for odd in ODD {
-            for long in (0..72).chain([95, 96, 97, 127, 128, 129]) {
-                for at in 0..=long {
-                    let text = format!("{open}{}{odd}{}{close}", "a".repeat(at), "b".repeat(long - at));
-                    padded.ask(comparing, &text, set)?;
-                }
+            for (before, behind) in runs() {
+                let text = format!("{open}{}{odd}{}{close}", "a".repeat(before), "b".repeat(behind));
+                padded.ask(comparing, &text, set)?;
             }
         }
     }
     Ok(())
+}
+
+/// The same with bytes that are not UTF-8: cut short, overlong, a half, too large, or no part of any character.
+fn broken(comparing: &mut Comparing) -> Outcome {
+    const ODD: [&[u8]; 11] = [
+        b"\x80",
+        b"\xBF",
+        b"\xC0\x80",
+        b"\xC3",
+        b"\xE2\x82",
+        b"\xE0\x9F\xBF",
+        b"\xED\xA0\x80",
+        b"\xF0\x9F\x98",
+        b"\xF0\x8F\xBF\xBF",
+        b"\xF4\x90\x80\x80",
+        b"\xFF",
+    ];
+    for odd in ODD {
+        for (before, behind) in runs() {
+            let source = [b"'", "a".repeat(before).as_bytes(), odd, "b".repeat(behind).as_bytes(), b"'"].concat();
+            let end = source.len() as u32;
+            comparing.tally.texts += 1;
+            for question in [Str, Charset, Source, Ident, EscapeValid, UnicodeValid] {
+                let asked = Asked { question, kind: 4, synthetic: 0, start: 0, end, setting: 0, variety: 0 };
+                comparing.ask(&asked, &source)?;
+            }
+            // a span that ends before the broken bytes
+            let early = Asked {
+                question: Source,
+                kind: 4,
+                synthetic: 0,
+                start: 0,
+                end: 1 + before as u32,
+                setting: 0,
+                variety: 0,
+            };
+            comparing.ask(&early, &source)?;
+        }
+    }
+    Ok(())
+}
+
+/// How many bytes stand before and behind the odd ones.
+fn runs() -> impl Iterator<Item = (usize, usize)> {
+    (0..72).chain([95, 96, 97, 127, 128, 129]).flat_map(|all| (0..=all).map(move |before| (before, all - before)))
 }

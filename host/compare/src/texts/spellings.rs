@@ -101,7 +101,8 @@ impl Texts {
             ("U&\"", "\""),
         ]);
         let (wide, odd) = (self.rng.one(&[0, 0, 100, 900]), self.rng.one(&[0, 3, 3, 10, 40]));
-        let body = self.many(0, 200, |t| match t.rng.below(1000) {
+        let most = if self.odds(990) { 200 } else { 5000 };
+        let body = self.many(0, most, |t| match t.rng.below(1000) {
             at if at < odd => {
                 t.one(&["''", "\"\"", "'", "\"", "\\", "\\\\", "\\n", "\\xC3\\xA9", "\\0041", "!0041", "\0", "$", "$$"])
             }
