@@ -30,6 +30,8 @@ pub struct Comparing {
 /// Who said what is due.
 enum Judge {
     Rust,
+    /// The Rust, of the literal's text alone: the source around it is not UTF-8.
+    RustAlone,
     Rules,
     LeftOut,
 }
@@ -45,6 +47,7 @@ impl Comparing {
             .map_err(|what| self.difference(what, asked, source, 0, String::new(), String::new()))?;
         match judge {
             Judge::Rust => self.tally.rust += 1,
+            Judge::RustAlone => self.tally.alone += 1,
             Judge::Rules => self.tally.rules += 1,
             Judge::LeftOut => self.tally.left_out += 1,
         }
@@ -163,7 +166,7 @@ fn of_broken(asked: &Asked, source: &[u8]) -> (Said, Judge) {
     }
     let alone = Asked { start: 0, end: asked.end - asked.start, ..*asked };
     let text = from_utf8(asked.text(source)).expect("UTF-8");
-    (rust::said(&alone, text).moved(asked.start as usize), Judge::Rust)
+    (rust::said(&alone, text).moved(asked.start as usize), Judge::RustAlone)
 }
 
 /// Buffers empty, one short, exact and long where there is something to write; elsewhere empty and long.

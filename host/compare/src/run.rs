@@ -27,9 +27,12 @@ pub fn main() -> ExitCode {
     comparing.tally.print();
     let tally = &comparing.tally;
     println!(
-        "\n{} texts; asked of the Rust {}, decided by document 01 {}, left out of equality (ours is 5) {}",
-        tally.texts, tally.rust, tally.rules, tally.left_out
+        "\n{} texts; answers due by the Rust {}, of them in a source that is not UTF-8 {},",
+        tally.texts,
+        tally.rust + tally.alone,
+        tally.alone
     );
+    println!("by document 01 {}; left out of equality, where ours is 5, {}", tally.rules, tally.left_out);
     for unseen in tally.unseen() {
         println!("not seen: {unseen}");
     }

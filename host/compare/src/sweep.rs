@@ -2,7 +2,7 @@
 
 use crate::comparing::{Comparing, Outcome};
 use crate::ours;
-use crate::question::{ALL, Asked, BORROWED, WRITTEN};
+use crate::question::{ALL, Asked, BORROWED, Question, WRITTEN};
 use crate::writer::{MOST, Writing};
 
 const SOURCES: [&[u8]; 16] = [
@@ -34,6 +34,7 @@ pub fn run(comparing: &mut Comparing) -> Outcome {
         kinds(comparing, source)?;
         spans(comparing, source)?;
     }
+    left_out(comparing)?;
     views();
     too_long(comparing)
 }
@@ -96,8 +97,50 @@ fn views() {
     }
 }
 
-/// One byte more than the writer takes, which is refused before a byte of it is read.
+/// A minus, then a radix value of exactly -2^127, which has to be 5; and its neighbours, which have to be as the Rust reads them.
+fn left_out(comparing: &mut Comparing) -> Outcome {
+    const ASKED: [(Question, u32); 4] =
+        [(Question::Decimal, 1), (Question::Decimal, 2), (Question::Decimal, 3), (Question::I64, 1)];
+    let before = comparing.tally.left_out;
+    for text in near_the_limit() {
+        let source = format!("é{text}$");
+        let (start, end) = (2, 2 + text.len() as u32);
+        comparing.tally.texts += 1;
+        for (question, kind) in ASKED {
+            let asked = Asked { question, kind, synthetic: 0, start, end, setting: 0, variety: 0 };
+            comparing.ask(&asked, source.as_bytes())?;
+        }
+    }
+    assert!(comparing.tally.left_out > before, "the family was asked");
+    Ok(())
+}
+
+/// 2^127 and one less in each base, with every sign before and behind the prefix, and with zeros.
+fn near_the_limit() -> impl Iterator<Item = String> {
+    const VALUES: [(&str, &str, &str, usize); 7] = [
+        ("0x", "8", "0", 31),
+        ("0X", "8", "0", 31),
+        ("0o", "2", "0", 42),
+        ("0b", "1", "0", 127),
+        ("0x", "7", "f", 31),
+        ("0o", "1", "7", 42),
+        ("0B", "0", "1", 127),
+    ];
+    const SIGNS: [(&str, &str); 9] =
+        [("", ""), ("", "-"), ("", "+"), ("-", ""), ("-", "-"), ("-", "+"), ("+", ""), ("+", "-"), ("+", "+")];
+    const ZEROS: [&str; 5] = ["", "0", "0_0", "0_", "_"];
+    let signed = VALUES.into_iter().flat_map(|value| SIGNS.map(|signs| (value, signs)));
+    signed.flat_map(|((prefix, first, digit, count), (sign, second))| {
+        ZEROS.map(|zeros| format!("{sign}{prefix}{second}{zeros}{first}{}", digit.repeat(count)))
+    })
+}
+
+/// One byte more than the writer takes, which is 12 before a byte of it is read; and just as many as it takes, which is 11 since they are NUL.
 fn too_long(comparing: &mut Comparing) -> Outcome {
     let value = vec![0; MOST + 1];
-    [None, Some(4)].into_iter().try_for_each(|part| comparing.write(&Writing { value: &value, part, setting: 0 }))
+    for part in [None, Some(4)] {
+        comparing.write(&Writing { value: &value, part, setting: 0 })?;
+        comparing.write(&Writing { value: &value[..MOST], part, setting: 0 })?;
+    }
+    Ok(())
 }

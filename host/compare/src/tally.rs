@@ -18,6 +18,7 @@ pub struct Tally {
     counts: [[u64; OUTCOMES.len()]; ROWS],
     pub texts: u64,
     pub rust: u64,
+    pub alone: u64,
     pub rules: u64,
     pub left_out: u64,
 }
