@@ -1,47 +1,13 @@
 // Reads requests, one a line, and prints the Rust's answer to each: see oracle.py for both forms.
 use crate::ast::literal::{
-    BitStringRadix, Literal, LiteralExpected, LiteralKind, LiteralValueError, LiteralValueErrorKind, is_unicode_ident,
-    materialize_unicode_ident, postgres_escape_string_is_valid, split_radix_prefix, string_literal_embeds_nul,
-    uescape_argument_is_legal, unicode_escape_string_is_valid,
+    Literal, LiteralValueError, is_unicode_ident, materialize_unicode_ident, postgres_escape_string_is_valid, split_radix_prefix,
+    string_literal_embeds_nul, uescape_argument_is_legal, unicode_escape_string_is_valid,
 };
-use crate::ast::ty::TimeZone;
+use crate::codes;
 use crate::dialect::StringLiteralSyntax;
 use crate::vocab::{Meta, Span};
 use std::borrow::Cow;
 use std::io::{BufRead, Write};
-
-fn kind(code: u32) -> LiteralKind {
-    match code {
-        1 => LiteralKind::Integer,
-        2 => LiteralKind::Float,
-        3 => LiteralKind::Decimal,
-        4 => LiteralKind::String,
-        5 => LiteralKind::Boolean(true),
-        6 => LiteralKind::Boolean(false),
-        7 => LiteralKind::Null,
-        8 => LiteralKind::Date,
-        9 => LiteralKind::Time { time_zone: TimeZone::Unspecified },
-        10 => LiteralKind::Timestamp { time_zone: TimeZone::Unspecified },
-        11 => LiteralKind::Interval { fields: None, precision: None },
-        12 => LiteralKind::BitString { radix: BitStringRadix::Binary },
-        13 => LiteralKind::BitString { radix: BitStringRadix::Hex },
-        14 => LiteralKind::Money,
-        _ => panic!("no kind has the code {code}"),
-    }
-}
-
-fn family(expected: LiteralExpected) -> u32 {
-    match expected {
-        LiteralExpected::Integer => 1,
-        LiteralExpected::DecimalText => 2,
-        LiteralExpected::String => 3,
-        LiteralExpected::Boolean => 4,
-        LiteralExpected::Null => 5,
-        LiteralExpected::Temporal => 6,
-        LiteralExpected::BitString => 7,
-        LiteralExpected::Money => 8,
-    }
-}
 
 fn hex(text: &str) -> String {
     if text.is_empty() {
@@ -72,16 +38,8 @@ fn text(source: &str, found: Cow<'_, str>) -> String {
 }
 
 fn refusal(code: u32, error: &LiteralValueError) -> String {
-    let number = match error.kind() {
-        LiteralValueErrorKind::WrongKind { expected, .. } => return format!("r 1 {} {code}", family(*expected)),
-        LiteralValueErrorKind::MissingSource => 2,
-        LiteralValueErrorKind::InvalidSourceRange => 3,
-        LiteralValueErrorKind::InvalidInteger => 5,
-        LiteralValueErrorKind::InvalidString => 6,
-        LiteralValueErrorKind::InvalidBitString => 7,
-        LiteralValueErrorKind::InvalidMoney => 8,
-    };
-    format!("r {number} {} {}", error.span().start(), error.span().end())
+    let (number, first, second) = codes::refusal(code, error);
+    format!("r {number} {first} {second}")
 }
 
 fn truth(yes: bool) -> String {
@@ -89,7 +47,7 @@ fn truth(yes: bool) -> String {
 }
 
 fn asked(question: &str, code: u32, on: bool, start: u32, end: u32, source: &str) -> String {
-    let literal = || Literal { kind: kind(code), meta: Meta { span: Span::over(start, end) } };
+    let literal = || Literal { kind: codes::kind(code), meta: Meta { span: Span::over(start, end) } };
     let told = |answer: Result<Cow<'_, str>, LiteralValueError>| match answer {
         Ok(found) => text(source, found),
         Err(error) => refusal(code, &error),

@@ -4,7 +4,7 @@
     tools/oracle/oracle.py < REQUESTS > ANSWERS
 
 literal.rs is no part of this repository. Its folder is VALDRABUS_RUST_SRC (that which holds crates/squonk-ast), by default
-../shared/docs/src beside the repository. Its neighbours are the shims of shims.rs. The program is built into target/oracle, as a
+../shared/docs/src beside the repository. Its neighbours are the shims of host/original. The program is built into target/oracle, as a
 release build.
 
 A request is a line: QUESTION KIND SETTING START END HEX. The questions are
@@ -25,11 +25,14 @@ import sys
 
 HERE = os.path.dirname(os.path.abspath(__file__))
 ROOT = os.path.dirname(os.path.dirname(HERE))
+ORIGINAL = os.path.join(ROOT, 'host', 'original', 'src')
 LITERAL = 'crates/squonk-ast/src/ast/literal.rs'
 
 MAIN = '''#![allow(dead_code)]
-#[path = "{here}/shims.rs"]
+#[path = "{original}/shims.rs"]
 mod shims;
+#[path = "{original}/codes.rs"]
+mod codes;
 use shims::{{dialect, vocab}};
 mod ast {{
     pub use crate::shims::ty;
@@ -55,7 +58,7 @@ def build():
     os.makedirs(folder, exist_ok=True)
     main, program = os.path.join(folder, 'main.rs'), os.path.join(folder, 'oracle')
     with open(main, 'w') as f:
-        f.write(MAIN.format(here=HERE, literal=literal))
+        f.write(MAIN.format(here=HERE, original=ORIGINAL, literal=literal))
     subprocess.run(['rustc', '--edition', '2024', '-O', '-o', program, main], check=True)
     return program
 

@@ -1,7 +1,7 @@
-// What literal.rs takes from its neighbours, as little of it as it needs: our own.
+//! What literal.rs takes from its neighbours, as little of it as it needs: our own.
 
 pub mod vocab {
-    // From a place of the source up to another; a span without a source is marked by the mark itself.
+    /// From a place of the source up to another; a span without a source is marked by the mark itself.
     #[derive(Clone, Copy, Debug, PartialEq, Eq, Hash)]
     pub struct Span {
         from: u32,
@@ -10,10 +10,14 @@ pub mod vocab {
     }
 
     impl Span {
-        pub const SYNTHETIC: Span = Span { from: 0, to: 0, detached: true };
+        pub const SYNTHETIC: Span = Span::detached(0, 0);
 
         pub const fn over(from: u32, to: u32) -> Span {
             Span { from, to, detached: false }
+        }
+
+        pub const fn detached(from: u32, to: u32) -> Span {
+            Span { from, to, detached: true }
         }
 
         pub const fn start(&self) -> u32 {
@@ -50,8 +54,13 @@ pub mod ty {
     #[derive(Clone, Copy, Debug, PartialEq, Eq, Hash)]
     pub enum TimeZone {
         Unspecified,
+        With,
+        Without,
     }
 
+    /// Any one: which it is decides nothing.
     #[derive(Clone, Copy, Debug, PartialEq, Eq, Hash)]
-    pub enum IntervalFields {}
+    pub enum IntervalFields {
+        Day,
+    }
 }

@@ -1,0 +1,129 @@
+//! A case asked of ours, and of the Rust with and without its check of UTF-8.
+
+use crate::cases::{Case, Place, Question};
+use original::ast::literal::Literal;
+use original::codes;
+use original::dialect::StringLiteralSyntax;
+use original::vocab::{Meta, Span};
+use std::hint::black_box;
+use std::str::from_utf8;
+use valdrabus::sys;
+
+#[derive(Clone, Copy, PartialEq, Debug)]
+pub enum Side {
+    Ours,
+    /// The Rust on bytes: `from_utf8` of the literal's text, then the question.
+    Rust,
+    /// The Rust on a `str`.
+    RustStr,
+}
+
+pub const SIDES: [(Side, &str); 3] = [(Side::Ours, "ours"), (Side::Rust, "rust"), (Side::RustStr, "rust-str")];
+
+/// A case with what each side needs, made before anything is timed.
+pub struct Ready {
+    case: Case,
+    /// Lent to ours; the Rust allocates for each text that it writes.
+    out: Vec<u8>,
+    /// The literals in the source, and each in a text of its own.
+    within: Vec<Literal>,
+    alone: Vec<Literal>,
+}
+
+impl Ready {
+    pub fn new(case: Case) -> Ready {
+        let kind = codes::kind(case.question.kind());
+        let over = |start, end| Literal { kind: kind.clone(), meta: Meta { span: Span::over(start, end) } };
+        let longest = case.places.iter().map(|place| place.end - place.start).max().unwrap_or(0);
+        let within = case.places.iter().map(|place| over(place.start, place.end)).collect();
+        let alone = case.places.iter().map(|place| over(0, place.end - place.start)).collect();
+        Ready { out: vec![0; longest.max(40) as usize], within, alone, case }
+    }
+
+    pub fn case(&self) -> &Case {
+        &self.case
+    }
+
+    /// Asks about every literal of the case once; the sum is the same for each side.
+    pub fn run(&mut self, side: Side) -> u64 {
+        match (side, self.case.question) {
+            (Side::Ours, Question::I64) => self.ours_i64(),
+            (Side::Ours, question) => self.ours_text(question),
+            (Side::Rust, question) => self.rust(question),
+            (Side::RustStr, question) => self.rust_str(question),
+        }
+    }
+
+    fn ours_text(&mut self, question: Question) -> u64 {
+        let (mut how, mut first, mut second) = (0, 0, 0);
+        let (source, kind) = (self.case.source.as_bytes(), question.kind());
+        let (from, long, to, room) = (source.as_ptr(), source.len(), self.out.as_mut_ptr(), self.out.len());
+        let mut sum = 0;
+        for &Place { start, end, setting } in black_box(&self.case.places) {
+            let (how_to, first_to, second_to) = (&raw mut how, &raw mut first, &raw mut second);
+            // SAFETY: source and buffer are valid for their lengths; the numbers are ours alone.
+            let number = unsafe {
+                if question == Question::Str {
+                    sys::valdrabus_as_str_in(
+                        kind, 0, start, end, from, long, setting, to, room, how_to, first_to, second_to,
+                    )
+                } else {
+                    sys::valdrabus_as_decimal_text(
+                        kind, 0, start, end, from, long, to, room, how_to, first_to, second_to,
+                    )
+                }
+            };
+            assert!(number == 0, "refused by {number}");
+            let shown = if how == 1 { &source[first..second] } else { &self.out[..second] };
+            sum += digest(black_box(shown));
+        }
+        sum
+    }
+
+    fn ours_i64(&self) -> u64 {
+        let (mut value, mut first, mut second) = (0, 0, 0);
+        let (from, long) = (self.case.source.as_ptr(), self.case.source.len());
+        let mut sum = 0_u64;
+        for &Place { start, end, .. } in black_box(&self.case.places) {
+            let (value_to, first_to, second_to) = (&raw mut value, &raw mut first, &raw mut second);
+            // SAFETY: the source is valid for its length; the numbers are ours alone.
+            let number = unsafe { sys::valdrabus_as_i64(1, 0, start, end, from, long, value_to, first_to, second_to) };
+            assert!(number == 0, "refused by {number}");
+            sum = sum.wrapping_add(black_box(value) as u64);
+        }
+        sum
+    }
+
+    fn rust(&self, question: Question) -> u64 {
+        let source = self.case.source.as_bytes();
+        let mut sum = 0_u64;
+        for (literal, &Place { start, end, setting }) in black_box(&self.alone).iter().zip(&self.case.places) {
+            let text = from_utf8(black_box(&source[start as usize..end as usize])).expect("UTF-8");
+            sum = sum.wrapping_add(answer(literal, text, question, setting));
+        }
+        sum
+    }
+
+    fn rust_str(&self, question: Question) -> u64 {
+        let mut sum = 0_u64;
+        for (literal, place) in black_box(&self.within).iter().zip(&self.case.places) {
+            sum = sum.wrapping_add(answer(literal, &self.case.source, question, place.setting));
+        }
+        sum
+    }
+}
+
+#[inline]
+fn answer(literal: &Literal, source: &str, question: Question, setting: u32) -> u64 {
+    let text = match question {
+        Question::I64 => return black_box(literal.as_i64(source).expect("an integer")) as u64,
+        Question::Str => literal.as_str_in(source, StringLiteralSyntax { backslash_escapes: setting == 1 }),
+        Question::Decimal => literal.as_decimal_text(source),
+    };
+    digest(black_box(text.expect("a text").as_bytes()))
+}
+
+#[inline]
+fn digest(bytes: &[u8]) -> u64 {
+    bytes.len() as u64 + bytes.first().map_or(0, |&byte| byte.into())
+}

@@ -1,0 +1,186 @@
+//! One question asked of both, with each of several buffers.
+
+use crate::lent::Lent;
+use crate::question::{Asked, BORROWED, Question, Said, Told, WRITTEN, due};
+use crate::rng::Rng;
+use crate::tally::{Row, Tally, outcome};
+use crate::{ours, rules, rust};
+use std::str::from_utf8;
+
+/// Everything that tells a difference.
+pub struct Difference {
+    pub what: String,
+    pub asked: Option<Asked>,
+    pub source: Vec<u8>,
+    pub room: usize,
+    pub due: String,
+    pub told: String,
+    pub before: Vec<u8>,
+    pub after: Vec<u8>,
+}
+
+pub type Outcome = Result<(), Box<Difference>>;
+
+pub struct Comparing {
+    pub tally: Tally,
+    pub rng: Rng,
+    pub lent: Lent,
+}
+
+/// Who said what is due.
+enum Judge {
+    Rust,
+    /// The Rust, of the literal's text alone: the source around it is not UTF-8.
+    RustAlone,
+    Rules,
+    LeftOut,
+}
+
+impl Comparing {
+    pub fn new(seed: u64) -> Comparing {
+        Comparing { tally: Tally::default(), rng: Rng::new(seed), lent: Lent::new() }
+    }
+
+    /// Asks ours with each buffer that tells something, and compares with what is due.
+    pub fn ask(&mut self, asked: &Asked, source: &[u8]) -> Outcome {
+        let (said, judge) = expected(asked, source)
+            .map_err(|what| self.difference(what, asked, source, 0, String::new(), String::new()))?;
+        match judge {
+            Judge::Rust => self.tally.rust += 1,
+            Judge::RustAlone => self.tally.alone += 1,
+            Judge::Rules => self.tally.rules += 1,
+            Judge::LeftOut => self.tally.left_out += 1,
+        }
+        if !asked.question.lends() {
+            return self.ask_with(asked, source, &said, 0);
+        }
+        let long = self.rng.within(1, 40);
+        let (rooms, count) = rooms(&said, long);
+        rooms[..count].iter().try_for_each(|&room| self.ask_with(asked, source, &said, room))
+    }
+
+    fn ask_with(&mut self, asked: &Asked, source: &[u8], said: &Said, room: usize) -> Outcome {
+        let told = ours::told(asked, source, self.lent.out(room));
+        let due = due(asked.question, said, room);
+        if told != due {
+            return Err(self.difference(
+                "numbers".into(),
+                asked,
+                source,
+                room,
+                format!("{due:?}"),
+                format!("{told:?}"),
+            ));
+        }
+        let written: &[u8] = match said {
+            Said::Written(text) if told.how == WRITTEN => text,
+            _ => &[],
+        };
+        if !self.lent.holds_only(written, room) {
+            return Err(self.difference(
+                "the buffer".into(),
+                asked,
+                source,
+                room,
+                format!("{} bytes written: {}", written.len(), hex(written)),
+                "see the buffer".into(),
+            ));
+        }
+        if asked.question.lends() {
+            self.view(asked, source, &told, room)?;
+        }
+        self.tally.count(Row::Asked(asked.question), outcome(said, room));
+        Ok(())
+    }
+
+    /// The view shows just what was answered.
+    fn view(&mut self, asked: &Asked, source: &[u8], told: &Told, room: usize) -> Outcome {
+        let shown = ours::view(told.how, told.first, told.second, source.len(), room);
+        let due =
+            if told.how == BORROWED || told.how == WRITTEN { (told.how, told.first, told.second) } else { (0, 0, 0) };
+        if shown == due {
+            return Ok(());
+        }
+        Err(self.difference("the view".into(), asked, source, room, format!("{due:?}"), format!("{shown:?}")))
+    }
+
+    fn difference(
+        &mut self,
+        what: String,
+        asked: &Asked,
+        source: &[u8],
+        room: usize,
+        due: String,
+        told: String,
+    ) -> Box<Difference> {
+        let (before, after) = self.lent.both(room);
+        let (before, after) = (before.to_vec(), after.to_vec());
+        self.lent.refill();
+        Box::new(Difference { what, asked: Some(*asked), source: source.to_vec(), room, due, told, before, after })
+    }
+}
+
+/// The answer that is due: the Rust's, or where it cannot be asked document 01's. What both can say must be the same.
+fn expected(asked: &Asked, source: &[u8]) -> Result<(Said, Judge), String> {
+    let early = rules::refused_early(asked, source);
+    if asked.question == Question::IsNull && !(1..=14).contains(&asked.kind) {
+        return Ok((Said::Truth(false), Judge::Rules));
+    }
+    if let Some(Said::Refused(10, ..)) = early {
+        return Ok((early.expect("a refusal"), Judge::Rules));
+    }
+    match (from_utf8(source), early) {
+        (Ok(source), Some(refusal)) => {
+            let said = rust::said(asked, source);
+            if said == refusal {
+                Ok((said, Judge::Rust))
+            } else {
+                Err(format!("the Rust says {said:?}, the rules {refusal:?}"))
+            }
+        }
+        (Ok(_), None) if rules::is_left_out(asked, source) => {
+            Ok((Said::Refused(5, asked.start as usize, asked.end as usize), Judge::LeftOut))
+        }
+        (Ok(source), None) => match rust::said(asked, source) {
+            said @ Said::Refused(1..=3, ..) => Err(format!("the Rust says {said:?}, the rules nothing")),
+            said => Ok((said, Judge::Rust)),
+        },
+        (Err(_), Some(refusal)) => Ok((refusal, Judge::Rules)),
+        (Err(_), None) => Ok(of_broken(asked, source)),
+    }
+}
+
+/// A source that is not UTF-8: the literal's own text may be, and then it is read as if it stood alone.
+fn of_broken(asked: &Asked, source: &[u8]) -> (Said, Judge) {
+    if asked.question.is_bare() {
+        return (rules::of_broken(asked.question, source), Judge::Rules);
+    }
+    if let Some(refusal) = rules::not_utf8(asked, source) {
+        return (refusal, Judge::Rules);
+    }
+    if !asked.question.reads() {
+        return (rust::said(asked, ""), Judge::Rust);
+    }
+    if rules::is_left_out(asked, source) {
+        return (Said::Refused(5, asked.start as usize, asked.end as usize), Judge::LeftOut);
+    }
+    let alone = Asked { start: 0, end: asked.end - asked.start, ..*asked };
+    let text = from_utf8(asked.text(source)).expect("UTF-8");
+    (rust::said(&alone, text).moved(asked.start as usize), Judge::RustAlone)
+}
+
+/// Buffers empty, one short, exact and long where there is something to write; elsewhere empty and long.
+fn rooms(said: &Said, long: usize) -> ([usize; 4], usize) {
+    match said {
+        Said::Written(text) => match text.len() {
+            0 => ([0, long, 0, 0], 2),
+            1 => ([0, 1, 1 + long, 0], 3),
+            all => ([0, all - 1, all, all + long], 4),
+        },
+        _ => ([0, long, 0, 0], 2),
+    }
+}
+
+pub fn hex(bytes: &[u8]) -> String {
+    bytes.iter().map(|byte| format!("{byte:02X}")).collect()
+}

@@ -1,0 +1,18 @@
+//! The parts of the comparison; empty where the Rust original is not at hand.
+#![cfg(at_hand)]
+
+mod comparing;
+mod frames;
+mod lent;
+mod ours;
+mod question;
+mod random;
+mod report;
+mod rng;
+mod rules;
+pub mod run;
+mod rust;
+mod sweep;
+mod tally;
+mod texts;
+mod writer;

@@ -1,0 +1,20 @@
+//! Asks the Rust original and ours the same questions, and stops at the first difference.
+//!
+//!     cargo run --release -p compare -- [--seed N] [--count N] [--pieces N]
+//!
+//! --seed    chooses the random texts (1)
+//! --count   how many comparisons of random texts, at least (10000000)
+//! --pieces  of how many pieces exhaustive texts are made, at most (5); with 0 there are none
+//!
+//! A comparison is one question asked of both, with one buffer: the number, the range or the written bytes, every lent number, and every byte of the buffer and beside
+//! it. The original is literal.rs, compiled unchanged from the folder that VALDRABUS_RUST_SRC names (by default ../shared/docs/src beside the repository).
+
+#[cfg(at_hand)]
+fn main() -> std::process::ExitCode {
+    compare::run::main()
+}
+
+#[cfg(not(at_hand))]
+fn main() {
+    println!("compare: literal.rs is not at hand (VALDRABUS_RUST_SRC names its folder); nothing is compared");
+}

@@ -1,0 +1,147 @@
+//! Our answers, through the C interface as it is.
+
+use crate::question::{Asked, Question, Told};
+use valdrabus::sys;
+
+/// The lent numbers before a call: what a call must write must not be there already.
+const STALE: usize = 0x5A5A_5A5A_5A5A_5A5A;
+
+struct Numbers {
+    how: u32,
+    first: usize,
+    second: usize,
+    value: i64,
+}
+
+impl Numbers {
+    fn stale() -> Numbers {
+        Numbers { how: STALE as u32, first: STALE, second: STALE, value: STALE as i64 }
+    }
+}
+
+pub fn told(asked: &Asked, source: &[u8], out: &mut [u8]) -> Told {
+    match asked.question {
+        Question::Str | Question::Plain | Question::Decimal | Question::Bits | Question::Temporal | Question::Ident => {
+            text(asked, source, out)
+        }
+        Question::Source | Question::Money | Question::Charset => part(asked, source),
+        Question::I64 | Question::Bool | Question::Null => value(asked, source),
+        _ => test(asked, source),
+    }
+}
+
+fn text(asked: &Asked, source: &[u8], out: &mut [u8]) -> Told {
+    let mut lent = Numbers::stale();
+    let Asked { kind, synthetic, start, end, setting, .. } = *asked;
+    let (from, long, to, room) = (source.as_ptr(), source.len(), out.as_mut_ptr(), out.len());
+    let (how, first, second) = (&raw mut lent.how, &raw mut lent.first, &raw mut lent.second);
+    // SAFETY: both slices are valid for their lengths, and what is written through is ours alone.
+    let returned = unsafe {
+        match asked.question {
+            Question::Str => {
+                sys::valdrabus_as_str_in(kind, synthetic, start, end, from, long, setting, to, room, how, first, second)
+            }
+            Question::Plain => {
+                sys::valdrabus_as_str_in(kind, synthetic, start, end, from, long, 0, to, room, how, first, second)
+            }
+            Question::Decimal => {
+                sys::valdrabus_as_decimal_text(kind, synthetic, start, end, from, long, to, room, how, first, second)
+            }
+            Question::Bits => {
+                sys::valdrabus_as_bit_text(kind, synthetic, start, end, from, long, to, room, how, first, second)
+            }
+            Question::Temporal => {
+                sys::valdrabus_as_temporal_text(kind, synthetic, start, end, from, long, to, room, how, first, second)
+            }
+            _ => sys::valdrabus_materialize_unicode_ident(from, long, to, room, how, first, second),
+        }
+    };
+    Told { returned, how: lent.how, first: lent.first, second: lent.second, value: 0 }
+}
+
+fn part(asked: &Asked, source: &[u8]) -> Told {
+    let mut lent = Numbers::stale();
+    let Asked { kind, synthetic, start, end, .. } = *asked;
+    let ask = match asked.question {
+        Question::Source => sys::valdrabus_source_text,
+        Question::Money => sys::valdrabus_as_money_text,
+        _ => sys::valdrabus_charset_introducer,
+    };
+    let (how, first, second) = (&raw mut lent.how, &raw mut lent.first, &raw mut lent.second);
+    // SAFETY: as above.
+    let returned = unsafe { ask(kind, synthetic, start, end, source.as_ptr(), source.len(), how, first, second) };
+    Told { returned, how: lent.how, first: lent.first, second: lent.second, value: 0 }
+}
+
+fn value(asked: &Asked, source: &[u8]) -> Told {
+    let mut lent = Numbers::stale();
+    let Asked { kind, synthetic, start, end, .. } = *asked;
+    let (first, second) = (&raw mut lent.first, &raw mut lent.second);
+    // SAFETY: as above.
+    let returned = unsafe {
+        match asked.question {
+            Question::I64 => sys::valdrabus_as_i64(
+                kind,
+                synthetic,
+                start,
+                end,
+                source.as_ptr(),
+                source.len(),
+                &raw mut lent.value,
+                first,
+                second,
+            ),
+            Question::Bool => {
+                let returned = sys::valdrabus_as_bool(kind, &raw mut lent.how, first, second);
+                lent.value = lent.how.into();
+                returned
+            }
+            _ => {
+                lent.value = 0;
+                sys::valdrabus_as_null(kind, first, second)
+            }
+        }
+    };
+    Told { returned, how: 0, first: lent.first, second: lent.second, value: lent.value }
+}
+
+fn test(asked: &Asked, bare: &[u8]) -> Told {
+    let (from, long) = (bare.as_ptr(), bare.len());
+    let mut start = STALE;
+    // SAFETY: as above.
+    let returned = unsafe {
+        match asked.question {
+            Question::IsNull => sys::valdrabus_is_null(asked.kind).into(),
+            Question::IsIdent => sys::valdrabus_is_unicode_ident(from, long).into(),
+            Question::EscapeValid => sys::valdrabus_postgres_escape_string_is_valid(from, long).into(),
+            Question::UnicodeValid => sys::valdrabus_unicode_escape_string_is_valid(from, long).into(),
+            Question::Uescape => sys::valdrabus_uescape_argument_is_legal(from, long).into(),
+            Question::Nul => sys::valdrabus_string_literal_embeds_nul(from, long).into(),
+            _ => sys::valdrabus_split_radix_prefix(from, long, &raw mut start),
+        }
+    };
+    let first = if asked.question == Question::Radix { start } else { 0 };
+    Told { returned, first, ..Told::default() }
+}
+
+/// What the view shows of an answer, as what it returns and its range.
+pub fn view(how: u32, first: usize, second: usize, source_len: usize, out_len: usize) -> (u32, usize, usize) {
+    let (mut from, mut until) = (STALE, STALE);
+    // SAFETY: both numbers are ours alone.
+    let shown = unsafe { sys::valdrabus_view(how, first, second, source_len, out_len, &raw mut from, &raw mut until) };
+    (shown, from, until)
+}
+
+/// The writer's number and length; without a part size one literal.
+pub fn written(value: &[u8], part: Option<usize>, setting: u32, out: &mut [u8]) -> (u32, usize) {
+    let mut len = STALE;
+    let (from, long, to, room) = (value.as_ptr(), value.len(), out.as_mut_ptr(), out.len());
+    // SAFETY: both slices are valid for their lengths, and what is written through is ours alone.
+    let returned = unsafe {
+        match part {
+            None => sys::valdrabus_write_literal(from, long, setting, to, room, &raw mut len),
+            Some(part) => sys::valdrabus_write_parts(from, long, part, setting, to, room, &raw mut len),
+        }
+    };
+    (returned, len)
+}

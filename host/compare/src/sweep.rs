@@ -1,0 +1,146 @@
+//! Every question with every kind, mark and setting, unknown ones too, and every span over short sources.
+
+use crate::comparing::{Comparing, Outcome};
+use crate::ours;
+use crate::question::{ALL, Asked, BORROWED, Question, WRITTEN};
+use crate::writer::{MOST, Writing};
+
+const SOURCES: [&[u8]; 16] = [
+    b"",
+    "'é' 'b'".as_bytes(),
+    b"E'\\xC3\\xA9'",
+    b"'a\\nb'",
+    "_é'x'".as_bytes(),
+    b"_a'x'",
+    "U&'\\00e9€'".as_bytes(),
+    b"$$a$$b$$",
+    b"0x1_f",
+    b"-12",
+    b"B'01' '1'",
+    "$1.5€".as_bytes(),
+    "DATE 'é'".as_bytes(),
+    b"U&\"\\0041\"",
+    // not UTF-8: a character cut short inside marks; one that begins with a later byte
+    b"'a\xC3'",
+    b"\xA9'a'\xC3 \xFF",
+];
+const KINDS: [u32; 19] = [0, 1, 2, 3, 4, 5, 6, 7, 8, 9, 10, 11, 12, 13, 14, 15, 260, 1 << 31, u32::MAX];
+const MARKS: [u32; 4] = [0, 1, 2, u32::MAX];
+const SETTINGS: [u32; 4] = [0, 1, 2, 256];
+
+pub fn run(comparing: &mut Comparing) -> Outcome {
+    for source in SOURCES {
+        comparing.tally.texts += 1;
+        kinds(comparing, source)?;
+        spans(comparing, source)?;
+    }
+    left_out(comparing)?;
+    views();
+    too_long(comparing)
+}
+
+fn kinds(comparing: &mut Comparing, source: &[u8]) -> Outcome {
+    for question in ALL {
+        for kind in KINDS {
+            for synthetic in MARKS {
+                for setting in SETTINGS {
+                    let end = source.len() as u32;
+                    comparing.ask(
+                        &Asked { question, kind, synthetic, start: 0, end, setting, variety: kind as u8 },
+                        source,
+                    )?;
+                }
+            }
+        }
+    }
+    Ok(())
+}
+
+fn spans(comparing: &mut Comparing, source: &[u8]) -> Outcome {
+    let places: Vec<u32> = (0..=source.len() as u32 + 2).chain([1 << 31, u32::MAX]).collect();
+    for question in ALL.into_iter().filter(|question| question.reads()) {
+        for kind in [1, 4, 8, 12, 13, 14] {
+            for &start in &places {
+                for &end in &places {
+                    comparing.ask(
+                        &Asked { question, kind, synthetic: 0, start, end, setting: kind & 1, variety: 0 },
+                        source,
+                    )?;
+                }
+            }
+        }
+    }
+    Ok(())
+}
+
+/// The view of any range: shown if it fits, otherwise nothing.
+fn views() {
+    let lengths = [0, 1, 7, usize::MAX];
+    let places = [0, 1, 6, 7, 8, usize::MAX - 1, usize::MAX];
+    for how in [0, BORROWED, WRITTEN, 3, u32::MAX] {
+        for (first, second) in places.iter().flat_map(|&first| places.map(|second| (first, second))) {
+            for (source, out) in lengths.iter().flat_map(|&source| lengths.map(|out| (source, out))) {
+                let fits = match how {
+                    BORROWED => first <= second && second <= source,
+                    WRITTEN if first != 0 => continue,
+                    WRITTEN => second <= out,
+                    _ => false,
+                };
+                let due = if fits { (how, first, second) } else { (0, 0, 0) };
+                assert_eq!(
+                    ours::view(how, first, second, source, out),
+                    due,
+                    "the view of {how} {first} {second} for {source} and {out} bytes"
+                );
+            }
+        }
+    }
+}
+
+/// A minus, then a radix value of exactly -2^127, which has to be 5; and its neighbours, which have to be as the Rust reads them.
+fn left_out(comparing: &mut Comparing) -> Outcome {
+    const ASKED: [(Question, u32); 4] =
+        [(Question::Decimal, 1), (Question::Decimal, 2), (Question::Decimal, 3), (Question::I64, 1)];
+    let before = comparing.tally.left_out;
+    for text in near_the_limit() {
+        let source = format!("é{text}$");
+        let (start, end) = (2, 2 + text.len() as u32);
+        comparing.tally.texts += 1;
+        for (question, kind) in ASKED {
+            let asked = Asked { question, kind, synthetic: 0, start, end, setting: 0, variety: 0 };
+            comparing.ask(&asked, source.as_bytes())?;
+        }
+    }
+    assert!(comparing.tally.left_out > before, "the family was asked");
+    Ok(())
+}
+
+/// 2^127 and one less in each base, with every sign before and behind the prefix, and with zeros.
+fn near_the_limit() -> impl Iterator<Item = String> {
+    const VALUES: [(&str, &str, &str, usize); 7] = [
+        ("0x", "8", "0", 31),
+        ("0X", "8", "0", 31),
+        ("0o", "2", "0", 42),
+        ("0b", "1", "0", 127),
+        ("0x", "7", "f", 31),
+        ("0o", "1", "7", 42),
+        ("0B", "0", "1", 127),
+    ];
+    const SIGNS: [(&str, &str); 9] =
+        [("", ""), ("", "-"), ("", "+"), ("-", ""), ("-", "-"), ("-", "+"), ("+", ""), ("+", "-"), ("+", "+")];
+    const ZEROS: [&str; 5] = ["", "0", "0_0", "0_", "_"];
+    let signed = VALUES.into_iter().flat_map(|value| SIGNS.map(|signs| (value, signs)));
+    signed.flat_map(|((prefix, first, digit, count), (sign, second))| {
+        ZEROS.map(|zeros| format!("{sign}{prefix}{second}{zeros}{first}{}", digit.repeat(count)))
+    })
+}
+
+/// One byte more than the writer takes, which is 12 before a byte of it is read; and just as many as it takes, which is 11 since they are NUL.
+fn too_long(comparing: &mut Comparing) -> Outcome {
+    let value = vec![0; MOST + 1];
+    for part in [None, Some(4)] {
+        comparing.write(&Writing { value: &value, part, setting: 0 })?;
+        comparing.write(&Writing { value: &value[..MOST], part, setting: 0 })?;
+    }
+    Ok(())
+}

@@ -1,0 +1,120 @@
+//! Counts what was compared, so that a reader sees that no part of it was empty.
+
+use crate::question::{ALL, Question, Said};
+
+/// What can come out: the answers, then the refusals by their numbers.
+const OUTCOMES: [&str; 18] = [
+    "borrowed", "written", "value", "yes", "no", "nothing", "1", "2", "3", "4", "5", "6", "7", "8", "9", "10", "11",
+    "12",
+];
+const WRITTEN: usize = 1;
+const REFUSALS: usize = 5;
+
+/// The questions and the writer's two.
+const ROWS: usize = ALL.len() + 2;
+
+#[derive(Default)]
+pub struct Tally {
+    counts: [[u64; OUTCOMES.len()]; ROWS],
+    pub texts: u64,
+    pub rust: u64,
+    pub alone: u64,
+    pub rules: u64,
+    pub left_out: u64,
+}
+
+#[derive(Clone, Copy)]
+pub enum Row {
+    Asked(Question),
+    Writer,
+    Parts,
+}
+
+impl Row {
+    fn at(self) -> usize {
+        match self {
+            Row::Asked(question) => question as usize,
+            Row::Writer => ALL.len(),
+            Row::Parts => ALL.len() + 1,
+        }
+    }
+}
+
+/// What came of an answer with so much room.
+pub fn outcome(said: &Said, room: usize) -> usize {
+    match said {
+        Said::Borrowed(..) => 0,
+        Said::Written(text) if text.len() <= room => WRITTEN,
+        Said::Written(_) => REFUSALS + 9,
+        Said::Integer(_) | Said::Prefix(..) => 2,
+        Said::Truth(true) => 3,
+        Said::Truth(false) => 4,
+        Said::Nothing => 5,
+        Said::Refused(number, ..) => REFUSALS + *number as usize,
+    }
+}
+
+/// What came of a writer's number.
+pub fn writer_outcome(number: u32) -> usize {
+    if number == 0 { WRITTEN } else { REFUSALS + number as usize }
+}
+
+impl Tally {
+    pub fn count(&mut self, row: Row, outcome: usize) {
+        self.counts[row.at()][outcome] += 1;
+    }
+
+    pub fn comparisons(&self) -> u64 {
+        self.counts.iter().flatten().sum()
+    }
+
+    pub fn print(&self) {
+        print!("{:32}", "");
+        OUTCOMES.iter().for_each(|name| print!("{name:>10}"));
+        println!();
+        for ((name, counts), possible) in names().zip(&self.counts).zip(possible()) {
+            print!("{name:32}");
+            for (at, count) in counts.iter().enumerate() {
+                if *count == 0 && !possible.contains(&at) { print!("{:>10}", "-") } else { print!("{count:>10}") }
+            }
+            println!();
+        }
+    }
+
+    /// What a question can give and none gave.
+    pub fn unseen(&self) -> Vec<String> {
+        let mut unseen = Vec::new();
+        for ((name, counts), possible) in names().zip(&self.counts).zip(possible()) {
+            unseen.extend(
+                possible.into_iter().filter(|&at| counts[at] == 0).map(|at| format!("{name}: {}", OUTCOMES[at])),
+            );
+        }
+        unseen
+    }
+}
+
+fn names() -> impl Iterator<Item = &'static str> {
+    ALL.iter().map(|question| question.name()).chain(["write_literal", "write_parts"])
+}
+
+/// For each row what it can give, as the header says.
+fn possible() -> impl Iterator<Item = Vec<usize>> {
+    let rows = ALL.iter().map(|question| match question {
+        Question::Str | Question::Plain | Question::Temporal => "borrowed written 1 2 3 4 6 9 10",
+        Question::Decimal => "borrowed written 1 2 3 4 5 9 10",
+        Question::Bits => "borrowed written 1 2 3 4 7 9 10",
+        Question::Source => "borrowed 2 3 4 10",
+        Question::Money => "borrowed 1 2 3 4 8 10",
+        Question::Charset => "borrowed nothing 1 2 3 4 10",
+        Question::I64 => "value 1 2 3 4 5 10",
+        Question::Bool => "yes no 1 10",
+        Question::Null => "nothing 1 10",
+        Question::Ident => "borrowed written 4 6 9",
+        Question::Radix => "value",
+        _ => "yes no",
+    });
+    let outcomes = |names: &str| {
+        names.split(' ').map(|name| OUTCOMES.iter().position(|known| *known == name).expect("an outcome")).collect()
+    };
+    rows.chain(["written 4 9 10 11 12"; 2]).map(outcomes)
+}
