@@ -31,7 +31,8 @@ unknown : (b known : Bool) → b ≡ known → not b ≡ true → (out : List �
 unknown b true e h out o t p = absurd (false≢true (sym (ap not e) ∙ h))
 unknown b false e h out o t p = record { answer = p; buffer = refl }
 
-answered : {A : Type 0} (b known : Bool) → b ≡ known → not b ≡ false → (f : A → Told) (q : Outcome A) (out after : List ℕ) (a : A) → Meets q a after → (t : Told)
+answered : {A : Type 0} (b known : Bool) → b ≡ known → not b ≡ false → (f : A → Told) (q : Outcome A) (out after : List ℕ) (a : A) → Meets q a after
+    → (t : Told)
     → t ≡ f a → Meets (called known out (outcomeTold f q)) t after
 answered b true e h f q out after a m t p = record { answer = p ∙ ap f (m .answer); buffer = m .buffer }
 answered b false e h f q out after a m t p = absurd (false≢true (sym h ∙ ap not e))
@@ -70,16 +71,19 @@ module _ (k y s e : ℕ) (S : List ℕ) (b : Bool) (known : b ≡ isKnown k y 0)
   unfolding decimalCall
   decimal-unknown h out t p = unknown b (isKnown k y 0) known h out (outcomeTold textTold (decimalQuestion (literalOf k y s e) S out)) t p
 
-  pub decimal-answered : not b ≡ false → (l : Literal) → l ≡ literalOf k y s e → (out : List ℕ) (a : Text) (after : List ℕ) → Meets (decimalQuestion l S out) a after
+  pub decimal-answered : not b ≡ false → (l : Literal) → l ≡ literalOf k y s e → (out : List ℕ) (a : Text) (after : List ℕ)
+      → Meets (decimalQuestion l S out) a after
       → (t : Told) → t ≡ textTold a → Meets (decimalCall k y s e S out) t after
   unfolding decimalCall
-  decimal-answered h l p out a after m t w = answered b (isKnown k y 0) known h textTold (decimalQuestion (literalOf k y s e) S out) out after a (rw (← p) m) t w
+  decimal-answered h l p out a after m t w =
+      answered b (isKnown k y 0) known h textTold (decimalQuestion (literalOf k y s e) S out) out after a (rw (← p) m) t w
 
   pub bits-unknown : not b ≡ true → (out : List ℕ) (t : Told) → t ≡ numberTold 10 → Meets (bitsCall k y s e S out) t out
   unfolding bitsCall
   bits-unknown h out t p = unknown b (isKnown k y 0) known h out (outcomeTold textTold (bitsQuestion (literalOf k y s e) S out)) t p
 
-  pub bits-answered : not b ≡ false → (l : Literal) → l ≡ literalOf k y s e → (out : List ℕ) (a : Text) (after : List ℕ) → Meets (bitsQuestion l S out) a after
+  pub bits-answered : not b ≡ false → (l : Literal) → l ≡ literalOf k y s e → (out : List ℕ) (a : Text) (after : List ℕ)
+      → Meets (bitsQuestion l S out) a after
       → (t : Told) → t ≡ textTold a → Meets (bitsCall k y s e S out) t after
   unfolding bitsCall
   bits-answered h l p out a after m t w = answered b (isKnown k y 0) known h textTold (bitsQuestion (literalOf k y s e) S out) out after a (rw (← p) m) t w
@@ -88,34 +92,42 @@ module _ (k y s e : ℕ) (S : List ℕ) (b : Bool) (known : b ≡ isKnown k y 0)
   unfolding temporalCall
   temporal-unknown h out t p = unknown b (isKnown k y 0) known h out (outcomeTold textTold (temporalQuestion (literalOf k y s e) S out)) t p
 
-  pub temporal-answered : not b ≡ false → (l : Literal) → l ≡ literalOf k y s e → (out : List ℕ) (a : Text) (after : List ℕ) → Meets (temporalQuestion l S out) a after
+  pub temporal-answered : not b ≡ false → (l : Literal) → l ≡ literalOf k y s e → (out : List ℕ) (a : Text) (after : List ℕ)
+      → Meets (temporalQuestion l S out) a after
       → (t : Told) → t ≡ textTold a → Meets (temporalCall k y s e S out) t after
   unfolding temporalCall
-  temporal-answered h l p out a after m t w = answered b (isKnown k y 0) known h textTold (temporalQuestion (literalOf k y s e) S out) out after a (rw (← p) m) t w
+  temporal-answered h l p out a after m t w =
+      answered b (isKnown k y 0) known h textTold (temporalQuestion (literalOf k y s e) S out) out after a (rw (← p) m) t w
 
   pub source-unknown : not b ≡ true → (t : Told) → t ≡ numberTold 10 → t ≡ sourceCall k y s e S
   unfolding sourceCall
   source-unknown h t p = unknown-bare b (isKnown k y 0) known h t (rangeTold (sourceQuestion (literalOf k y s e) S)) p
 
-  pub source-answered : not b ≡ false → (l : Literal) → l ≡ literalOf k y s e → (a : Range) → a ≡ sourceQuestion l S → (t : Told) → t ≡ rangeTold a → t ≡ sourceCall k y s e S
+  pub source-answered : not b ≡ false → (l : Literal) → l ≡ literalOf k y s e → (a : Range) → a ≡ sourceQuestion l S → (t : Told) → t ≡ rangeTold a
+      → t ≡ sourceCall k y s e S
   unfolding sourceCall
-  source-answered h l p a q t w = answered-bare b (isKnown k y 0) known h t (rangeTold (sourceQuestion (literalOf k y s e) S)) (w ∙ ap rangeTold q ∙ ap (λ (x : Literal). rangeTold (sourceQuestion x S)) p)
+  source-answered h l p a q t w =
+      answered-bare b (isKnown k y 0) known h t (rangeTold (sourceQuestion (literalOf k y s e) S)) (w ∙ ap rangeTold q ∙ ap (λ (x : Literal). rangeTold (sourceQuestion x S)) p)
 
   pub money-unknown : not b ≡ true → (t : Told) → t ≡ numberTold 10 → t ≡ moneyCall k y s e S
   unfolding moneyCall
   money-unknown h t p = unknown-bare b (isKnown k y 0) known h t (rangeTold (moneyQuestion (literalOf k y s e) S)) p
 
-  pub money-answered : not b ≡ false → (l : Literal) → l ≡ literalOf k y s e → (a : Range) → a ≡ moneyQuestion l S → (t : Told) → t ≡ rangeTold a → t ≡ moneyCall k y s e S
+  pub money-answered : not b ≡ false → (l : Literal) → l ≡ literalOf k y s e → (a : Range) → a ≡ moneyQuestion l S → (t : Told) → t ≡ rangeTold a
+      → t ≡ moneyCall k y s e S
   unfolding moneyCall
-  money-answered h l p a q t w = answered-bare b (isKnown k y 0) known h t (rangeTold (moneyQuestion (literalOf k y s e) S)) (w ∙ ap rangeTold q ∙ ap (λ (x : Literal). rangeTold (moneyQuestion x S)) p)
+  money-answered h l p a q t w =
+      answered-bare b (isKnown k y 0) known h t (rangeTold (moneyQuestion (literalOf k y s e) S)) (w ∙ ap rangeTold q ∙ ap (λ (x : Literal). rangeTold (moneyQuestion x S)) p)
 
   pub charset-unknown : not b ≡ true → (t : Told) → t ≡ numberTold 10 → t ≡ charsetCall k y s e S
   unfolding charsetCall
   charset-unknown h t p = unknown-bare b (isKnown k y 0) known h t (charsetTold (charsetQuestion (literalOf k y s e) S)) p
 
-  pub charset-answered : not b ≡ false → (l : Literal) → l ≡ literalOf k y s e → (a : Charset) → a ≡ charsetQuestion l S → (t : Told) → t ≡ charsetTold a → t ≡ charsetCall k y s e S
+  pub charset-answered : not b ≡ false → (l : Literal) → l ≡ literalOf k y s e → (a : Charset) → a ≡ charsetQuestion l S → (t : Told) → t ≡ charsetTold a
+      → t ≡ charsetCall k y s e S
   unfolding charsetCall
-  charset-answered h l p a q t w = answered-bare b (isKnown k y 0) known h t (charsetTold (charsetQuestion (literalOf k y s e) S)) (w ∙ ap charsetTold q ∙ ap (λ (x : Literal). charsetTold (charsetQuestion x S)) p)
+  charset-answered h l p a q t w =
+      answered-bare b (isKnown k y 0) known h t (charsetTold (charsetQuestion (literalOf k y s e) S)) (w ∙ ap charsetTold q ∙ ap (λ (x : Literal). charsetTold (charsetQuestion x S)) p)
 
   pub i64-unknown : not b ≡ true → (t : Told) → t ≡ numberTold 10 → _≡_ {A = Counted} (record { told = t; value = pos 0 }) (i64Call k y s e S)
   unfolding i64Call
@@ -133,7 +145,8 @@ module _ (k : ℕ) (b : Bool) (known : b ≡ isKnown k 0 0) where
   unfolding boolCall
   bool-unknown h t p = unknown-bare b (isKnown k 0 0) known h t (truthTold (boolQuestion (kindOf k))) p
 
-  pub bool-answered : not b ≡ false → (l : Literal) → l ≡ literalOf k 0 0 0 → (a : Truth) → a ≡ boolQuestion (l .kind) → (t : Told) → t ≡ truthTold a → t ≡ boolCall k
+  pub bool-answered : not b ≡ false → (l : Literal) → l ≡ literalOf k 0 0 0 → (a : Truth) → a ≡ boolQuestion (l .kind) → (t : Told) → t ≡ truthTold a
+      → t ≡ boolCall k
   unfolding boolCall
   bool-answered h l p a q t w =
       answered-bare b (isKnown k 0 0) known h t (truthTold (boolQuestion (kindOf k))) (w ∙ ap truthTold q ∙ ap (λ (x : Literal). truthTold (boolQuestion (x .kind))) p)
@@ -142,7 +155,8 @@ module _ (k : ℕ) (b : Bool) (known : b ≡ isKnown k 0 0) where
   unfolding nullCall
   null-unknown h t p = unknown-bare b (isKnown k 0 0) known h t (nullnessTold (nullQuestion (kindOf k))) p
 
-  pub null-answered : not b ≡ false → (l : Literal) → l ≡ literalOf k 0 0 0 → (a : Nullness) → a ≡ nullQuestion (l .kind) → (t : Told) → t ≡ nullnessTold a → t ≡ nullCall k
+  pub null-answered : not b ≡ false → (l : Literal) → l ≡ literalOf k 0 0 0 → (a : Nullness) → a ≡ nullQuestion (l .kind) → (t : Told) → t ≡ nullnessTold a
+      → t ≡ nullCall k
   unfolding nullCall
   null-answered h l p a q t w =
       answered-bare b (isKnown k 0 0) known h t (nullnessTold (nullQuestion (kindOf k))) (w ∙ ap nullnessTold q ∙ ap (λ (x : Literal). nullnessTold (nullQuestion (x .kind))) p)

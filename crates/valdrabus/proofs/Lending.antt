@@ -27,7 +27,8 @@ module _ (t : Told) where
     pub identifier-tells : (text out after : List ℕ) (a : Identifier) → Meets (identifierQuestion text out) a after → t ≡ identifierTold a
         → Tells (identifierCall text out) r how first second after
     unfolding identifierCall
-    identifier-tells text out after a m p = record { says = says-of (identifierTold (identifierQuestion text out .answer)) (p ∙ ap identifierTold (m .answer)); buffer = m .buffer }
+    identifier-tells text out after a m p =
+        record { says = says-of (identifierTold (identifierQuestion text out .answer)) (p ∙ ap identifierTold (m .answer)); buffer = m .buffer }
 
   pub bare-of : (t′ : Told) → t ≡ t′ → Bare t′ (t .number) (t .first) (t .second)
   bare-of t′ p = record { result = ap (λ (x : Told). x .number) p; one = ap (λ (x : Told). x .first) p; two = ap (λ (x : Told). x .second) p }
@@ -35,7 +36,8 @@ module _ (t : Told) where
   pub lengths-of : (o : Outcome Told) (after : List ℕ) → Meets o t after → Lengths o (t .number) (t .second) after
   lengths-of o after m = record { result = ap (λ (x : Told). x .number) (m .answer); long = ap (λ (x : Told). x .second) (m .answer); buffer = m .buffer }
 
-pub counts-of : (n n′ : Counted) → n ≡ n′ → SFits w64 (n .value) → Counts n′ (n .told .number) (toZ w64 (ofZ w64 (n .value))) (n .told .first) (n .told .second)
+pub counts-of : (n n′ : Counted) → n ≡ n′ → SFits w64 (n .value)
+    → Counts n′ (n .told .number) (toZ w64 (ofZ w64 (n .value))) (n .told .first) (n .told .second)
 counts-of n n′ p f =
     record {
       result = ap (λ (x : Counted). x .told .number) p;

@@ -110,7 +110,8 @@ module _ (a : Integer) where
       ∙ ap (λ (x : ℤ). record { told = numberTold 0; value = x }) (toZ-ofZ {w = w64} f)
       ∙ ap countedOf (sym q)
 
-  pub integer-refused : (w : Refusal) → a ≡ Integer′.Refused w → (t : Told) → t ≡ refusalTold w → _≡_ {A = Counted} (record { told = t; value = pos 0 }) (countedOf a)
+  pub integer-refused : (w : Refusal) → a ≡ Integer′.Refused w → (t : Told) → t ≡ refusalTold w
+      → _≡_ {A = Counted} (record { told = t; value = pos 0 }) (countedOf a)
   integer-refused w q t p = ap (λ (x : Told). record { told = x; value = pos 0 }) p ∙ ap countedOf (sym q)
 
 -- A LITERAL by its numbers
