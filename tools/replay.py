@@ -212,7 +212,6 @@ def made():
         strata[stratum][1] += row.askings(index)
         rows.append(row.packed(index))
     rows.append(ending(list(strata)[-1]))
-    strata['all'] = [sum(counts) for counts in zip(*strata.values())]
     said = ''.join(f'{name}: {count} rows, {askings} askings, 0 different\n' for name, (count, askings) in strata.items())
     return blocks(rows), said.encode()
 
@@ -227,7 +226,8 @@ def main():
         return
     for path, data in files.items():
         path.write_bytes(data)
-    print(files[folder / 'stdout'].decode().split('\n')[-2])
+    counts = re.findall(r'(\d+) rows, (\d+) askings', files[folder / 'stdout'].decode())
+    print(f'{sum(int(rows) for rows, _ in counts)} rows, {sum(int(askings) for _, askings in counts)} askings, {len(files[folder / "stdin"])} bytes')
 
 
 if __name__ == '__main__':

@@ -1,18 +1,16 @@
 // Replays the rows of standard input, which tools/replay.py makes of vectors/: asks each row's question in up to four ways, and holds the answer, the bytes it shows and every other byte of
 // the buffer to what the row says is due. Prints for each stratum how many rows and askings it has and how many askings differ, and before that the first that does.
 mod asked;
+mod askings;
 mod rows;
 mod said;
-mod tallies;
 mod told;
-mod ways;
 
+use askings::Tally;
+use askings::after_row;
+use askings::none;
 use libc::STDIN_FILENO;
 use rows::row_len;
-use tallies::State;
-use tallies::after_row;
-use tallies::fresh_state;
-use tallies::say_all;
 ghost use Prim.Native.Nat.{_≤_, _<_};
 ghost use lib.ListN.{length};
 
@@ -32,9 +30,9 @@ fn row_end(block: &[u8], at: usize) -> usize
 }
 
 // A block holds whole rows.
-fn after_block(block: &[u8], state: State) -> State {
+fn after_block(block: &[u8], tally: Tally) -> Tally {
     let mut at: usize = 0;
-    let mut now = state;
+    let mut now = tally;
     while at < block.len() {
         let end = row_end(block, at);
         now = after_row(&block[at..end], now);
@@ -44,26 +42,20 @@ fn after_block(block: &[u8], state: State) -> State {
 }
 
 // Replays the next block of the input.
-fn next_block(state: State) -> State {
+fn next_block(tally: Tally) -> Tally {
     let mut block = io::large_buffer();
     let n = io::read_full(STDIN_FILENO, &mut block);
-    let after = after_block(&block[..n], state);
-    let stratum = after.stratum;
-    let before = after.before;
-    State {
-        stratum,
-        before,
-        last: n < 65536,
-    }
+    let mut after = after_block(&block[..n], tally);
+    after.last = n < 65536;
+    after
 }
 
 fn main() {
-    let mut state = fresh_state();
+    let mut tally = none();
     let mut blocks: u64 = 0xFFFF_FFFF_FFFF_FFFF;
     while 0 < blocks {
-        state = next_block(state);
-        if state.last {
-            say_all(state);
+        tally = next_block(tally);
+        if tally.last {
             return;
         }
         blocks -= 1;

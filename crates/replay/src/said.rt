@@ -1,7 +1,6 @@
 // Printing: how an answer differs, and the counts.
 use crate::rows::name_of;
 use crate::told::Told;
-use crate::ways::Way;
 use libc::STDOUT_FILENO;
 
 pub(crate) fn say(bytes: &[u8]) {
@@ -14,40 +13,31 @@ pub(crate) fn say_number(before: &[u8], n: u64) {
     io::print_decimal(STDOUT_FILENO, n);
 }
 
-fn say_way(way: Way) {
-    match way {
-        Way::Alone => say(b"alone"),
-        Way::Padded => say(b"padded"),
-        Way::Exact => say(b"buffer exact"),
-        Way::Short => say(b"buffer one short"),
-    }
-}
-
+// An answer in the order of vectors/: its letter, number and values.
 fn say_told(before: &[u8], told: Told) {
     let letter = [told.letter];
-    say_number(before, told.number as u64);
-    say(b" ");
+    say(before);
     say(&letter);
+    say_number(b" ", told.number as u64);
     say_number(b" ", told.first);
     say_number(b" ", told.second);
 }
 
-fn say_bytes(told: Told) {
-    if !told.shown {
-        say(b"; shows another value");
-    }
-    if !told.kept {
-        say(b"; changes other bytes of the buffer");
-    }
+// Which row differs, in which asking, and in what.
+pub(crate) fn say_difference(row: &[u8], asking: u64, told: Told, due: Told) {
+    say(name_of(row));
+    say_number(b", asking ", asking);
+    say_told(b": ", told);
+    say_told(b", due ", due);
 }
 
-// Which row differs, asked how, and in what.
-pub(crate) fn say_difference(row: &[u8], way: Way, told: Told, due: Told) {
-    say(name_of(row));
-    say(b", ");
-    say_way(way);
-    say_told(b": answers ", told);
-    say_told(b", due ", due);
-    say_bytes(told);
+// Whether the bytes shown are the value, and the other bytes of the buffer as they were.
+pub(crate) fn say_bytes(shown: bool, kept: bool) {
+    if !shown {
+        say(b", another value");
+    }
+    if !kept {
+        say(b", buffer changed");
+    }
     say(b"\n");
 }

@@ -1,4 +1,7 @@
-// What any answer tells: its number, a letter for its case, and two values; whether the bytes that it shows are the value, and whether the rest of the buffer is as it was.
+// What any answer tells: its number, a letter for its case, and two values.
+use crate::rows::due_first;
+use crate::rows::due_second;
+use leaves::bytes::byte_at;
 use meaning::Charset;
 use meaning::Identifier;
 use meaning::Integer;
@@ -18,14 +21,12 @@ pub(crate) struct Told {
     pub letter: u8,
     pub first: u64,
     pub second: u64,
-    pub shown: bool,
-    pub kept: bool,
 }
 
 // The letters: b borrowed, w written, i an integer, n no name, y a yes or no, p a prefix, r refused.
-pub(crate) const BORROWED: u8 = 98;
+const BORROWED: u8 = 98;
 
-pub(crate) const WRITTEN: u8 = 119;
+const WRITTEN: u8 = 119;
 
 const INTEGER: u8 = 105;
 
@@ -37,26 +38,40 @@ pub(crate) const PREFIX: u8 = 112;
 
 const REFUSED: u8 = 114;
 
-pub(crate) fn answered(letter: u8, first: u64, second: u64, shown: bool) -> Told {
+pub(crate) fn answered(letter: u8, first: u64, second: u64) -> Told {
     Told {
         number: 0,
         letter,
         first,
         second,
-        shown,
-        kept: true,
     }
 }
 
-pub(crate) fn refused(number: u32, first: u64, second: u64, shown: bool) -> Told {
+pub(crate) fn refused(number: u32, first: u64, second: u64) -> Told {
     Told {
         number,
         letter: REFUSED,
         first,
         second,
-        shown,
-        kept: true,
     }
+}
+
+// What a row says is due.
+pub(crate) fn due_in(row: &[u8]) -> Told {
+    Told {
+        number: byte_at(row, 16) as u32,
+        letter: byte_at(row, 15),
+        first: due_first(row),
+        second: due_second(row),
+    }
+}
+
+// An answer that another question on the same does not gainsay.
+pub(crate) fn agreed(told: Told, agrees: bool) -> Told {
+    if agrees {
+        return told;
+    }
+    refused(0, 0, 0)
 }
 
 // The number of a family, in the order of the enum.
@@ -73,57 +88,66 @@ fn family_of(expected: LiteralExpected) -> u64 {
     }
 }
 
-// The span of a refusal that has one.
-fn span_of(refusal: Refusal) -> Span {
-    match refusal {
-        Refusal::WrongKind(_, _) => Span { start: 0, end: 0 },
-        Refusal::MissingSource(span) => span,
-        Refusal::InvalidSourceRange(span) => span,
-        Refusal::NotUtf8(span) => span,
-        Refusal::InvalidInteger(span) => span,
-        Refusal::InvalidString(span) => span,
-        Refusal::InvalidBitString(span) => span,
-        Refusal::InvalidMoney(span) => span,
-        Refusal::NoRoom { needed: _ } => Span { start: 0, end: 0 },
-    }
+fn refused_span(number: u32, span: Span) -> Told {
+    refused(number, span.start as u64, span.end as u64)
 }
 
-fn refusal_told(refusal: Refusal, shown: bool) -> Told {
+fn refusal_told(refusal: Refusal) -> Told {
     let number = refusal_number(refusal);
-    if let Refusal::WrongKind(expected, kind) = refusal {
-        return refused(number, family_of(expected), kind_code(kind) as u64, shown);
+    match refusal {
+        Refusal::WrongKind(expected, kind) => refused(
+            number,
+            family_of(expected),
+            kind_code(kind) as u64,
+        ),
+        Refusal::MissingSource(span) => refused_span(number, span),
+        Refusal::InvalidSourceRange(span) => refused_span(number, span),
+        Refusal::NotUtf8(span) => refused_span(number, span),
+        Refusal::InvalidInteger(span) => refused_span(number, span),
+        Refusal::InvalidString(span) => refused_span(number, span),
+        Refusal::InvalidBitString(span) => refused_span(number, span),
+        Refusal::InvalidMoney(span) => refused_span(number, span),
+        Refusal::NoRoom { needed } => refused(number, needed as u64, 0),
     }
-    if let Refusal::NoRoom { needed } = refusal {
-        return refused(number, needed as u64, 0, shown);
-    }
-    let span = span_of(refusal);
-    refused(number, span.start as u64, span.end as u64, shown)
 }
 
-pub(crate) fn text_told(answer: Text, shown: bool) -> Told {
+pub(crate) fn text_told(answer: Text) -> Told {
     match answer {
-        Text::Borrowed { start, end } => answered(BORROWED, start as u64, end as u64, shown),
-        Text::Written { len } => answered(WRITTEN, len as u64, 0, shown),
-        Text::Refused(refusal) => refusal_told(refusal, shown),
+        Text::Borrowed { start, end } => answered(BORROWED, start as u64, end as u64),
+        Text::Written { len } => answered(WRITTEN, len as u64, 0),
+        Text::Refused(refusal) => refusal_told(refusal),
     }
 }
 
-pub(crate) fn range_told(answer: Range, shown: bool) -> Told {
+// The text that an answer tells, for the view; anything else shows nothing.
+pub(crate) fn text_of(told: Told) -> Text {
+    if told.letter == BORROWED {
+        return Text::Borrowed {
+            start: told.first as usize,
+            end: told.second as usize,
+        };
+    }
+    Text::Written {
+        len: filled_by(told) as usize,
+    }
+}
+
+pub(crate) fn range_told(answer: Range) -> Told {
     match answer {
-        Range::Found { start, end } => answered(BORROWED, start as u64, end as u64, shown),
-        Range::Refused(refusal) => refusal_told(refusal, shown),
+        Range::Found { start, end } => answered(BORROWED, start as u64, end as u64),
+        Range::Refused(refusal) => refusal_told(refusal),
     }
 }
 
-pub(crate) fn charset_told(answer: Charset, shown: bool) -> Told {
+pub(crate) fn charset_told(answer: Charset) -> Told {
     match answer {
-        Charset::Named { start, end } => answered(BORROWED, start as u64, end as u64, shown),
-        Charset::Unnamed => answered(UNNAMED, 0, 0, shown),
-        Charset::Refused(refusal) => refusal_told(refusal, shown),
+        Charset::Named { start, end } => answered(BORROWED, start as u64, end as u64),
+        Charset::Unnamed => answered(UNNAMED, 0, 0),
+        Charset::Refused(refusal) => refusal_told(refusal),
     }
 }
 
-// The integer of a size, or of minus one less the size.
+// The integer of a size; where `below` is 1, as far below minus one.
 fn integer_of(size: u64, below: u64) -> i64 {
     if 0x7FFF_FFFF_FFFF_FFFF < size {
         return 0;
@@ -134,57 +158,48 @@ fn integer_of(size: u64, below: u64) -> i64 {
     size as i64
 }
 
-// The value is told as the one that is due, and shown if it is.
+// The value is told as the one that is due, if it is that.
 pub(crate) fn integer_told(answer: Integer, size: u64, below: u64) -> Told {
     match answer {
-        Integer::Value(value) => answered(INTEGER, size, below, value == integer_of(size, below)),
-        Integer::Refused(refusal) => refusal_told(refusal, true),
+        Integer::Value(value) => agreed(
+            answered(INTEGER, size, below),
+            value == integer_of(size, below),
+        ),
+        Integer::Refused(refusal) => refusal_told(refusal),
     }
 }
 
 pub(crate) fn bool_told(answer: Truth) -> Told {
     match answer {
-        Truth::Value(value) => answered(TRUTH, value as u64, 0, true),
-        Truth::Refused(refusal) => refusal_told(refusal, true),
+        Truth::Value(value) => answered(TRUTH, value as u64, 0),
+        Truth::Refused(refusal) => refusal_told(refusal),
     }
 }
 
-// `null` is what `is_null` says; it must say the same.
-pub(crate) fn null_told(answer: Nullness, null: bool) -> Told {
+pub(crate) fn null_told(answer: Nullness) -> Told {
     match answer {
-        Nullness::IsNull => answered(TRUTH, 1, 0, null),
-        Nullness::Refused(refusal) => refusal_told(refusal, !null),
+        Nullness::IsNull => answered(TRUTH, 1, 0),
+        Nullness::Refused(refusal) => refusal_told(refusal),
     }
 }
 
-// An identifier's answer as a text's: its refusals have no span.
-pub(crate) fn identifier_text(answer: Identifier) -> Text {
-    let span = Span { start: 0, end: 0 };
+pub(crate) fn identifier_told(answer: Identifier) -> Told {
     match answer {
-        Identifier::Borrowed { start, end } => Text::Borrowed { start, end },
-        Identifier::Written { len } => Text::Written { len },
-        Identifier::NotUtf8 => Text::Refused(Refusal::NotUtf8(span)),
-        Identifier::InvalidString => Text::Refused(Refusal::InvalidString(span)),
-        Identifier::NoRoom { needed } => Text::Refused(Refusal::NoRoom { needed }),
+        Identifier::Borrowed { start, end } => answered(BORROWED, start as u64, end as u64),
+        Identifier::Written { len } => answered(WRITTEN, len as u64, 0),
+        Identifier::NotUtf8 => refused(4, 0, 0),
+        Identifier::InvalidString => refused(6, 0, 0),
+        Identifier::NoRoom { needed } => refused(9, needed as u64, 0),
     }
 }
 
-pub(crate) fn writing_told(answer: Writing, shown: bool) -> Told {
+pub(crate) fn writing_told(answer: Writing) -> Told {
     match answer {
-        Writing::Written { len } => answered(WRITTEN, len as u64, 0, shown),
-        Writing::OverLimit => refused(12, 0, 0, shown),
-        Writing::NotUtf8 => refused(4, 0, 0, shown),
-        Writing::HoldsNul => refused(11, 0, 0, shown),
-        Writing::NoRoom { needed } => refused(9, needed as u64, 0, shown),
-    }
-}
-
-// How many bytes of the buffer the writer fills.
-pub(crate) fn writing_len(answer: Writing) -> usize {
-    if let Writing::Written { len } = answer {
-        len
-    } else {
-        0
+        Writing::Written { len } => answered(WRITTEN, len as u64, 0),
+        Writing::OverLimit => refused(12, 0, 0),
+        Writing::NotUtf8 => refused(4, 0, 0),
+        Writing::HoldsNul => refused(11, 0, 0),
+        Writing::NoRoom { needed } => refused(9, needed as u64, 0),
     }
 }
 
@@ -196,28 +211,22 @@ pub(crate) fn filled_by(told: Told) -> u64 {
     0
 }
 
-// Whether an answer is the one that is due. That the value is shown and the other bytes are kept is due always.
-pub(crate) fn is_due(told: Told, due: Told) -> bool {
+pub(crate) fn is_same(told: Told, due: Told) -> bool {
     (told.number == due.number)
         & (told.letter == due.letter)
         & (told.first == due.first)
         & (told.second == due.second)
-        & told.shown
-        & told.kept
 }
 
 // An answer's places moved: a borrowed range, or the span of a refusal. Lengths and kinds stay.
 pub(crate) fn moved(told: Told, by: u8) -> Told {
-    let placed = (told.letter == BORROWED) | ((2 <= told.number) & (told.number <= 8));
-    if !placed {
-        return told;
+    if (told.letter == BORROWED) | ((2 <= told.number) & (told.number <= 8)) {
+        return Told {
+            number: told.number,
+            letter: told.letter,
+            first: std::num::wrapping_add_u64(told.first, by as u64),
+            second: std::num::wrapping_add_u64(told.second, by as u64),
+        };
     }
-    Told {
-        number: told.number,
-        letter: told.letter,
-        first: std::num::wrapping_add_u64(told.first, by as u64),
-        second: std::num::wrapping_add_u64(told.second, by as u64),
-        shown: told.shown,
-        kept: told.kept,
-    }
+    told
 }

@@ -4,22 +4,19 @@ use Rattle.replay.proofs.main.Statement.{statement}
 use Rattle.replay.proofs.main.Tie as tie
 
 abbrev Inv-loop : tie.InvT-loop
-Inv-loop state₀ blocks₀ state blocks = Unit {0}
+Inv-loop tally₀ blocks₀ tally blocks = Unit {0}
 
 abbrev μ-loop : tie.MeasureT-loop
-μ-loop state₀ blocks₀ state blocks = blocks
+μ-loop tally₀ blocks₀ tally blocks = blocks
 
-fresh-state-requires : tie.Need-fresh-state-requires Inv-loop μ-loop
-fresh-state-requires c κs = search needs
+none-requires : tie.Need-none-requires Inv-loop μ-loop
+none-requires c κs = search needs
 
 loop-holds : tie.Need-loop-holds Inv-loop μ-loop
 loop-holds c = search needs
 
 next-block-requires : tie.Need-next-block-requires Inv-loop μ-loop
 next-block-requires c κs = search needs
-
-say-all-requires : tie.Need-say-all-requires Inv-loop μ-loop
-say-all-requires c κs = search needs
 
 returns : tie.Need-returns Inv-loop μ-loop
 returns c = search needs
@@ -42,10 +39,9 @@ main-spec =
     (tie.spec
     Inv-loop
     μ-loop
-    fresh-state-requires
+    none-requires
     loop-holds
     next-block-requires
-    say-all-requires
     returns
     sub-blocks
     loop-less
