@@ -1,8 +1,7 @@
 // The question that a row asks, of a source and with a buffer. The literal's span is moved by so many bytes.
-use crate::rows::due_first;
-use crate::rows::due_second;
+use crate::rows::QUESTION;
+use crate::rows::due_in;
 use crate::rows::literal_of;
-use crate::rows::question_of;
 use crate::rows::settings_of;
 use crate::rows::size_of;
 use crate::told::PREFIX;
@@ -24,6 +23,7 @@ use helpers::materialize_unicode_ident;
 use helpers::postgres_escape_string_is_valid;
 use helpers::uescape_argument_is_legal;
 use helpers::unicode_escape_string_is_valid;
+use leaves::bytes::byte_at;
 use leaves::texts::string_literal_embeds_nul;
 use meaning::Literal;
 use meaning::Text;
@@ -49,7 +49,7 @@ use writer::literal::write_literal;
 
 // 1 to 5: a text of the source or of the buffer.
 fn ask_text(row: &[u8], literal: Literal, source: &[u8], out: &mut [u8]) -> Text {
-    match question_of(row) {
+    match byte_at(row, QUESTION) {
         1 => as_str_in(literal, source, settings_of(row), out),
         2 => as_str(literal, source, out),
         3 => as_decimal_text(literal, source, out),
@@ -65,10 +65,10 @@ fn ask_writer(row: &[u8], source: &[u8], out: &mut [u8]) -> Told {
 
 // 1 to 7: the questions that are lent a buffer.
 fn ask_lent(row: &[u8], by: u8, source: &[u8], out: &mut [u8]) -> Told {
-    if question_of(row) == 6 {
+    if byte_at(row, QUESTION) == 6 {
         return identifier_told(materialize_unicode_ident(source, out));
     }
-    if question_of(row) == 7 {
+    if byte_at(row, QUESTION) == 7 {
         return ask_writer(row, source, out);
     }
     text_told(ask_text(row, literal_of(row, by), source, out))
@@ -105,7 +105,8 @@ fn ask_charset(literal: Literal, source: &[u8]) -> Told {
 
 // 11 and 13: a value. What `is_null` says must agree.
 fn ask_i64(row: &[u8], literal: Literal, source: &[u8]) -> Told {
-    integer_told(as_i64(literal, source), due_first(row), due_second(row))
+    let due = due_in(row);
+    integer_told(as_i64(literal, source), due.first, due.second)
 }
 
 fn ask_null(literal: Literal) -> Told {
@@ -115,7 +116,7 @@ fn ask_null(literal: Literal) -> Told {
 
 // 8 to 13: the questions on a literal without a buffer.
 fn ask_literal(row: &[u8], literal: Literal, source: &[u8]) -> Told {
-    match question_of(row) {
+    match byte_at(row, QUESTION) {
         8 => ask_money(literal, source),
         9 => ask_source(literal, source),
         10 => ask_charset(literal, source),
@@ -145,16 +146,18 @@ fn ask_bare(question: u8, text: &[u8]) -> Told {
     answered(TRUTH, is_so(question, text) as u64, 0)
 }
 
+// The questions from 8 on are lent no buffer.
 pub(crate) fn lends(row: &[u8]) -> bool {
-    question_of(row) <= 7
+    byte_at(row, QUESTION) <= 7
 }
 
 pub(crate) fn ask(row: &[u8], by: u8, source: &[u8], out: &mut [u8]) -> Told {
     if lends(row) {
         return ask_lent(row, by, source, out);
     }
-    if 14 <= question_of(row) {
-        return ask_bare(question_of(row), source);
+    let question = byte_at(row, QUESTION);
+    if 14 <= question {
+        return ask_bare(question, source);
     }
     ask_literal(row, literal_of(row, by), source)
 }

@@ -1,10 +1,13 @@
 // The askings of a row, up to four, and their count: 1 the text alone with a long buffer; 2 with padding around it; 3 with a buffer just as long as what is written; 4 with one a byte shorter.
 use crate::asked::ask;
 use crate::asked::lends;
+use crate::rows::PADDED;
+use crate::rows::QUESTION;
+use crate::rows::ROOM;
+use crate::rows::due_in;
 use crate::rows::front_of;
 use crate::rows::name_of;
 use crate::rows::padded_of;
-use crate::rows::question_of;
 use crate::rows::source_of;
 use crate::rows::value_of;
 use crate::said::say;
@@ -12,7 +15,6 @@ use crate::said::say_bytes;
 use crate::said::say_difference;
 use crate::said::say_number;
 use crate::told::Told;
-use crate::told::due_in;
 use crate::told::filled_by;
 use crate::told::is_same;
 use crate::told::moved;
@@ -31,11 +33,17 @@ pub(crate) struct Tally {
     pub last: bool,
 }
 
-// One asking.
+// How far places are moved, and how long the buffer is.
 struct Asking {
-    pub number: u64,
     pub by: u8,
     pub room: u64,
+}
+
+// An answer; whether the bytes that it shows are the value, and the other bytes of the buffer as they were.
+struct Seen {
+    pub told: Told,
+    pub shown: bool,
+    pub kept: bool,
 }
 
 // What the buffer is full of before it is lent.
@@ -74,63 +82,51 @@ fn is_kept(out: &[u8], from: usize) -> bool {
     same(part_of(out, from, 256), part_of(&full, from, 256))
 }
 
-// Asks; then looks at the bytes shown and at the whole of the buffer, not only at the part that was lent. Says how the first asking of a stratum that differs does.
-fn after_asking(
-    row: &[u8],
-    asking: Asking,
-    source: &[u8],
-    value: &[u8],
-    due: Told,
-    tally: Tally,
-) -> Tally {
+// Asks; then looks at the bytes shown and at the whole of the buffer, not only at the part that was lent.
+fn asked(row: &[u8], asking: Asking, source: &[u8], value: &[u8]) -> Seen {
     let mut out = [FILL; 256];
     let told = ask_within(row, asking, source, &mut out);
-    let shown = same(text_shown(source, &out, text_of(told)), value);
-    let kept = is_kept(&out, filled_by(told) as usize);
-    if is_same(told, due) & shown & kept {
+    Seen {
+        told,
+        shown: same(text_shown(source, &out, text_of(told)), value),
+        kept: is_kept(&out, filled_by(told) as usize),
+    }
+}
+
+// Counts an asking; says how the first of a stratum that differs does.
+fn after_asking(row: &[u8], number: u64, seen: Seen, due: Told, tally: Tally) -> Tally {
+    let told = seen.told;
+    if is_same(told, due) & seen.shown & seen.kept {
         return more(tally, 0, 1, 0);
     }
     if tally.different == 0 {
-        say_difference(row, asking.number, told, due);
-        say_bytes(shown, kept);
+        say_difference(row, number, told, due);
+        say_bytes(seen.shown, seen.kept);
     }
     more(tally, 0, 1, 1)
 }
 
 fn alone(row: &[u8], tally: Tally) -> Tally {
     let asking = Asking {
-        number: 1,
         by: 0,
-        room: byte_at(row, 14) as u64,
+        room: byte_at(row, ROOM) as u64,
     };
-    after_asking(
-        row,
-        asking,
-        source_of(row),
-        value_of(row),
-        due_in(row),
-        tally,
-    )
+    let seen = asked(row, asking, source_of(row), value_of(row));
+    after_asking(row, 1, seen, due_in(row), tally)
 }
 
 // Bare text and some wrong spans have no padding. Places move with it.
 fn padded(row: &[u8], tally: Tally) -> Tally {
-    if byte_at(row, 13) == 0 {
+    if byte_at(row, PADDED) == 0 {
         return tally;
     }
+    let by = front_of(row);
     let asking = Asking {
-        number: 2,
-        by: front_of(row),
-        room: byte_at(row, 14) as u64,
+        by,
+        room: byte_at(row, ROOM) as u64,
     };
-    after_asking(
-        row,
-        asking,
-        padded_of(row),
-        value_of(row),
-        moved(due_in(row), front_of(row)),
-        tally,
-    )
+    let seen = asked(row, asking, padded_of(row), value_of(row));
+    after_asking(row, 2, seen, moved(due_in(row), by), tally)
 }
 
 fn exact(row: &[u8], tally: Tally) -> Tally {
@@ -139,11 +135,11 @@ fn exact(row: &[u8], tally: Tally) -> Tally {
     }
     let due = due_in(row);
     let asking = Asking {
-        number: 3,
         by: 0,
         room: filled_by(due),
     };
-    after_asking(row, asking, source_of(row), value_of(row), due, tally)
+    let seen = asked(row, asking, source_of(row), value_of(row));
+    after_asking(row, 3, seen, due, tally)
 }
 
 // A buffer can be too short only where a byte is written.
@@ -153,18 +149,11 @@ fn short(row: &[u8], tally: Tally) -> Tally {
         return tally;
     }
     let asking = Asking {
-        number: 4,
         by: 0,
         room: filled - 1,
     };
-    after_asking(
-        row,
-        asking,
-        source_of(row),
-        b"",
-        refused(9, filled, 0),
-        tally,
-    )
+    let seen = asked(row, asking, source_of(row), b"");
+    after_asking(row, 4, seen, refused(9, filled, 0), tally)
 }
 
 fn say_tally(tally: Tally) {
@@ -176,10 +165,11 @@ fn say_tally(tally: Tally) {
 
 // A row of question 0 ends a stratum and names it; one of 255 fills a block.
 pub(crate) fn after_row(row: &[u8], tally: Tally) -> Tally {
-    if question_of(row) == 255 {
+    let question = byte_at(row, QUESTION);
+    if question == 255 {
         return tally;
     }
-    if question_of(row) == 0 {
+    if question == 0 {
         say(name_of(row));
         say_tally(tally);
         return none();

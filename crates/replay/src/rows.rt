@@ -1,4 +1,5 @@
 // A row of the input: a head of 40 bytes, then the text with its padding, the value, the name. tools/replay.py says what stands where.
+use crate::told::Told;
 use leaves::bytes::byte_at;
 use leaves::views::part_of;
 use meaning::BitStringRadix;
@@ -11,6 +12,13 @@ use meaning::Settings;
 use meaning::Span;
 use meaning::TimeZone;
 
+// Places of the head: the question, whether there is padding, how long the buffer is in the first asking.
+pub(crate) const QUESTION: usize = 0;
+
+pub(crate) const PADDED: usize = 13;
+
+pub(crate) const ROOM: usize = 14;
+
 // Numbers of two, four and eight bytes, the lowest first.
 fn two(bytes: &[u8]) -> u16 {
     (byte_at(bytes, 0) as u16) | ((byte_at(bytes, 1) as u16) << 8)
@@ -22,15 +30,6 @@ fn four(bytes: &[u8]) -> u32 {
 
 fn eight(bytes: &[u8]) -> u64 {
     (four(bytes) as u64) | ((four(part_of(bytes, 4, 8)) as u64) << 32)
-}
-
-pub(crate) fn question_of(row: &[u8]) -> u8 {
-    byte_at(row, 0)
-}
-
-// How many bytes of padding stand before the source.
-pub(crate) fn front_of(row: &[u8]) -> u8 {
-    byte_at(row, 12)
 }
 
 // How many bytes the row that begins here takes.
@@ -115,11 +114,17 @@ pub(crate) fn size_of(row: &[u8]) -> PartSize {
     PartSize::AtMost(four(part_of(row, 4, 8)) as usize)
 }
 
-// The first value of what is due, and the second.
-pub(crate) fn due_first(row: &[u8]) -> u64 {
-    eight(part_of(row, 28, 36))
+// How many bytes of padding stand before the source.
+pub(crate) fn front_of(row: &[u8]) -> u8 {
+    byte_at(row, 12)
 }
 
-pub(crate) fn due_second(row: &[u8]) -> u64 {
-    four(part_of(row, 36, 40)) as u64
+// What is due: a letter, a number and two values.
+pub(crate) fn due_in(row: &[u8]) -> Told {
+    Told {
+        number: byte_at(row, 16) as u32,
+        letter: byte_at(row, 15),
+        first: eight(part_of(row, 28, 36)),
+        second: four(part_of(row, 36, 40)) as u64,
+    }
 }

@@ -23,7 +23,7 @@ fn say_told(before: &[u8], told: Told) {
     say_number(b" ", told.second);
 }
 
-// Which row differs, in which asking, and in what.
+// Which row differs, in which asking, and what is due.
 pub(crate) fn say_difference(row: &[u8], asking: u64, told: Told, due: Told) {
     say(name_of(row));
     say_number(b", asking ", asking);
@@ -31,13 +31,9 @@ pub(crate) fn say_difference(row: &[u8], asking: u64, told: Told, due: Told) {
     say_told(b", due ", due);
 }
 
-// Whether the bytes shown are the value, and the other bytes of the buffer as they were.
+// 1 if the bytes shown are the value, and 1 if the other bytes of the buffer are as they were.
 pub(crate) fn say_bytes(shown: bool, kept: bool) {
-    if !shown {
-        say(b", another value");
-    }
-    if !kept {
-        say(b", buffer changed");
-    }
+    say_number(b", shown ", shown as u64);
+    say_number(b", kept ", kept as u64);
     say(b"\n");
 }

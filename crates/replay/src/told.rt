@@ -1,7 +1,4 @@
 // What any answer tells: its number, a letter for its case, and two values.
-use crate::rows::due_first;
-use crate::rows::due_second;
-use leaves::bytes::byte_at;
 use meaning::Charset;
 use meaning::Identifier;
 use meaning::Integer;
@@ -53,16 +50,6 @@ pub(crate) fn refused(number: u32, first: u64, second: u64) -> Told {
         letter: REFUSED,
         first,
         second,
-    }
-}
-
-// What a row says is due.
-pub(crate) fn due_in(row: &[u8]) -> Told {
-    Told {
-        number: byte_at(row, 16) as u32,
-        letter: byte_at(row, 15),
-        first: due_first(row),
-        second: due_second(row),
     }
 }
 
