@@ -1,0 +1,163 @@
+// The question that a row asks, of a source and with a buffer. The literal's span is moved by so many bytes.
+use crate::rows::QUESTION;
+use crate::rows::due_in;
+use crate::rows::literal_of;
+use crate::rows::settings_of;
+use crate::rows::size_of;
+use crate::told::PREFIX;
+use crate::told::TRUTH;
+use crate::told::Told;
+use crate::told::agreed;
+use crate::told::answered;
+use crate::told::bool_told;
+use crate::told::charset_told;
+use crate::told::identifier_told;
+use crate::told::integer_told;
+use crate::told::null_told;
+use crate::told::range_told;
+use crate::told::text_told;
+use crate::told::writing_told;
+use check::same;
+use helpers::is_unicode_ident;
+use helpers::materialize_unicode_ident;
+use helpers::postgres_escape_string_is_valid;
+use helpers::uescape_argument_is_legal;
+use helpers::unicode_escape_string_is_valid;
+use leaves::bytes::byte_at;
+use leaves::texts::string_literal_embeds_nul;
+use meaning::Literal;
+use meaning::Text;
+use numbers::prefix::split_radix_prefix;
+use questions::parts::as_money_text;
+use questions::parts::charset_introducer;
+use questions::parts::charset_range;
+use questions::parts::money_range;
+use questions::parts::source_range;
+use questions::parts::source_text;
+use questions::shown::charset_shown;
+use questions::shown::range_shown;
+use questions::texts::as_bit_text;
+use questions::texts::as_decimal_text;
+use questions::texts::as_str;
+use questions::texts::as_str_in;
+use questions::texts::as_temporal_text;
+use questions::values::as_bool;
+use questions::values::as_i64;
+use questions::values::as_null;
+use questions::values::is_null;
+use writer::literal::write_literal;
+
+// 1 to 5: a text of the source or of the buffer.
+fn ask_text(row: &[u8], literal: Literal, source: &[u8], out: &mut [u8]) -> Text {
+    match byte_at(row, QUESTION) {
+        1 => as_str_in(literal, source, settings_of(row), out),
+        2 => as_str(literal, source, out),
+        3 => as_decimal_text(literal, source, out),
+        4 => as_bit_text(literal, source, out),
+        _ => as_temporal_text(literal, source, out),
+    }
+}
+
+// 7: a value's literal.
+fn ask_writer(row: &[u8], source: &[u8], out: &mut [u8]) -> Told {
+    writing_told(write_literal(source, size_of(row), settings_of(row), out))
+}
+
+// 1 to 7: the questions that are lent a buffer.
+fn ask_lent(row: &[u8], by: u8, source: &[u8], out: &mut [u8]) -> Told {
+    if byte_at(row, QUESTION) == 6 {
+        return identifier_told(materialize_unicode_ident(source, out));
+    }
+    if byte_at(row, QUESTION) == 7 {
+        return ask_writer(row, source, out);
+    }
+    text_told(ask_text(row, literal_of(row, by), source, out))
+}
+
+// 8 and 9: a part of the source; its range, if the part handed back is just that.
+fn ask_money(literal: Literal, source: &[u8]) -> Told {
+    let range = money_range(literal, source);
+    agreed(
+        range_told(range),
+        same(as_money_text(literal, source), range_shown(source, range)),
+    )
+}
+
+fn ask_source(literal: Literal, source: &[u8]) -> Told {
+    let range = source_range(literal, source);
+    agreed(
+        range_told(range),
+        same(source_text(literal, source), range_shown(source, range)),
+    )
+}
+
+// 10: a name, likewise.
+fn ask_charset(literal: Literal, source: &[u8]) -> Told {
+    let name = charset_range(literal, source);
+    agreed(
+        charset_told(name),
+        same(
+            charset_introducer(literal, source),
+            charset_shown(source, name),
+        ),
+    )
+}
+
+// 11 and 13: a value. What `is_null` says must agree.
+fn ask_i64(row: &[u8], literal: Literal, source: &[u8]) -> Told {
+    let due = due_in(row);
+    integer_told(as_i64(literal, source), due.first, due.second)
+}
+
+fn ask_null(literal: Literal) -> Told {
+    let told = null_told(as_null(literal));
+    agreed(told, is_null(literal) == (told.number == 0))
+}
+
+// 8 to 13: the questions on a literal without a buffer.
+fn ask_literal(row: &[u8], literal: Literal, source: &[u8]) -> Told {
+    match byte_at(row, QUESTION) {
+        8 => ask_money(literal, source),
+        9 => ask_source(literal, source),
+        10 => ask_charset(literal, source),
+        11 => ask_i64(row, literal, source),
+        12 => bool_told(as_bool(literal)),
+        _ => ask_null(literal),
+    }
+}
+
+// 14 to 18: yes or no of a bare text.
+fn is_so(question: u8, text: &[u8]) -> bool {
+    match question {
+        14 => postgres_escape_string_is_valid(text),
+        15 => unicode_escape_string_is_valid(text),
+        16 => uescape_argument_is_legal(text),
+        17 => string_literal_embeds_nul(text),
+        _ => is_unicode_ident(text),
+    }
+}
+
+// 14 to 19: what is asked of a bare text without a buffer.
+fn ask_bare(question: u8, text: &[u8]) -> Told {
+    if question == 19 {
+        let prefix = split_radix_prefix(text);
+        return answered(PREFIX, prefix.base as u64, prefix.start as u64);
+    }
+    answered(TRUTH, is_so(question, text) as u64, 0)
+}
+
+// The questions from 8 on are lent no buffer.
+pub(crate) fn lends(row: &[u8]) -> bool {
+    byte_at(row, QUESTION) <= 7
+}
+
+pub(crate) fn ask(row: &[u8], by: u8, source: &[u8], out: &mut [u8]) -> Told {
+    if lends(row) {
+        return ask_lent(row, by, source, out);
+    }
+    let question = byte_at(row, QUESTION);
+    if 14 <= question {
+        return ask_bare(question, source);
+    }
+    ask_literal(row, literal_of(row, by), source)
+}

@@ -1,0 +1,219 @@
+// What any answer tells: its number, a letter for its case, and two values.
+use meaning::Charset;
+use meaning::Identifier;
+use meaning::Integer;
+use meaning::LiteralExpected;
+use meaning::Nullness;
+use meaning::Range;
+use meaning::Refusal;
+use meaning::Span;
+use meaning::Text;
+use meaning::Truth;
+use meaning::Writing;
+use questions::refusals::refusal_number;
+use spans::kinds::kind_code;
+
+pub(crate) struct Told {
+    pub number: u32,
+    pub letter: u8,
+    pub first: u64,
+    pub second: u64,
+}
+
+// The letters: b borrowed, w written, i an integer, n no name, y a yes or no, p a prefix, r refused.
+const BORROWED: u8 = 98;
+
+const WRITTEN: u8 = 119;
+
+const INTEGER: u8 = 105;
+
+const UNNAMED: u8 = 110;
+
+pub(crate) const TRUTH: u8 = 121;
+
+pub(crate) const PREFIX: u8 = 112;
+
+const REFUSED: u8 = 114;
+
+pub(crate) fn answered(letter: u8, first: u64, second: u64) -> Told {
+    Told {
+        number: 0,
+        letter,
+        first,
+        second,
+    }
+}
+
+pub(crate) fn refused(number: u32, first: u64, second: u64) -> Told {
+    Told {
+        number,
+        letter: REFUSED,
+        first,
+        second,
+    }
+}
+
+// An answer that another question on the same does not gainsay.
+pub(crate) fn agreed(told: Told, agrees: bool) -> Told {
+    if agrees {
+        return told;
+    }
+    refused(0, 0, 0)
+}
+
+// The number of a family, in the order of the enum.
+fn family_of(expected: LiteralExpected) -> u64 {
+    match expected {
+        LiteralExpected::Integer => 1,
+        LiteralExpected::DecimalText => 2,
+        LiteralExpected::String => 3,
+        LiteralExpected::Boolean => 4,
+        LiteralExpected::Null => 5,
+        LiteralExpected::Temporal => 6,
+        LiteralExpected::BitString => 7,
+        LiteralExpected::Money => 8,
+    }
+}
+
+fn refused_span(number: u32, span: Span) -> Told {
+    refused(number, span.start as u64, span.end as u64)
+}
+
+fn refusal_told(refusal: Refusal) -> Told {
+    let number = refusal_number(refusal);
+    match refusal {
+        Refusal::WrongKind(expected, kind) => refused(
+            number,
+            family_of(expected),
+            kind_code(kind) as u64,
+        ),
+        Refusal::MissingSource(span) => refused_span(number, span),
+        Refusal::InvalidSourceRange(span) => refused_span(number, span),
+        Refusal::NotUtf8(span) => refused_span(number, span),
+        Refusal::InvalidInteger(span) => refused_span(number, span),
+        Refusal::InvalidString(span) => refused_span(number, span),
+        Refusal::InvalidBitString(span) => refused_span(number, span),
+        Refusal::InvalidMoney(span) => refused_span(number, span),
+        Refusal::NoRoom { needed } => refused(number, needed as u64, 0),
+    }
+}
+
+pub(crate) fn text_told(answer: Text) -> Told {
+    match answer {
+        Text::Borrowed { start, end } => answered(BORROWED, start as u64, end as u64),
+        Text::Written { len } => answered(WRITTEN, len as u64, 0),
+        Text::Refused(refusal) => refusal_told(refusal),
+    }
+}
+
+// The text that an answer tells, for the view; anything else shows nothing.
+pub(crate) fn text_of(told: Told) -> Text {
+    if told.letter == BORROWED {
+        return Text::Borrowed {
+            start: told.first as usize,
+            end: told.second as usize,
+        };
+    }
+    Text::Written {
+        len: filled_by(told) as usize,
+    }
+}
+
+pub(crate) fn range_told(answer: Range) -> Told {
+    match answer {
+        Range::Found { start, end } => answered(BORROWED, start as u64, end as u64),
+        Range::Refused(refusal) => refusal_told(refusal),
+    }
+}
+
+pub(crate) fn charset_told(answer: Charset) -> Told {
+    match answer {
+        Charset::Named { start, end } => answered(BORROWED, start as u64, end as u64),
+        Charset::Unnamed => answered(UNNAMED, 0, 0),
+        Charset::Refused(refusal) => refusal_told(refusal),
+    }
+}
+
+// The integer of a size; where `below` is 1, as far below minus one.
+fn integer_of(size: u64, below: u64) -> i64 {
+    if 0x7FFF_FFFF_FFFF_FFFF < size {
+        return 0;
+    }
+    if below == 1 {
+        return !(size as i64);
+    }
+    size as i64
+}
+
+// The value is told as the one that is due, if it is that.
+pub(crate) fn integer_told(answer: Integer, size: u64, below: u64) -> Told {
+    match answer {
+        Integer::Value(value) => agreed(
+            answered(INTEGER, size, below),
+            value == integer_of(size, below),
+        ),
+        Integer::Refused(refusal) => refusal_told(refusal),
+    }
+}
+
+pub(crate) fn bool_told(answer: Truth) -> Told {
+    match answer {
+        Truth::Value(value) => answered(TRUTH, value as u64, 0),
+        Truth::Refused(refusal) => refusal_told(refusal),
+    }
+}
+
+pub(crate) fn null_told(answer: Nullness) -> Told {
+    match answer {
+        Nullness::IsNull => answered(TRUTH, 1, 0),
+        Nullness::Refused(refusal) => refusal_told(refusal),
+    }
+}
+
+pub(crate) fn identifier_told(answer: Identifier) -> Told {
+    match answer {
+        Identifier::Borrowed { start, end } => answered(BORROWED, start as u64, end as u64),
+        Identifier::Written { len } => answered(WRITTEN, len as u64, 0),
+        Identifier::NotUtf8 => refused(4, 0, 0),
+        Identifier::InvalidString => refused(6, 0, 0),
+        Identifier::NoRoom { needed } => refused(9, needed as u64, 0),
+    }
+}
+
+pub(crate) fn writing_told(answer: Writing) -> Told {
+    match answer {
+        Writing::Written { len } => answered(WRITTEN, len as u64, 0),
+        Writing::OverLimit => refused(12, 0, 0),
+        Writing::NotUtf8 => refused(4, 0, 0),
+        Writing::HoldsNul => refused(11, 0, 0),
+        Writing::NoRoom { needed } => refused(9, needed as u64, 0),
+    }
+}
+
+// How many bytes of the buffer an answer fills.
+pub(crate) fn filled_by(told: Told) -> u64 {
+    if told.letter == WRITTEN {
+        return told.first;
+    }
+    0
+}
+
+pub(crate) fn is_same(told: Told, due: Told) -> bool {
+    (told.number == due.number)
+        & (told.letter == due.letter)
+        & (told.first == due.first)
+        & (told.second == due.second)
+}
+
+// An answer's places moved: a borrowed range, or the span of a refusal. Lengths and kinds stay.
+pub(crate) fn moved(told: Told, by: u8) -> Told {
+    if (told.letter == BORROWED) | ((2 <= told.number) & (told.number <= 8)) {
+        return Told {
+            number: told.number,
+            letter: told.letter,
+            first: std::num::wrapping_add_u64(told.first, by as u64),
+            second: std::num::wrapping_add_u64(told.second, by as u64),
+        };
+    }
+    told
+}

@@ -1,0 +1,234 @@
+#!/usr/bin/env python3
+"""The rows that the program `replay` asks again, from vectors/.
+
+    tools/replay.py            writes crates/replay/stdin, the rows, and crates/replay/stdout, what the program has to say of them
+    tools/replay.py --check    exits 1 if the two files are not what the vectors say
+
+A row is a head of 40 bytes, then the text with its padding, the value and the name. Numbers have their lowest byte first. The head:
+
+    0       the question, see QUESTIONS; 0 ends a stratum, which the name names; 255 fills a block of 65,536 bytes, which holds whole rows
+    1       the kind's code; of the writer 1 if a part size is given
+    2, 3    the setting; 1 for a synthetic literal
+    4-11    start and end, four bytes each; of the writer the start is the part size
+    12, 13  how many bytes of padding stand before the source; 1 if there is padding
+    14      how long the buffer is in the first asking
+    15-17   what is due: a letter for the case, the number (two bytes)
+    18-27   places of the row, two bytes each: where the source begins and ends, the padding ends and the value begins, the value ends and the name begins, the row ends
+    28-39   what is due: two values, of eight bytes and of four
+"""
+import pathlib
+import re
+import struct
+import sys
+
+ROOT = pathlib.Path(__file__).resolve().parent.parent
+# the first seven lend a buffer, the first five and the next six after `writer` are asked of a literal
+QUESTIONS = ('string plain decimal bits temporal ident writer money source charset i64 bool null evalid uvalid uescape nul isident radix').split()
+LENDS = set(QUESTIONS[:7])
+READS_SOURCE = set('string plain decimal bits temporal money source charset i64'.split())
+LONG = 200  # the buffer of the first asking; no value is as long
+HEAD = 40
+BLOCK = 65536
+# Bytes that would change an answer if they were read. The first byte behind a text never is 80 to BF, so a place that cut no character still cuts none.
+BEFORE = ["'", 'E', '\\', '"a', '$$', 'é', "U&'", '-', '0x', '_a', '\n', "'b' "]
+BEHIND = ["'", '"', " 'c'", '$$', '0', ' UESCAPE \'!\'', '\\', 'é', '\u3000"', '_1', "''"]
+
+
+def unhex(text):
+    return b'' if text == '-' else bytes.fromhex(text)
+
+
+class Row:
+    """One question with its answer, in the words of docs/VECTORS.md."""
+
+    def __init__(self, name, question, kind, setting, start, end, source, answer, room=LONG):
+        self.name, self.setting, self.source, self.room = name, int(setting), source, room
+        self.question, self.synthetic = question.removesuffix('/synthetic'), question.endswith('/synthetic')
+        if self.question == 'writer':
+            self.kind, self.start, self.end = int(start != 'none'), 0 if start == 'none' else int(start), 0
+        else:
+            self.kind, self.start, self.end = int(kind), int(start), int(end)
+        self.number, self.letter, self.values, self.value = due(self.source, answer)
+
+    def padding(self, index):
+        """What stands around the source in the padded asking. A span that ends past its source has nothing behind it, where it would end inside; one that padding carries past 32 bits has none."""
+        if self.question not in READS_SOURCE:
+            return b'', b''
+        before, behind = BEFORE[index % len(BEFORE)].encode(), BEHIND[index // len(BEFORE) % len(BEHIND)].encode()
+        if max(self.start, self.end) + len(before) >= 2 ** 32:
+            return b'', b''
+        return before, b'' if self.end > len(self.source) else behind
+
+    def askings(self, index):
+        """alone; padded; with an exact buffer; with a short one"""
+        lends = self.question in LENDS
+        return 1 + (self.padding(index) != (b'', b'')) + lends + (lends and self.letter == 'w' and self.values[0] > 0)
+
+    def packed(self, index):
+        before, behind = self.padding(index)
+        assert len(self.value) < LONG, self.name
+        parts = [before, self.source, behind, self.value, self.name.encode()]
+        places = [HEAD + sum(map(len, parts[:n])) for n in (1, 2, 3, 4, 5)]
+        head = struct.pack('<4B2I4BH5HQI', QUESTIONS.index(self.question) + 1, self.kind, self.setting, self.synthetic, self.start, self.end, len(before), bool(before + behind), self.room,
+                           ord(self.letter), self.number, *places, *self.values)
+        return head + b''.join(parts)
+
+
+def ending(stratum):
+    """the row that ends a stratum"""
+    name = stratum.encode()
+    return struct.pack('<24x2H12x', HEAD, HEAD + len(name)) + name
+
+
+def due(source, answer):
+    """(number, letter, two values, the bytes shown) of an answer"""
+    case, *values = answer.split()
+    if case == 'b':
+        start, end = map(int, values)
+        return 0, 'b', (start, end), source[start:end]
+    if case == 'w':
+        value = unhex(values[0])
+        return 0, 'w', (len(value), 0), value
+    if case == 'r':
+        return int(values[0]), 'r', (*map(int, values[1:]), 0, 0)[:2], b''
+    if case in ('yes', 'no'):
+        return 0, 'y', (int(case == 'yes'), 0), b''
+    if case == 'i':
+        value = int(values[0])
+        return 0, 'i', (-1 - value, 1) if value < 0 else (value, 0), b''
+    return 0, case, (*map(int, values), 0, 0)[:2], b''
+
+
+def lines(name):
+    for line in (ROOT / f'vectors/{name}.tsv').read_text().split('\n'):
+        if line and not line.startswith('#'):
+            yield line.split('\t')
+
+
+def listed(name):
+    """(stratum, row) of oracle.tsv or clarified.tsv; the records are no question's, and `litrec` answers them"""
+    for identity, question, kind, setting, start, end, source, room, answer in lines(name):
+        if question == 'record':
+            continue
+        own = int(room) if question == 'writer' else LONG
+        yield f'{name}, {question.removesuffix("/synthetic")}', Row(f'{name} {identity}', question, kind, setting, start, end, unhex(source), answer, own)
+
+
+def spelled(text):
+    """bytes of a readable text: ‹0A› is the byte 0A"""
+    return b''.join(bytes.fromhex(part[1:-1]) if part.startswith('‹') else part.encode() for part in re.split(r'(‹[0-9A-F]{2}›)', text))
+
+
+def stated(answer, text, bare):
+    """a manual's answer in the words of the other files: the value of a borrowed one stands in the text just once"""
+    case, _, value = answer.partition(' ')
+    data = spelled(value)
+    if case == 'b':
+        assert text.count(data) == 1, (answer, text)
+        return f'b {text.index(data)} {text.index(data) + len(data)}'
+    if case == 'w':
+        return f'w {data.hex() or "-"}'
+    if case == 'r':
+        return answer if bare else f'{answer} 0 {len(text)}'
+    return answer
+
+
+def manuals():
+    for section, name, question, kind, setting, text, answer in lines('manuals'):
+        data = spelled(text)
+        yield f'manuals, {section}', Row(f'{section}, {name}', question, kind, setting, 0, len(data), data, stated(answer, data, kind == '0'))
+
+
+def is_utf8(data):
+    try:
+        data.decode('utf-8', 'strict')
+        return True
+    except UnicodeDecodeError:
+        return False
+
+
+def refused_text(data):
+    """why a text that is no UTF-8 is refused: 3 if its first place cuts a character"""
+    return f'r {3 if 0x80 <= data[0] <= 0xBF else 4} 0 {len(data)}'
+
+
+def sequence_asked(data, legal):
+    """(stratum, question, kind, start, end, text, answer) of all that is asked of one sequence; a raw NUL is UTF-8, and no string's"""
+    size, clean = len(data), legal and 0 not in data
+    quoted, ident = b"'" + data + b"'", b'U&"' + data + b'"'
+    escaped = b"E'" + ''.join(f'\\x{b:02X}' for b in data).encode() + b"'"
+    yield 'between quote marks', 'string', 4, 0, size + 2, quoted, f'b 1 {size + 1}' if clean else f'r {6 if legal else 4} 0 {size + 2}'
+    yield 'whole sources', 'source', 4, 0, size, data, f'b 0 {size}' if legal else refused_text(data)
+    yield 'E strings', 'string', 4, 0, len(escaped), escaped, f'w {data.hex()}' if clean else f'r 6 0 {len(escaped)}'
+    yield 'E strings, validated', 'evalid', 0, 0, 0, escaped, 'yes' if clean else 'no'
+    yield 'identifiers', 'ident', 0, 0, 0, ident, f'b 3 {size + 3}' if legal else 'r 4'
+    yield 'written', 'writer', 0, 'none', 0, data, f'w {quoted.hex()}' if clean else f'r {11 if legal else 4}'
+    for place in range(1, size if legal else 1):
+        if 0x80 <= data[place] <= 0xBF:
+            yield 'cut at the end', 'source', 4, 0, place, data, f'r 3 0 {place}'
+            yield 'cut at the start', 'source', 4, place, size, data, f'r 3 {place} {size}'
+
+
+def sequences():
+    """the sequences of rfc3629.tsv, stratum by stratum"""
+    strata = {}
+    for name, hexes, verdict in lines('rfc3629'):
+        data = bytes.fromhex(hexes)
+        legal = is_utf8(data)
+        assert verdict == ('legal' if legal else 'not'), name
+        for stratum, question, kind, start, end, text, answer in sequence_asked(data, legal):
+            full = f'rfc3629, {stratum}'
+            strata.setdefault(full, []).append(Row(f'{full}, {name}', question, kind, 0, start, end, text, answer))
+    return [(stratum, row) for stratum, rows in strata.items() for row in rows]
+
+
+def all_rows():
+    yield from sorted(listed('oracle'), key=lambda r: QUESTIONS.index(r[1].question))
+    yield from sorted(listed('clarified'), key=lambda r: QUESTIONS.index(r[1].question))
+    yield from manuals()
+    yield from sequences()
+
+
+def blocks(rows):
+    """the rows in blocks, none of which cuts a row"""
+    made, room = [], BLOCK
+    for row in rows:
+        if room < len(row):
+            made.append(b'\xFF' + bytes(room - 1) if room else b'')
+            room = BLOCK
+        made.append(row)
+        room -= len(row)
+    return b''.join(made)
+
+
+def made():
+    """(stdin, stdout)"""
+    strata, rows = {}, []
+    for index, (stratum, row) in enumerate(all_rows()):
+        if stratum not in strata:
+            rows += [ending(last) for last in list(strata)[-1:]]
+            strata[stratum] = [0, 0]
+        strata[stratum][0] += 1
+        strata[stratum][1] += row.askings(index)
+        rows.append(row.packed(index))
+    rows.append(ending(list(strata)[-1]))
+    said = ''.join(f'{name}: {count} rows, {askings} askings, 0 different\n' for name, (count, askings) in strata.items())
+    return blocks(rows), said.encode()
+
+
+def main():
+    folder = ROOT / 'crates/replay'
+    files = dict(zip((folder / 'stdin', folder / 'stdout'), made()))
+    if sys.argv[1:] == ['--check']:
+        wrong = [str(path.relative_to(ROOT)) for path, data in files.items() if not path.exists() or path.read_bytes() != data]
+        if wrong:
+            sys.exit(f'not what vectors/ says, run tools/replay.py: {", ".join(wrong)}')
+        return
+    for path, data in files.items():
+        path.write_bytes(data)
+    counts = re.findall(r'(\d+) rows, (\d+) askings', files[folder / 'stdout'].decode())
+    print(f'{sum(int(rows) for rows, _ in counts)} rows, {sum(int(askings) for _, askings in counts)} askings, {len(files[folder / "stdin"])} bytes')
+
+
+if __name__ == '__main__':
+    main()
