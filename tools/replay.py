@@ -10,9 +10,9 @@ A row is a head of 40 bytes, then the text with its padding, the value and the n
     1       the kind's code; of the writer 1 if a part size is given
     2, 3    the setting; 1 for a synthetic literal
     4-11    start and end, four bytes each; of the writer the start is the part size
-    12, 13  how many bytes of padding stand before the source; 1 if there is padding
+    12, 13  how many bytes of padding stand before the source; 1 if it is asked with its padding too
     14      how long the buffer is in the first asking
-    15-17   what is due: a letter for the case, the number (two bytes)
+    15, 16  what is due: a letter for the case, the number
     18-27   places of the row, two bytes each: where the source begins and ends, the padding ends and the value begins, the value ends and the name begins, the row ends
     28-39   what is due: two values, of eight bytes and of four
 """
@@ -22,10 +22,10 @@ import struct
 import sys
 
 ROOT = pathlib.Path(__file__).resolve().parent.parent
-# the first seven lend a buffer, the first five and the next six after `writer` are asked of a literal
-QUESTIONS = ('string plain decimal bits temporal ident writer money source charset i64 bool null evalid uvalid uescape nul isident radix').split()
+# the first seven lend a buffer
+QUESTIONS = 'string plain decimal bits temporal ident writer money source charset i64 bool null evalid uvalid uescape nul isident radix'.split()
 LENDS = set(QUESTIONS[:7])
-READS_SOURCE = set('string plain decimal bits temporal money source charset i64'.split())
+SPANNED = set('string plain decimal bits temporal money source charset i64'.split())
 LONG = 200  # the buffer of the first asking; no value is as long
 HEAD = 40
 BLOCK = 65536
@@ -51,25 +51,27 @@ class Row:
         self.number, self.letter, self.values, self.value = due(self.source, answer)
 
     def padding(self, index):
-        """What stands around the source in the padded asking. A span that ends past its source has nothing behind it, where it would end inside; one that padding carries past 32 bits has none."""
-        if self.question not in READS_SOURCE:
-            return b'', b''
+        """What stands around the source. A span that ends past its source has nothing behind it, where it would end inside; one that padding would carry past 32 bits has none."""
         before, behind = BEFORE[index % len(BEFORE)].encode(), BEHIND[index // len(BEFORE) % len(BEHIND)].encode()
         if max(self.start, self.end) + len(before) >= 2 ** 32:
             return b'', b''
-        return before, b'' if self.end > len(self.source) else behind
+        return before, b'' if self.question in SPANNED and self.end > len(self.source) else behind
+
+    def is_padded(self, index):
+        """whether it is asked with its padding too; a bare text has no span that could move"""
+        return self.question in SPANNED and self.padding(index)[0] != b''
 
     def askings(self, index):
         """alone; padded; with an exact buffer; with a short one"""
         lends = self.question in LENDS
-        return 1 + (self.padding(index) != (b'', b'')) + lends + (lends and self.letter == 'w' and self.values[0] > 0)
+        return 1 + self.is_padded(index) + lends + (lends and self.letter == 'w' and self.values[0] > 0)
 
     def packed(self, index):
         before, behind = self.padding(index)
         assert len(self.value) < LONG, self.name
         parts = [before, self.source, behind, self.value, self.name.encode()]
         places = [HEAD + sum(map(len, parts[:n])) for n in (1, 2, 3, 4, 5)]
-        head = struct.pack('<4B2I4BH5HQI', QUESTIONS.index(self.question) + 1, self.kind, self.setting, self.synthetic, self.start, self.end, len(before), bool(before + behind), self.room,
+        head = struct.pack('<4B2I5Bx5HQI', QUESTIONS.index(self.question) + 1, self.kind, self.setting, self.synthetic, self.start, self.end, len(before), self.is_padded(index), self.room,
                            ord(self.letter), self.number, *places, *self.values)
         return head + b''.join(parts)
 

@@ -141,9 +141,9 @@ fn is_so(question: u8, text: &[u8]) -> bool {
 fn ask_bare(question: u8, text: &[u8]) -> Told {
     if question == 19 {
         let prefix = split_radix_prefix(text);
-        return answered(PREFIX, prefix.base as u64, prefix.start as u64);
+        return answered(PREFIX, prefix.base as usize, prefix.start);
     }
-    answered(TRUTH, is_so(question, text) as u64, 0)
+    answered(TRUTH, is_so(question, text) as usize, 0)
 }
 
 // The questions from 8 on are lent no buffer.

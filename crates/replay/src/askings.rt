@@ -33,12 +33,6 @@ pub(crate) struct Tally {
     pub last: bool,
 }
 
-// How far places are moved, and how long the buffer is.
-struct Asking {
-    pub by: u8,
-    pub room: u64,
-}
-
 // An answer; whether the bytes that it shows are the value, and the other bytes of the buffer as they were.
 struct Seen {
     pub told: Told,
@@ -68,12 +62,11 @@ fn more(tally: Tally, rows: u64, askings: u64, different: u64) -> Tally {
 }
 
 // Asks with the first bytes of a buffer.
-fn ask_within(row: &[u8], asking: Asking, source: &[u8], out: &mut [u8]) -> Told {
-    let room = asking.room as usize;
+fn ask_within(row: &[u8], by: u8, source: &[u8], room: usize, out: &mut [u8]) -> Told {
     if out.len() < room {
         return refused(0, 0, 0);
     }
-    ask(row, asking.by, source, &mut out[0..room])
+    ask(row, by, source, &mut out[0..room])
 }
 
 // Whether every byte from a place on is as it was.
@@ -83,13 +76,13 @@ fn is_kept(out: &[u8], from: usize) -> bool {
 }
 
 // Asks; then looks at the bytes shown and at the whole of the buffer, not only at the part that was lent.
-fn asked(row: &[u8], asking: Asking, source: &[u8], value: &[u8]) -> Seen {
+fn asked(row: &[u8], by: u8, source: &[u8], value: &[u8], room: usize) -> Seen {
     let mut out = [FILL; 256];
-    let told = ask_within(row, asking, source, &mut out);
+    let told = ask_within(row, by, source, room, &mut out);
     Seen {
         told,
         shown: same(text_shown(source, &out, text_of(told)), value),
-        kept: is_kept(&out, filled_by(told) as usize),
+        kept: is_kept(&out, filled_by(told)),
     }
 }
 
@@ -107,11 +100,8 @@ fn after_asking(row: &[u8], number: u64, seen: Seen, due: Told, tally: Tally) ->
 }
 
 fn alone(row: &[u8], tally: Tally) -> Tally {
-    let asking = Asking {
-        by: 0,
-        room: byte_at(row, ROOM) as u64,
-    };
-    let seen = asked(row, asking, source_of(row), value_of(row));
+    let room = byte_at(row, ROOM) as usize;
+    let seen = asked(row, 0, source_of(row), value_of(row), room);
     after_asking(row, 1, seen, due_in(row), tally)
 }
 
@@ -121,11 +111,8 @@ fn padded(row: &[u8], tally: Tally) -> Tally {
         return tally;
     }
     let by = front_of(row);
-    let asking = Asking {
-        by,
-        room: byte_at(row, ROOM) as u64,
-    };
-    let seen = asked(row, asking, padded_of(row), value_of(row));
+    let room = byte_at(row, ROOM) as usize;
+    let seen = asked(row, by, padded_of(row), value_of(row), room);
     after_asking(row, 2, seen, moved(due_in(row), by), tally)
 }
 
@@ -134,11 +121,7 @@ fn exact(row: &[u8], tally: Tally) -> Tally {
         return tally;
     }
     let due = due_in(row);
-    let asking = Asking {
-        by: 0,
-        room: filled_by(due),
-    };
-    let seen = asked(row, asking, source_of(row), value_of(row));
+    let seen = asked(row, 0, source_of(row), value_of(row), filled_by(due));
     after_asking(row, 3, seen, due, tally)
 }
 
@@ -148,11 +131,7 @@ fn short(row: &[u8], tally: Tally) -> Tally {
     if filled == 0 {
         return tally;
     }
-    let asking = Asking {
-        by: 0,
-        room: filled - 1,
-    };
-    let seen = asked(row, asking, source_of(row), b"");
+    let seen = asked(row, 0, source_of(row), b"", filled - 1);
     after_asking(row, 4, seen, refused(9, filled, 0), tally)
 }
 

@@ -124,7 +124,7 @@ pub(crate) fn due_in(row: &[u8]) -> Told {
     Told {
         number: byte_at(row, 16) as u32,
         letter: byte_at(row, 15),
-        first: eight(part_of(row, 28, 36)),
-        second: four(part_of(row, 36, 40)) as u64,
+        first: eight(part_of(row, 28, 36)) as usize,
+        second: four(part_of(row, 36, 40)) as usize,
     }
 }

@@ -19,8 +19,8 @@ fn say_told(before: &[u8], told: Told) {
     say(before);
     say(&letter);
     say_number(b" ", told.number as u64);
-    say_number(b" ", told.first);
-    say_number(b" ", told.second);
+    say_number(b" ", told.first as u64);
+    say_number(b" ", told.second as u64);
 }
 
 // Which row differs, in which asking, and what is due.

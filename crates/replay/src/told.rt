@@ -16,8 +16,8 @@ use spans::kinds::kind_code;
 pub(crate) struct Told {
     pub number: u32,
     pub letter: u8,
-    pub first: u64,
-    pub second: u64,
+    pub first: usize,
+    pub second: usize,
 }
 
 // The letters: b borrowed, w written, i an integer, n no name, y a yes or no, p a prefix, r refused.
@@ -35,7 +35,7 @@ pub(crate) const PREFIX: u8 = 112;
 
 const REFUSED: u8 = 114;
 
-pub(crate) fn answered(letter: u8, first: u64, second: u64) -> Told {
+pub(crate) fn answered(letter: u8, first: usize, second: usize) -> Told {
     Told {
         number: 0,
         letter,
@@ -44,7 +44,7 @@ pub(crate) fn answered(letter: u8, first: u64, second: u64) -> Told {
     }
 }
 
-pub(crate) fn refused(number: u32, first: u64, second: u64) -> Told {
+pub(crate) fn refused(number: u32, first: usize, second: usize) -> Told {
     Told {
         number,
         letter: REFUSED,
@@ -62,7 +62,7 @@ pub(crate) fn agreed(told: Told, agrees: bool) -> Told {
 }
 
 // The number of a family, in the order of the enum.
-fn family_of(expected: LiteralExpected) -> u64 {
+fn family_of(expected: LiteralExpected) -> usize {
     match expected {
         LiteralExpected::Integer => 1,
         LiteralExpected::DecimalText => 2,
@@ -76,7 +76,7 @@ fn family_of(expected: LiteralExpected) -> u64 {
 }
 
 fn refused_span(number: u32, span: Span) -> Told {
-    refused(number, span.start as u64, span.end as u64)
+    refused(number, span.start as usize, span.end as usize)
 }
 
 fn refusal_told(refusal: Refusal) -> Told {
@@ -85,7 +85,7 @@ fn refusal_told(refusal: Refusal) -> Told {
         Refusal::WrongKind(expected, kind) => refused(
             number,
             family_of(expected),
-            kind_code(kind) as u64,
+            kind_code(kind) as usize,
         ),
         Refusal::MissingSource(span) => refused_span(number, span),
         Refusal::InvalidSourceRange(span) => refused_span(number, span),
@@ -94,14 +94,14 @@ fn refusal_told(refusal: Refusal) -> Told {
         Refusal::InvalidString(span) => refused_span(number, span),
         Refusal::InvalidBitString(span) => refused_span(number, span),
         Refusal::InvalidMoney(span) => refused_span(number, span),
-        Refusal::NoRoom { needed } => refused(number, needed as u64, 0),
+        Refusal::NoRoom { needed } => refused(number, needed, 0),
     }
 }
 
 pub(crate) fn text_told(answer: Text) -> Told {
     match answer {
-        Text::Borrowed { start, end } => answered(BORROWED, start as u64, end as u64),
-        Text::Written { len } => answered(WRITTEN, len as u64, 0),
+        Text::Borrowed { start, end } => answered(BORROWED, start, end),
+        Text::Written { len } => answered(WRITTEN, len, 0),
         Text::Refused(refusal) => refusal_told(refusal),
     }
 }
@@ -110,32 +110,32 @@ pub(crate) fn text_told(answer: Text) -> Told {
 pub(crate) fn text_of(told: Told) -> Text {
     if told.letter == BORROWED {
         return Text::Borrowed {
-            start: told.first as usize,
-            end: told.second as usize,
+            start: told.first,
+            end: told.second,
         };
     }
     Text::Written {
-        len: filled_by(told) as usize,
+        len: filled_by(told),
     }
 }
 
 pub(crate) fn range_told(answer: Range) -> Told {
     match answer {
-        Range::Found { start, end } => answered(BORROWED, start as u64, end as u64),
+        Range::Found { start, end } => answered(BORROWED, start, end),
         Range::Refused(refusal) => refusal_told(refusal),
     }
 }
 
 pub(crate) fn charset_told(answer: Charset) -> Told {
     match answer {
-        Charset::Named { start, end } => answered(BORROWED, start as u64, end as u64),
+        Charset::Named { start, end } => answered(BORROWED, start, end),
         Charset::Unnamed => answered(UNNAMED, 0, 0),
         Charset::Refused(refusal) => refusal_told(refusal),
     }
 }
 
 // The integer of a size; where `below` is 1, as far below minus one.
-fn integer_of(size: u64, below: u64) -> i64 {
+fn integer_of(size: usize, below: usize) -> i64 {
     if 0x7FFF_FFFF_FFFF_FFFF < size {
         return 0;
     }
@@ -146,7 +146,7 @@ fn integer_of(size: u64, below: u64) -> i64 {
 }
 
 // The value is told as the one that is due, if it is that.
-pub(crate) fn integer_told(answer: Integer, size: u64, below: u64) -> Told {
+pub(crate) fn integer_told(answer: Integer, size: usize, below: usize) -> Told {
     match answer {
         Integer::Value(value) => agreed(
             answered(INTEGER, size, below),
@@ -158,7 +158,7 @@ pub(crate) fn integer_told(answer: Integer, size: u64, below: u64) -> Told {
 
 pub(crate) fn bool_told(answer: Truth) -> Told {
     match answer {
-        Truth::Value(value) => answered(TRUTH, value as u64, 0),
+        Truth::Value(value) => answered(TRUTH, value as usize, 0),
         Truth::Refused(refusal) => refusal_told(refusal),
     }
 }
@@ -172,26 +172,26 @@ pub(crate) fn null_told(answer: Nullness) -> Told {
 
 pub(crate) fn identifier_told(answer: Identifier) -> Told {
     match answer {
-        Identifier::Borrowed { start, end } => answered(BORROWED, start as u64, end as u64),
-        Identifier::Written { len } => answered(WRITTEN, len as u64, 0),
+        Identifier::Borrowed { start, end } => answered(BORROWED, start, end),
+        Identifier::Written { len } => answered(WRITTEN, len, 0),
         Identifier::NotUtf8 => refused(4, 0, 0),
         Identifier::InvalidString => refused(6, 0, 0),
-        Identifier::NoRoom { needed } => refused(9, needed as u64, 0),
+        Identifier::NoRoom { needed } => refused(9, needed, 0),
     }
 }
 
 pub(crate) fn writing_told(answer: Writing) -> Told {
     match answer {
-        Writing::Written { len } => answered(WRITTEN, len as u64, 0),
+        Writing::Written { len } => answered(WRITTEN, len, 0),
         Writing::OverLimit => refused(12, 0, 0),
         Writing::NotUtf8 => refused(4, 0, 0),
         Writing::HoldsNul => refused(11, 0, 0),
-        Writing::NoRoom { needed } => refused(9, needed as u64, 0),
+        Writing::NoRoom { needed } => refused(9, needed, 0),
     }
 }
 
 // How many bytes of the buffer an answer fills.
-pub(crate) fn filled_by(told: Told) -> u64 {
+pub(crate) fn filled_by(told: Told) -> usize {
     if told.letter == WRITTEN {
         return told.first;
     }
@@ -211,8 +211,8 @@ pub(crate) fn moved(told: Told, by: u8) -> Told {
         return Told {
             number: told.number,
             letter: told.letter,
-            first: std::num::wrapping_add_u64(told.first, by as u64),
-            second: std::num::wrapping_add_u64(told.second, by as u64),
+            first: std::num::wrapping_add_usize(told.first, by as usize),
+            second: std::num::wrapping_add_usize(told.second, by as usize),
         };
     }
     told
