@@ -19,6 +19,7 @@
  *    1  the kind does not fit the question         first: what was expected (VALDRABUS_EXPECTED_..), second: the kind's code
  *    2  the literal stands in no source            first, second: its span
  *    3  start > end, end past the source, or either place cuts a character       first, second: its span
+ *       (the place is below the source's length and its byte is 80 to BF hex; place 0 too, so a text that begins so is 3 and never 4)
  *    4  the text (for the writer: the value) is not UTF-8                        first, second: its span; 0 and 0 without a literal
  *    5  not a readable integer                     first, second: its span
  *    6  not a readable string                      first, second: its span; 0 and 0 without a literal
@@ -110,7 +111,7 @@ uint32_t valdrabus_as_str_in(uint32_t kind, uint32_t synthetic, uint32_t start, 
 uint32_t valdrabus_as_decimal_text(uint32_t kind, uint32_t synthetic, uint32_t start, uint32_t end, const uint8_t *source, size_t source_len,
                                    uint8_t *out, size_t out_len, uint32_t *how, size_t *first, size_t *second);
 
-/* A bit string's digits. 1, 2, 3, 4, 7, 9, 10. */
+/* A bit string's digits, binary or hex by the kind and not by the letter before the mark. 1, 2, 3, 4, 7, 9, 10. */
 uint32_t valdrabus_as_bit_text(uint32_t kind, uint32_t synthetic, uint32_t start, uint32_t end, const uint8_t *source, size_t source_len,
                                uint8_t *out, size_t out_len, uint32_t *how, size_t *first, size_t *second);
 
@@ -148,7 +149,7 @@ uint32_t valdrabus_as_null(uint32_t kind, size_t *first, size_t *second);
 bool valdrabus_is_null(uint32_t kind);
 
 /* THE VIEW of an answer by how, first and second, for a source and a buffer of these lengths: it returns which of the two it shows (VALDRABUS_NONE, _BORROWED, _WRITTEN) and the
-   range in it. A range that does not fit, or a refusal, shows an empty part: VALDRABUS_NONE, 0, 0. */
+   range in it, an empty one that fits included. A range that does not fit, or a refusal, shows an empty part: VALDRABUS_NONE, 0, 0. */
 uint32_t valdrabus_view(uint32_t how, size_t first, size_t second, size_t source_len, size_t out_len, size_t *from, size_t *until);
 
 /* THE WRITER */
@@ -164,13 +165,15 @@ uint32_t valdrabus_write_parts(const uint8_t *value, size_t value_len, size_t pa
 /* The base that a number's first two bytes choose, 2, 8, 10 or 16; start: where the digits begin. It looks at no sign. */
 uint32_t valdrabus_split_radix_prefix(const uint8_t *text, size_t text_len, size_t *start);
 
-/* Whether a quoted argument holds a legal UESCAPE character and nothing else. */
+/* Whether a quoted argument holds a legal UESCAPE character and nothing else; false for what is not UTF-8. */
 bool valdrabus_uescape_argument_is_legal(const uint8_t *text, size_t text_len);
 
-/* Whether an E string can be read; true for other UTF-8 text. */
+/* Whether the body of E'..', from the first mark to the last, has only good escapes and no lone mark. A raw NUL is no fault, except straight after a backslash. So it can differ
+   from reading: joined text is false, a raw NUL true. True for text outside this spelling (no closing mark too), false for what is not UTF-8. */
 bool valdrabus_postgres_escape_string_is_valid(const uint8_t *text, size_t text_len);
 
-/* Whether a U& string can be read; true for other UTF-8 text. */
+/* Whether the body of U&'..' has only good escapes by its escape character. A raw NUL is no fault. True for text outside this spelling (joined, or with a bad UESCAPE clause),
+   false for what is not UTF-8. */
 bool valdrabus_unicode_escape_string_is_valid(const uint8_t *text, size_t text_len);
 
 /* Whether a text holds a raw NUL. */

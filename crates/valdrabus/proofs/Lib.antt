@@ -2,5 +2,6 @@
 mod Telling
 mod Calling
 mod Lending
+mod Numbering
 mod Viewing
 mod Determined

@@ -35,7 +35,7 @@ pub extern "C" fn valdrabus_uescape_argument_is_legal(text: &[u8]) -> bool
     uescape_argument_is_legal(text)
 }
 
-// Whether an E string can be read.
+// Whether the body of an E string has only good escapes and no lone mark; yes for other text that is UTF-8. It can differ from reading.
 // Rules out: no for yes; yes always (must-fail: first_of_each, second_of_each).
 #[no_mangle]
 pub extern "C" fn valdrabus_postgres_escape_string_is_valid(text: &[u8]) -> bool
@@ -44,7 +44,7 @@ pub extern "C" fn valdrabus_postgres_escape_string_is_valid(text: &[u8]) -> bool
     postgres_escape_string_is_valid(text)
 }
 
-// Whether a U& string can be read.
+// Whether the body of a U& string has only good escapes; yes for other text that is UTF-8. It can differ from reading.
 // Rules out: no for yes; yes always (must-fail: first_of_each, second_of_each).
 #[no_mangle]
 pub extern "C" fn valdrabus_unicode_escape_string_is_valid(text: &[u8]) -> bool

@@ -1,0 +1,156 @@
+-- The four numbers are document 01's: the number of every answer, and its values, as `meaning` gives them. Assumes nothing.
+use mathlib.Core.Path.{_≡_, refl}
+use mathlib.Core.Bool.{true, false}
+use mathlib.Core.List.{List, [], _∷_, _++_}
+use Prim.Native.Nat.{ℕ}
+use Rattle.meaning.specs.declared.Refusal.{Refusal}
+use Rattle.meaning.specs.declared.Refusal.the-variants.{WrongKind, MissingSource, InvalidSourceRange, NotUtf8, InvalidInteger, InvalidString, InvalidBitString, InvalidMoney, NoRoom}
+use Rattle.meaning.specs.declared.Text.{Text}
+use Rattle.meaning.specs.declared.Text.the-variants as Text′
+use Rattle.meaning.specs.declared.Range.{Range}
+use Rattle.meaning.specs.declared.Range.the-variants as Range′
+use Rattle.meaning.specs.declared.Charset.{Charset}
+use Rattle.meaning.specs.declared.Charset.the-variants as Charset′
+use Rattle.meaning.specs.declared.Integer.{Integer}
+use Rattle.meaning.specs.declared.Integer.the-variants as Integer′
+use Rattle.meaning.specs.declared.Truth.{Truth}
+use Rattle.meaning.specs.declared.Truth.the-variants as Truth′
+use Rattle.meaning.specs.declared.Nullness.{Nullness}
+use Rattle.meaning.specs.declared.Nullness.the-variants as Nullness′
+use Rattle.meaning.specs.declared.Identifier.{Identifier}
+use Rattle.meaning.specs.declared.Identifier.the-variants as Identifier′
+use Rattle.meaning.specs.declared.Writing.{Writing}
+use Rattle.meaning.specs.declared.Writing.the-variants as Writing′
+use Rattle.meaning.specs.Answers.{payload, refusalNumber, refusalValues, textNumber, textValues, rangeNumber, rangeValues, charsetNumber, charsetValues, integerNumber, truthNumber, truthValues, nullnessNumber, identifierNumber, identifierValues, writingNumber, writingValues}
+use Rattle.valdrabus.specs.declared.told.Told.{Told}
+use Rattle.valdrabus.specs.Numbers.{refusalTold, textTold, rangeTold, charsetTold, truthTold, nullnessTold, identifierTold, writingTold}
+use Rattle.valdrabus.specs.Calls.{integerTold}
+
+-- NUMBERS
+pub refusal-number : (r : Refusal) → refusalTold r .number ≡ refusalNumber r
+refusal-number (WrongKind e k) = refl
+refusal-number (MissingSource s) = refl
+refusal-number (InvalidSourceRange s) = refl
+refusal-number (NotUtf8 s) = refl
+refusal-number (InvalidInteger s) = refl
+refusal-number (InvalidString s) = refl
+refusal-number (InvalidBitString s) = refl
+refusal-number (InvalidMoney s) = refl
+refusal-number (NoRoom n) = refl
+
+pub text-number : (a : Text) → textTold a .number ≡ textNumber a
+text-number (Text′.Borrowed f u) = refl
+text-number (Text′.Written n) = refl
+text-number (Text′.Refused r) = refusal-number r
+
+pub range-number : (a : Range) → rangeTold a .number ≡ rangeNumber a
+range-number (Range′.Found f u) = refl
+range-number (Range′.Refused r) = refusal-number r
+
+pub charset-number : (a : Charset) → charsetTold a .number ≡ charsetNumber a
+charset-number (Charset′.Named f u) = refl
+charset-number Charset′.Unnamed = refl
+charset-number (Charset′.Refused r) = refusal-number r
+
+pub integer-number : (a : Integer) → integerTold a .number ≡ integerNumber a
+integer-number (Integer′.Value z) = refl
+integer-number (Integer′.Refused r) = refusal-number r
+
+pub truth-number : (a : Truth) → truthTold a .number ≡ truthNumber a
+truth-number (Truth′.Value true) = refl
+truth-number (Truth′.Value false) = refl
+truth-number (Truth′.Refused r) = refusal-number r
+
+pub nullness-number : (a : Nullness) → nullnessTold a .number ≡ nullnessNumber a
+nullness-number Nullness′.IsNull = refl
+nullness-number (Nullness′.Refused r) = refusal-number r
+
+pub identifier-number : (a : Identifier) → identifierTold a .number ≡ identifierNumber a
+identifier-number (Identifier′.Borrowed f u) = refl
+identifier-number (Identifier′.Written n) = refl
+identifier-number Identifier′.NotUtf8 = refl
+identifier-number Identifier′.InvalidString = refl
+identifier-number (Identifier′.NoRoom n) = refl
+
+pub writing-number : (a : Writing) → writingTold a .number ≡ writingNumber a
+writing-number (Writing′.Written n) = refl
+writing-number Writing′.OverLimit = refl
+writing-number Writing′.NotUtf8 = refl
+writing-number Writing′.HoldsNul = refl
+writing-number (Writing′.NoRoom n) = refl
+
+-- VALUES: first and second, or second alone where one is given. The actual kind's own data stay with the caller
+abbrev both : Told → List ℕ
+both t = t .first ∷ t .second ∷ []
+
+abbrev last : Told → List ℕ
+last t = t .second ∷ []
+
+-- what the caller has of the kind that it gave
+abbrev kept : Refusal → List ℕ
+kept (WrongKind e k) = payload k
+kept (MissingSource s) = []
+kept (InvalidSourceRange s) = []
+kept (NotUtf8 s) = []
+kept (InvalidInteger s) = []
+kept (InvalidString s) = []
+kept (InvalidBitString s) = []
+kept (InvalidMoney s) = []
+kept (NoRoom n) = []
+
+abbrev valuesTold : Refusal → List ℕ
+valuesTold (NoRoom n) = last (refusalTold (NoRoom n))
+valuesTold (WrongKind e k) = both (refusalTold (WrongKind e k))
+valuesTold (MissingSource s) = both (refusalTold (MissingSource s))
+valuesTold (InvalidSourceRange s) = both (refusalTold (InvalidSourceRange s))
+valuesTold (NotUtf8 s) = both (refusalTold (NotUtf8 s))
+valuesTold (InvalidInteger s) = both (refusalTold (InvalidInteger s))
+valuesTold (InvalidString s) = both (refusalTold (InvalidString s))
+valuesTold (InvalidBitString s) = both (refusalTold (InvalidBitString s))
+valuesTold (InvalidMoney s) = both (refusalTold (InvalidMoney s))
+
+pub refusal-values : (r : Refusal) → valuesTold r ++ kept r ≡ refusalValues r
+refusal-values (WrongKind e k) = refl
+refusal-values (MissingSource s) = refl
+refusal-values (InvalidSourceRange s) = refl
+refusal-values (NotUtf8 s) = refl
+refusal-values (InvalidInteger s) = refl
+refusal-values (InvalidString s) = refl
+refusal-values (InvalidBitString s) = refl
+refusal-values (InvalidMoney s) = refl
+refusal-values (NoRoom n) = refl
+
+-- a text's range, or its length
+pub borrowed-values : (f u : ℕ) → both (textTold (Text′.Borrowed f u)) ≡ textValues (Text′.Borrowed f u)
+borrowed-values f u = refl
+
+pub written-values : (n : ℕ) → last (textTold (Text′.Written n)) ≡ textValues (Text′.Written n)
+written-values n = refl
+
+pub found-values : (f u : ℕ) → both (rangeTold (Range′.Found f u)) ≡ rangeValues (Range′.Found f u)
+found-values f u = refl
+
+pub named-values : (f u : ℕ) → both (charsetTold (Charset′.Named f u)) ≡ charsetValues (Charset′.Named f u)
+named-values f u = refl
+
+pub identifier-borrowed-values : (f u : ℕ) → both (identifierTold (Identifier′.Borrowed f u)) ≡ identifierValues (Identifier′.Borrowed f u)
+identifier-borrowed-values f u = refl
+
+pub identifier-written-values : (n : ℕ) → last (identifierTold (Identifier′.Written n)) ≡ identifierValues (Identifier′.Written n)
+identifier-written-values n = refl
+
+pub identifier-room-values : (n : ℕ) → last (identifierTold (Identifier′.NoRoom n)) ≡ identifierValues (Identifier′.NoRoom n)
+identifier-room-values n = refl
+
+pub writing-values : (n : ℕ) → last (writingTold (Writing′.Written n)) ≡ writingValues (Writing′.Written n)
+writing-values n = refl
+
+pub writing-room-values : (n : ℕ) → last (writingTold (Writing′.NoRoom n)) ≡ writingValues (Writing′.NoRoom n)
+writing-room-values n = refl
+
+-- a boolean's value stands where another answer says how
+pub true-values : truthTold (Truth′.Value true) .how ∷ [] ≡ truthValues (Truth′.Value true)
+true-values = refl
+
+pub false-values : truthTold (Truth′.Value false) .how ∷ [] ≡ truthValues (Truth′.Value false)
+false-values = refl
