@@ -1,4 +1,5 @@
-//! Finds libvaldrabus.a: the archive that VALDRABUS_ARCHIVE names, else the one that `rt staticlib valdrabus` makes in the repository that this crate stands in.
+//! Finds libvaldrabus.a: the archive that VALDRABUS_ARCHIVE names, else the one that `rt staticlib valdrabus` makes in the repository that this crate stands in. A relative path counts
+//! from the repository's root, wherever cargo is called.
 
 use std::path::{Path, PathBuf};
 use std::process::Command;
@@ -12,7 +13,7 @@ fn main() {
 
 /// The archive that is given.
 fn named() -> Option<PathBuf> {
-    let archive = PathBuf::from(env::var_os("VALDRABUS_ARCHIVE").filter(|path| !path.is_empty())?);
+    let archive = repository().join(env::var_os("VALDRABUS_ARCHIVE").filter(|path| !path.is_empty())?);
     println!("cargo:rerun-if-changed={}", archive.display());
     Some(archive)
 }

@@ -1,4 +1,4 @@
-//! Each C function as a safe one on slices. All unsafe code of the crate stands here.
+//! Each C function as a safe one on slices. All unsafe calls of the crate stand here.
 //!
 //! What the header asks of a caller, Rust's references give: a slice's pointer is never null and is valid for the slice's length, also when that is 0; a `&mut` is
 //! aligned, valid for writing and overlaps nothing else that is borrowed. No function keeps a pointer. The `SAFETY` comments name this as "slices".

@@ -147,6 +147,8 @@ impl fmt::Display for Error {
             Error::WrongKind { expected, actual } => write!(f, "{expected} is asked for, and the literal is {actual}"),
             Error::MissingSource { .. } => write!(f, "the literal stands in no source"),
             Error::InvalidSourceRange { span } => write!(f, "{span} is no range of whole characters in the source"),
+            // Without a literal it is a helper's text or the writer's value.
+            Error::NotUtf8 { span: None } => write!(f, "the text or value is not UTF-8"),
             Error::NotUtf8 { .. } => write!(f, "{text} is not UTF-8"),
             Error::InvalidInteger { .. } => write!(f, "{text} is not a readable integer"),
             Error::InvalidString { .. } => write!(f, "{text} is not a readable string"),

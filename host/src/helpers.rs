@@ -40,23 +40,33 @@ pub fn uescape_argument_is_legal(argument: impl AsRef<[u8]>) -> bool {
     calls::holds(Test::UescapeArgument, argument.as_ref())
 }
 
-/// Whether an E string can be read. Yes for other UTF-8 text, no for what is not UTF-8.
+/// Whether the body of `E'..'`, from the first mark to the last, has only good escapes and no lone mark. A raw NUL is no fault, except straight after a backslash. True for text outside this
+/// spelling (where it does not end with its mark too), false for what is not UTF-8.
+///
+/// So it can differ from reading: `E'a' 'b'` is false, and reads; a raw NUL is true, and is refused.
 ///
 /// ```
-/// use valdrabus::postgres_escape_string_is_valid;
+/// use valdrabus::{Kind, Literal, postgres_escape_string_is_valid};
 /// assert!(postgres_escape_string_is_valid(r"E'\xC3\xA9'"));
 /// assert!(!postgres_escape_string_is_valid(r"E'\400'"));
+///
+/// let joined = "E'a' 'b'";
+/// assert!(!postgres_escape_string_is_valid(joined));
+/// assert_eq!(Literal::new(Kind::String, 0..8).to_str(joined)?, "ab");
+/// # Ok::<(), valdrabus::Error>(())
 /// ```
 pub fn postgres_escape_string_is_valid(text: impl AsRef<[u8]>) -> bool {
     calls::holds(Test::EscapeString, text.as_ref())
 }
 
-/// Whether a U& string can be read. Yes for other UTF-8 text, no for what is not UTF-8.
+/// Whether the body of `U&'..'` has only good escapes by its escape character. A raw NUL outside an escape is no fault. True for text outside this spelling (joined, or with a bad `UESCAPE`
+/// clause), false for what is not UTF-8. So what is true here can be refused in reading.
 ///
 /// ```
 /// use valdrabus::unicode_escape_string_is_valid;
 /// assert!(unicode_escape_string_is_valid(r"U&'\00e9'"));
 /// assert!(!unicode_escape_string_is_valid(r"U&'\D800'"));
+/// assert!(unicode_escape_string_is_valid(r"U&'\D800' 'joined'"));
 /// ```
 pub fn unicode_escape_string_is_valid(text: impl AsRef<[u8]>) -> bool {
     calls::holds(Test::UnicodeString, text.as_ref())

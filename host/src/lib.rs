@@ -33,7 +33,7 @@
 //! # Building
 //!
 //! The code that decodes is the archive `libvaldrabus.a`, for x86-64. Where the environment's `VALDRABUS_ARCHIVE` names one, it is linked; else `rt staticlib valdrabus` makes it, in the
-//! repository that this crate stands in.
+//! repository that this crate stands in. A relative path counts from the root of that repository, the folder that this crate's own stands in.
 
 #![deny(missing_docs)]
 #![deny(unsafe_op_in_unsafe_fn)]

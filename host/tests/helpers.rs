@@ -1,5 +1,8 @@
 //! The helpers on bare text.
 
+mod common;
+
+use common::whole;
 use valdrabus::*;
 
 #[test]
@@ -34,6 +37,35 @@ fn validators() {
     assert!(!unicode_escape_string_is_valid("U&'!' UESCAPE '!'"));
     assert!(unicode_escape_string_is_valid(r"'\'"));
     assert!(!unicode_escape_string_is_valid(b"\xFF"));
+}
+
+/// Where the validators and reading part ways: a text, what its validator says, and whether it reads.
+#[test]
+fn validators_are_not_reading() {
+    let reads = |text| whole(Kind::String, text).to_str(text).is_ok();
+    for (text, valid, read) in [
+        ("E'a' 'b'", false, true),
+        ("E'a' 'b' ", true, true),
+        ("E'a\0'", true, false),
+        ("E'\\\0'", false, false),
+        ("E'a", true, false),
+        ("E'a' ", true, false),
+        (r"E'\xC3'", false, false),
+        (r"N'\400'", true, true),
+    ] {
+        assert_eq!((postgres_escape_string_is_valid(text), reads(text)), (valid, read), "{text:?}");
+    }
+    for (text, valid, read) in [
+        ("U&'a' 'b'", true, true),
+        (r"U&'\D800' 'b'", true, false),
+        ("U&'a\0'", true, false),
+        ("U&'\\\0'", false, false),
+        (r"U&'\D800", true, false),
+        (r"U&'\D800' UESCAPE '+'", true, false),
+        (r"U&'\D800' UESCAPE '!'", true, true),
+    ] {
+        assert_eq!((unicode_escape_string_is_valid(text), reads(text)), (valid, read), "{text:?}");
+    }
 }
 
 #[test]

@@ -4,8 +4,12 @@
 mod list;
 #[path = "../examples/keys/report.rs"]
 mod report;
+#[path = "../examples/keys/request.rs"]
+mod request;
 
 use std::collections::HashSet;
+use std::ffi::OsString;
+use std::os::unix::ffi::OsStringExt;
 use valdrabus::Settings;
 
 fn read(name: &str) -> String {
@@ -15,9 +19,10 @@ fn read(name: &str) -> String {
 
 fn finds_its_doubles(name: &str, count: usize) {
     let text = read(&format!("{name}.txt"));
-    let rows = list::rows(text.as_bytes(), Settings::STANDARD);
+    let rows = list::rows(text.as_bytes(), Settings::STANDARD).expect("settings that can be read");
     assert_eq!(rows.len(), count);
     assert_eq!(report::keys(&rows).lines().count(), count);
+    assert_eq!(report::refused(&rows), "");
     assert_eq!(report::doubles(&rows), read(&format!("{name}.doubles")));
 }
 
@@ -46,7 +51,7 @@ fn doubles_are_spelled_in_different_ways() {
 #[test]
 fn a_row_that_cannot_be_read_stops_nothing() {
     let list = b"'a'\n\n-- none\n'b\n'\xFF'\r\n-- backslash on\n'a\\'\n'\\a'\r\n";
-    let rows = list::rows(list, Settings::STANDARD);
+    let rows = list::rows(list, Settings::STANDARD).expect("settings that can be read");
     let said = [
         "     1  a",
         "     4  refused: the text at 0..2 is not a readable string (number 6)",
@@ -55,6 +60,66 @@ fn a_row_that_cannot_be_read_stops_nothing() {
         "     8  a",
     ];
     assert_eq!(report::keys(&rows).lines().collect::<Vec<_>>(), said);
+    assert_eq!(report::refused(&rows).lines().collect::<Vec<_>>(), said[1..3]);
     let doubles = "doubled: a, on lines 1, 8\n3 products with doubles, 2 without; 1 doubled; 2 rows refused\n";
     assert_eq!(report::doubles(&rows), doubles);
+}
+
+#[test]
+fn keys_that_differ_look_different() {
+    let list = "E'a\\nb'\n'a\\nb'\n'a‹0A›b'\nE'\\u0085\\x7F\\t'\n'\u{A0}›'\n";
+    let rows = list::rows(list.as_bytes(), Settings::STANDARD).expect("no settings");
+    let said = ["     1  a‹0A›b", r"     2  a\nb", "     3  a‹2039›0A›b", "     4  ‹85›‹7F›‹09›", "     5  \u{A0}›"];
+    assert_eq!(report::keys(&rows).lines().collect::<Vec<_>>(), said);
+}
+
+fn keys(list: &str) -> Result<String, String> {
+    list::rows(list.as_bytes(), Settings::STANDARD).map(|rows| report::keys(&rows))
+}
+
+#[test]
+fn case_and_spaces_do_not_count_in_a_setting() {
+    for setting in
+        ["-- backslash on", "-- backslash on ", "-- Backslash ON\r", "\t--BACKSLASH On", "--  backslash on\t"]
+    {
+        assert_eq!(keys(&format!("{setting}\n'\\a'")), Ok("     2  a\n".to_string()), "{setting:?}");
+        let off = setting.to_lowercase().replace("on", "off");
+        assert_eq!(keys(&format!("{setting}\n{off}\n'\\a'")), Ok("     3  \\a\n".to_string()), "{off:?}");
+    }
+    assert_eq!(keys("-- back slash on\n-- the backslash is on\n-\n'\\a'").map(|said| said.lines().count()), Ok(2));
+}
+
+#[test]
+fn a_setting_that_cannot_be_read_is_an_error() {
+    for setting in ["-- backslash", "-- backslash  on", "-- Backslash one", "--backslashes on", " -- BACKSLASH: off"] {
+        let due = format!("line 2: {setting:?} is neither -- backslash on nor -- backslash off");
+        assert_eq!(keys(&format!("'a'\n{setting}\r\n'b'")), Err(due));
+    }
+}
+
+fn asked(words: &[&str]) -> Result<(bool, bool, Vec<String>), String> {
+    request::request(words.iter().map(OsString::from)).map(|request| {
+        let files = request.files.iter().map(|file| file.display().to_string()).collect();
+        (request.settings == Settings::MYSQL, request.doubles_only, files)
+    })
+}
+
+#[test]
+fn the_command_line() {
+    let files = |names: &[&str]| names.iter().map(|name| name.to_string()).collect::<Vec<_>>();
+    assert_eq!(asked(&[]), Ok((false, false, files(&["-"]))));
+    assert_eq!(asked(&["--doubles", "--"]), Ok((false, true, files(&["-"]))));
+    assert_eq!(asked(&["a", "--backslash", "-", "b"]), Ok((true, false, files(&["a", "-", "b"]))));
+    assert_eq!(asked(&["--", "--doubles", "--", "-x"]), Ok((false, false, files(&["--doubles", "--", "-x"]))));
+    for option in ["-x", "--double", "--help"] {
+        assert_eq!(asked(&["a", option]), Err(format!("no option {option}\n{}", request::USAGE)));
+    }
+}
+
+#[test]
+fn names_of_files_need_not_be_utf_8() {
+    let name = OsString::from_vec(b"\xFF.txt".to_vec());
+    assert_eq!(request::request([name.clone()]).map(|request| request.files), Ok(vec![name.into()]));
+    let option = OsString::from_vec(b"--\xFF".to_vec());
+    assert!(request::request([option]).is_err_and(|why| why.starts_with("no option --\u{FFFD}\n")));
 }

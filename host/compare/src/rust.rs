@@ -18,7 +18,7 @@ pub fn said(asked: &Asked, source: &str) -> Said {
 fn of_literal(asked: &Asked, source: &str) -> Said {
     let literal = literal(asked);
     let refused = |error: LiteralValueError| {
-        let (number, first, second) = codes::refusal(asked.kind, &error);
+        let (number, first, second) = codes::refusal(&error);
         Said::Refused(number, first as usize, second as usize)
     };
     let text =

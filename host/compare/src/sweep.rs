@@ -35,7 +35,7 @@ pub fn run(comparing: &mut Comparing) -> Outcome {
         spans(comparing, source)?;
     }
     left_out(comparing)?;
-    views();
+    views(ours::view);
     too_long(comparing)
 }
 
@@ -74,7 +74,7 @@ fn spans(comparing: &mut Comparing, source: &[u8]) -> Outcome {
 }
 
 /// The view of any range: shown if it fits, otherwise nothing.
-fn views() {
+fn views(view: impl Fn(u32, usize, usize, usize, usize) -> (u32, usize, usize)) {
     let lengths = [0, 1, 7, usize::MAX];
     let places = [0, 1, 6, 7, 8, usize::MAX - 1, usize::MAX];
     for how in [0, BORROWED, WRITTEN, 3, u32::MAX] {
@@ -82,13 +82,12 @@ fn views() {
             for (source, out) in lengths.iter().flat_map(|&source| lengths.map(|out| (source, out))) {
                 let fits = match how {
                     BORROWED => first <= second && second <= source,
-                    WRITTEN if first != 0 => continue,
-                    WRITTEN => second <= out,
+                    WRITTEN => first <= second && second <= out,
                     _ => false,
                 };
                 let due = if fits { (how, first, second) } else { (0, 0, 0) };
                 assert_eq!(
-                    ours::view(how, first, second, source, out),
+                    view(how, first, second, source, out),
                     due,
                     "the view of {how} {first} {second} for {source} and {out} bytes"
                 );
@@ -143,4 +142,34 @@ fn too_long(comparing: &mut Comparing) -> Outcome {
         comparing.write(&Writing { value: &value[..MOST], part, setting: 0 })?;
     }
     Ok(())
+}
+
+#[cfg(test)]
+mod tests {
+    use super::*;
+
+    /// Ours, but for written ranges that it shows untested.
+    fn untested(shown: impl Fn(usize, usize, usize) -> bool) {
+        views(|how, first, second, source, out| match how {
+            WRITTEN if shown(first, second, out) => (how, first, second),
+            _ => ours::view(how, first, second, source, out),
+        });
+    }
+
+    #[test]
+    fn our_view_holds() {
+        views(ours::view);
+    }
+
+    #[test]
+    #[should_panic(expected = "the view of 2 1 6 for 0 and 0 bytes")]
+    fn a_written_range_past_the_buffer_is_tried() {
+        untested(|first, second, out| 0 < first && first < second && out < second);
+    }
+
+    #[test]
+    #[should_panic(expected = "the view of 2 1 0 for 0 and 0 bytes")]
+    fn a_written_range_that_ends_before_it_starts_is_tried() {
+        untested(|first, second, _| second < first);
+    }
 }

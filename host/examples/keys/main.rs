@@ -1,70 +1,56 @@
 //! Decodes lists of products, one string literal a line, and points out the products that are there twice.
 //!
 //! ```text
-//! keys [--backslash] [--doubles] [FILE ..]
+//! keys [--backslash] [--doubles] [--] [FILE ..]
 //! ```
 //!
-//! Without a FILE it reads standard input. `--backslash` reads with MySQL's backslash escapes from the first line on; a line `-- backslash on` or `-- backslash off` changes that from there on. Other
-//! lines that begin with `--`, and empty lines, are no rows. `--doubles` leaves out the keys themselves.
+//! Without a FILE, and for the FILE `-`, it reads standard input. `--` ends the options. `--backslash` reads with MySQL's backslash escapes from the first line on; a line `-- backslash on` or
+//! `-- backslash off`, in any case, changes that from there on, and another line that begins with `-- backslash` is an error. Other lines that begin with `--`, and empty lines, are no rows.
+//! `--doubles` leaves out the keys themselves, and still shows the rows that are refused.
+//!
+//! A control character of a key is shown as its number, `‹0A›`, and so is the mark itself, `‹2039›`: keys that differ look different.
+//!
+//! The status is 0 if each row has a key, 1 if a row is refused, 2 if a list cannot be read.
 
 mod list;
 mod report;
+mod request;
 
+use request::Request;
 use std::io::{self, Read, Write};
+use std::path::Path;
 use std::process::ExitCode;
-use valdrabus::Settings;
 
-struct Request {
-    settings: Settings,
-    doubles_only: bool,
-    files: Vec<String>,
+fn read(file: &Path) -> io::Result<Vec<u8>> {
+    if file.as_os_str() != "-" {
+        return std::fs::read(file);
+    }
+    let mut list = Vec::new();
+    io::stdin().read_to_end(&mut list)?;
+    Ok(list)
 }
 
-fn request() -> Result<Request, String> {
-    let mut request = Request { settings: Settings::STANDARD, doubles_only: false, files: Vec::new() };
-    for word in std::env::args().skip(1) {
-        match word.as_str() {
-            "--backslash" => request.settings = Settings::MYSQL,
-            "--doubles" => request.doubles_only = true,
-            option if option.starts_with("--") => {
-                return Err(format!("no option {option}; keys [--backslash] [--doubles] [FILE ..]"));
-            }
-            _ => request.files.push(word),
-        }
-    }
-    Ok(request)
+/// Says of a list what is asked; whether each row has a key.
+fn show(request: &Request, file: &Path) -> Result<bool, String> {
+    let place = |why: &dyn std::fmt::Display| format!("{}: {why}", file.display());
+    let list = read(file).map_err(|why| place(&why))?;
+    let rows = list::rows(&list, request.settings).map_err(|why| place(&why))?;
+    let name = if request.files.len() > 1 { format!("{}\n", file.display()) } else { String::new() };
+    let said = if request.doubles_only { report::refused(&rows) } else { report::keys(&rows) };
+    let text = name + &said + &report::doubles(&rows);
+    io::stdout().write_all(text.as_bytes()).map_err(|why| why.to_string())?;
+    Ok(rows.iter().all(|row| row.key.is_ok()))
 }
 
-fn show(request: &Request, name: Option<&str>, list: &[u8]) -> io::Result<()> {
-    let rows = list::rows(list, request.settings);
-    let mut out = io::stdout().lock();
-    if let Some(name) = name {
-        writeln!(out, "{name}")?;
-    }
-    if !request.doubles_only {
-        out.write_all(report::keys(&rows).as_bytes())?;
-    }
-    out.write_all(report::doubles(&rows).as_bytes())
-}
-
-fn run() -> Result<(), String> {
-    let request = request()?;
-    if request.files.is_empty() {
-        let mut list = Vec::new();
-        io::stdin().read_to_end(&mut list).map_err(|why| why.to_string())?;
-        return show(&request, None, &list).map_err(|why| why.to_string());
-    }
-    for file in &request.files {
-        let list = std::fs::read(file).map_err(|why| format!("{file}: {why}"))?;
-        let name = (request.files.len() > 1).then_some(file.as_str());
-        show(&request, name, &list).map_err(|why| why.to_string())?;
-    }
-    Ok(())
+fn run() -> Result<bool, String> {
+    let request = request::request(std::env::args_os().skip(1))?;
+    request.files.iter().try_fold(true, |all, file| Ok(show(&request, file)? && all))
 }
 
 fn main() -> ExitCode {
     match run() {
-        Ok(()) => ExitCode::SUCCESS,
+        Ok(true) => ExitCode::SUCCESS,
+        Ok(false) => ExitCode::from(1),
         Err(why) => {
             eprintln!("keys: {why}");
             ExitCode::from(2)

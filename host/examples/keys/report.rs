@@ -6,6 +6,15 @@ use std::fmt::Write;
 
 /// Each row's line and key, or why it has none.
 pub fn keys(rows: &[Row<'_>]) -> String {
+    lines(rows.iter())
+}
+
+/// The same of the rows that have no key.
+pub fn refused(rows: &[Row<'_>]) -> String {
+    lines(rows.iter().filter(|row| row.key.is_err()))
+}
+
+fn lines<'r>(rows: impl Iterator<Item = &'r Row<'r>>) -> String {
     let mut text = String::new();
     for row in rows {
         let said = match &row.key {
@@ -55,14 +64,15 @@ fn products<'r>(rows: &'r [Row<'_>]) -> Vec<(&'r [u8], Vec<usize>)> {
     products
 }
 
-/// A key as it can stand in a line: control characters by their escapes.
+/// A key as it can stand in a line: control characters by their numbers, between marks. The opening mark is shown so too, so that no two keys look alike.
 fn shown(key: &[u8]) -> String {
-    String::from_utf8_lossy(key).chars().fold(String::new(), |mut text, next| {
-        if next.is_control() {
-            text.extend(next.escape_default())
+    let mut text = String::new();
+    for next in String::from_utf8_lossy(key).chars() {
+        if next.is_control() || next == '‹' {
+            write!(text, "‹{:02X}›", u32::from(next)).expect("a String takes all");
         } else {
-            text.push(next)
+            text.push(next);
         }
-        text
-    })
+    }
+    text
 }

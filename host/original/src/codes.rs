@@ -34,6 +34,26 @@ pub fn kind_with(
     }
 }
 
+/// The code of a kind, whatever data it carries.
+pub fn code(kind: &LiteralKind) -> u32 {
+    match kind {
+        LiteralKind::Integer => 1,
+        LiteralKind::Float => 2,
+        LiteralKind::Decimal => 3,
+        LiteralKind::String => 4,
+        LiteralKind::Boolean(true) => 5,
+        LiteralKind::Boolean(false) => 6,
+        LiteralKind::Null => 7,
+        LiteralKind::Date => 8,
+        LiteralKind::Time { .. } => 9,
+        LiteralKind::Timestamp { .. } => 10,
+        LiteralKind::Interval { .. } => 11,
+        LiteralKind::BitString { radix: BitStringRadix::Binary } => 12,
+        LiteralKind::BitString { radix: BitStringRadix::Hex } => 13,
+        LiteralKind::Money => 14,
+    }
+}
+
 fn family(expected: LiteralExpected) -> u32 {
     match expected {
         LiteralExpected::Integer => 1,
@@ -47,10 +67,10 @@ fn family(expected: LiteralExpected) -> u32 {
     }
 }
 
-/// A refusal's number and its two values: for 1 the expected family and the code of the kind asked, for the others the span.
-pub fn refusal(code: u32, error: &LiteralValueError) -> (u32, u32, u32) {
+/// A refusal's number and its two values: for 1 the expected family and the actual kind's code, for the others the span.
+pub fn refusal(error: &LiteralValueError) -> (u32, u32, u32) {
     let number = match error.kind() {
-        LiteralValueErrorKind::WrongKind { expected, .. } => return (1, family(*expected), code),
+        LiteralValueErrorKind::WrongKind { expected, actual } => return (1, family(*expected), code(actual)),
         LiteralValueErrorKind::MissingSource => 2,
         LiteralValueErrorKind::InvalidSourceRange => 3,
         LiteralValueErrorKind::InvalidInteger => 5,
@@ -59,4 +79,26 @@ pub fn refusal(code: u32, error: &LiteralValueError) -> (u32, u32, u32) {
         LiteralValueErrorKind::InvalidMoney => 8,
     };
     (number, error.span().start(), error.span().end())
+}
+
+#[cfg(test)]
+mod tests {
+    use super::*;
+    use crate::ast::literal::Literal;
+    use crate::vocab::{Meta, Span};
+
+    #[test]
+    fn every_code_comes_back() {
+        for number in 1..=14 {
+            assert_eq!(code(&kind(number)), number);
+            let with_data = kind_with(number, TimeZone::With, Some(IntervalFields::Day), Some(3));
+            assert_eq!(code(&with_data), number);
+        }
+    }
+
+    #[test]
+    fn a_wrong_kind_is_the_one_that_the_error_names() {
+        let literal = Literal { kind: kind(13), meta: Meta { span: Span::over(2, 5) } };
+        assert_eq!(literal.as_null().map_err(|error| refusal(&error)), Err((1, 5, 13)));
+    }
 }
