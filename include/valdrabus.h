@@ -169,10 +169,10 @@ uint32_t valdrabus_split_radix_prefix(const uint8_t *text, size_t text_len, size
 bool valdrabus_uescape_argument_is_legal(const uint8_t *text, size_t text_len);
 
 /* Whether the body of E'..', from the first mark to the last, has only good escapes and no lone mark. A raw NUL is no fault, except straight after a backslash. So it can differ
-   from reading: joined text is false, a raw NUL true. True for text outside this spelling (no closing mark too), false for what is not UTF-8. */
+   from reading: E'a' 'b' is false, a raw NUL true. True for text outside this spelling (no closing mark too), false for what is not UTF-8. */
 bool valdrabus_postgres_escape_string_is_valid(const uint8_t *text, size_t text_len);
 
-/* Whether the body of U&'..' has only good escapes by its escape character. A raw NUL is no fault. True for text outside this spelling (joined, or with a bad UESCAPE clause),
+/* Whether the body of U&'..' has only good escapes by its escape character. A raw NUL outside an escape is no fault. True for text outside this spelling (joined, or with a bad UESCAPE clause),
    false for what is not UTF-8. */
 bool valdrabus_unicode_escape_string_is_valid(const uint8_t *text, size_t text_len);
 
