@@ -1,1 +1,2 @@
 pub mod Passing
+mod Determined

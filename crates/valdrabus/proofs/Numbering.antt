@@ -3,6 +3,7 @@ use mathlib.Core.Path.{_≡_, refl}
 use mathlib.Core.Bool.{true, false}
 use mathlib.Core.List.{List, [], _∷_, _++_}
 use Prim.Native.Nat.{ℕ}
+use lib.IntN.{ℤ}
 use Rattle.meaning.specs.declared.Refusal.{Refusal}
 use Rattle.meaning.specs.declared.Refusal.the-variants.{WrongKind, MissingSource, InvalidSourceRange, NotUtf8, InvalidInteger, InvalidString, InvalidBitString, InvalidMoney, NoRoom}
 use Rattle.meaning.specs.declared.Text.{Text}
@@ -21,10 +22,10 @@ use Rattle.meaning.specs.declared.Identifier.{Identifier}
 use Rattle.meaning.specs.declared.Identifier.the-variants as Identifier′
 use Rattle.meaning.specs.declared.Writing.{Writing}
 use Rattle.meaning.specs.declared.Writing.the-variants as Writing′
-use Rattle.meaning.specs.Answers.{payload, refusalNumber, refusalValues, textNumber, textValues, rangeNumber, rangeValues, charsetNumber, charsetValues, integerNumber, truthNumber, truthValues, nullnessNumber, identifierNumber, identifierValues, writingNumber, writingValues}
+use Rattle.meaning.specs.Answers.{payload, refusalNumber, refusalValues, textNumber, textValues, rangeNumber, rangeValues, charsetNumber, charsetValues, integerNumber, integerValues, truthNumber, truthValues, nullnessNumber, identifierNumber, identifierValues, writingNumber, writingValues}
 use Rattle.valdrabus.specs.declared.told.Told.{Told}
 use Rattle.valdrabus.specs.Numbers.{refusalTold, textTold, rangeTold, charsetTold, truthTold, nullnessTold, identifierTold, writingTold}
-use Rattle.valdrabus.specs.Calls.{integerTold}
+use Rattle.valdrabus.specs.Calls.{integerTold, integerValue}
 
 -- NUMBERS
 pub refusal-number : (r : Refusal) → refusalTold r .number ≡ refusalNumber r
@@ -154,3 +155,7 @@ true-values = refl
 
 pub false-values : truthTold (Truth′.Value false) .how ∷ [] ≡ truthValues (Truth′.Value false)
 false-values = refl
+
+-- an integer's value stands in a number of its own
+pub integer-values : (z : ℤ) → integerValue (Integer′.Value z) ∷ [] ≡ integerValues (Integer′.Value z)
+integer-values z = refl
