@@ -3,6 +3,7 @@
 use crate::one::One;
 use crate::one::measure_one;
 use crate::one::write_one;
+use crate::plain::is_plain;
 use cutting::cursor::Cursor;
 use cutting::cursor::Next;
 use cutting::segments::Segment;
@@ -110,9 +111,9 @@ fn write_joined(text: &[u8], settings: Settings, out: &mut [u8]) -> usize
     }
 }
 
-// Reads a string's text: a part of it, so many bytes at the buffer's start, the place where reading stops, or the length for which there is no room.
+// Reads any string's text: joined, or as one.
 // Rules out: writing before a later segment refuses; a made-up length (must-fail: length_one_short, written_too_early).
-pub fn read_string(text: &[u8], settings: Settings, out: &mut [u8]) -> Read
+fn read_any(text: &[u8], settings: Settings, out: &mut [u8]) -> Read
     ensures { λ r. ⌜ Reads (read settings (now (text .entry))) (now (out .entry)) r (now (out .exit)) ⌝ }
 {
     if is_joined(text, settings) {
@@ -140,4 +141,16 @@ pub fn read_string(text: &[u8], settings: Settings, out: &mut [u8]) -> Read
         }
         One::Refused { place } => Read::Refused { place },
     }
+}
+
+// Reads a string's text: a part of it, so many bytes at the buffer's start, the place where reading stops, or the length for which there is no room.
+// Rules out: a plain body shown with its mark, or from its mark on (must-fail: plain_from_its_mark, plain_with_its_mark).
+pub fn read_string(text: &[u8], settings: Settings, out: &mut [u8]) -> Read
+    ensures { λ r. ⌜ Reads (read settings (now (text .entry))) (now (out .entry)) r (now (out .exit)) ⌝ }
+{
+    if is_plain(text, settings) {
+        let until = text.len() - 1;
+        return Read::Borrowed { from: 1, until };
+    }
+    read_any(text, settings, out)
 }

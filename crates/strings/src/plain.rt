@@ -1,0 +1,37 @@
+// A string in ' that holds no other mark and nothing that could be an escape: most names are. One scan tells, and its body is the value.
+use leaves::blocks::Stops;
+use leaves::blocks::is_free;
+use leaves::texts::is_enclosed;
+use meaning::Settings;
+ghost use mathlib.Core.Path.{_≡_};
+ghost use Rattle.strings.specs.Plain.{stopsOf, isPlain};
+
+// The bytes that such a body may not hold: the mark, with the setting on the backslash, and NUL.
+fn plain_stops(settings: Settings) -> Stops
+    ensures { λ r. ⌜ r ≡ stopsOf settings ⌝ }
+{
+    if settings.backslash {
+        return Stops {
+            first: 39,
+            second: 92,
+            third: 0,
+        };
+    }
+    Stops {
+        first: 39,
+        second: 39,
+        third: 0,
+    }
+}
+
+// Whether a text is such a string.
+// Rules out: a mark in the body not seen; one mark taken for both; an escape taken for plain.
+pub(crate) fn is_plain(text: &[u8], settings: Settings) -> bool
+    ensures { λ r. ⌜ r ≡ isPlain settings (now (text .entry)) ⌝ }
+{
+    if !is_enclosed(text, 0, 39) {
+        return false;
+    }
+    let until = text.len() - 1;
+    is_free(&text[1..until], plain_stops(settings))
+}
