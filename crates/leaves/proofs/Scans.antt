@@ -5,13 +5,13 @@ use mathlib.Core.List.{List, [], _∷_}
 use Prim.Native.Nat.{ℕ, zero, suc, _+_, _-_, _≤_, _<_}
 use native.Mathlib.Omega.{arith}
 use lib.Dec.{eqb}
-use lib.ListN.{length, drop, getD, length-drop}
+use lib.ListN.{length, drop, getD, length-drop, drop-of-length-le}
 use lib.Seq.{drop-cons, drop-drop}
 use borrow.Author.Tests.{eq-eqb, ne-eqb, eqb-true, eqb-false, not-true, not-false}
 use Rattle.meaning.specs.Bytes.{if_then_else_, has, span}
 use Rattle.laws.proofs.Tests.{and-left, and-right, eqb-sym}
 use Rattle.leaves.specs.declared.blocks.Stops.{Stops}
-use Rattle.leaves.specs.Blocks.{freeOf, passes}
+use Rattle.leaves.specs.Blocks.{freeOf, passes, Past}
 
 pub passes-append : (p : ℕ → Bool) (m n k : ℕ) (t : List ℕ) → k ≡ m + n → passes p k t ≡ (passes p m t && passes p n (drop m t))
 passes-append p zero n k t e = let z : k ≡ n = omega arith in rw z
@@ -99,6 +99,61 @@ module _ {p : ℕ → Bool} {s : List ℕ} {i : ℕ} (v : Before p s i) (n : ℕ
       let k = length s - n in
       let z : passes p k s ≡ true = and-left (passes p k s) (passes p (i - k) (drop k s)) (sym (passes-append p k (i - k) i s (omega arith)) ∙ v .pass) in
       e ∙ sym (passes-append p k n (length s) s (omega arith) ∙ rw z)
+
+-- eight bytes that are not there
+pub eight-none : (p : ℕ → Bool) (s : List ℕ) (at : ℕ) → length s < 8 → false ≡ passes p 8 (drop at s)
+eight-none p s at h = sym (passes-short p 8 (drop at s) (omega (arith, length-drop at s)))
+
+pub eight-few : (p : ℕ → Bool) (s : List ℕ) (at : ℕ) → 8 ≤ length s → length s - 8 < at → false ≡ passes p 8 (drop at s)
+eight-few p s at m h = sym (passes-short p 8 (drop at s) (omega (arith, length-drop at s)))
+
+-- A RUN from a place on
+pub span-passes : (p : ℕ → Bool) (t : List ℕ) → passes p (span p t) t ≡ true
+span-passes p [] = refl
+span-passes p (b ∷ t) = go (p b) refl (span-passes p t)
+  where
+    go : (x : Bool) → p b ≡ x → passes p (span p t) t ≡ true → passes p (if x then suc (span p t) else 0) (b ∷ t) ≡ true
+    go true e ih = rw e ih
+    go false e ih = refl
+
+module _ (p : ℕ → Bool) (t : List ℕ) (at : ℕ) where
+  pub past-none : at ≤ length t → Past p t at at
+  past-none h = let z : at - at ≡ 0 = omega arith in record { ordered = omega arith; inside = h; pass = rw z }
+
+  module _ (i : ℕ) (v : Past p t at i) where
+    here : drop (i - at) (drop at t) ≡ drop i t
+    here = let z : at + (i - at) ≡ i = omega (arith, v .ordered) in drop-drop (i - at) at t ∙ ap (λ (k : ℕ). drop k t) z
+
+    further : (n : ℕ) → n ≤ length t - i → passes p n (drop i t) ≡ true → Past p t at (i + n)
+    further n h e = record {
+      ordered = omega (arith, v .ordered);
+      inside = omega (arith, v .inside);
+      pass = passes-append p (i - at) n (i + n - at) (drop at t) (omega (arith, v .ordered)) ∙ rw (v .pass, here) e;
+    }
+
+    pub past-fits : (x : Bool) → x ≡ passes p 8 (drop i t) → x ≡ true → i + 8 ≤ length t
+    past-fits x e y = omega (arith, v .inside, passes-inside p 8 (drop i t) (sym e ∙ y), length-drop i t)
+
+    pub past-eight : (x : Bool) → x ≡ passes p 8 (drop i t) → x ≡ true → Past p t at (i + 8)
+    past-eight x e y = further 8 (omega (arith, past-fits x e y)) (sym e ∙ y)
+
+    one : i < length t → passes p 1 (drop i t) ≡ p (getD t i 0)
+    one h = ap (passes p 1) (drop-cons t i 0 h) ∙ and-true (p (getD t i 0))
+
+    pub past-byte : i < length t → (x : Bool) → x ≡ p (getD t i 0) → not x ≡ false → Past p t at (i + 1)
+    past-byte h x e y = further 1 (omega arith) (one h ∙ sym e ∙ not-false x y)
+
+    whole : span p (drop i t) ≡ 0 → i - at ≡ span p (drop at t)
+    whole e = omega (arith, passes-span p (i - at) (drop at t) (v .pass), ap (span p) here, e)
+
+    pub past-stop : i < length t → (x : Bool) → x ≡ p (getD t i 0) → not x ≡ true → i - at ≡ span p (drop at t)
+    past-stop h x e y = whole (ap (span p) (drop-cons t i 0 h) ∙ rw (sym e ∙ not-true x y))
+
+    pub past-end : length t ≤ i → i - at ≡ span p (drop at t)
+    past-end h = whole (ap (span p) (drop-of-length-le t h))
+
+  pub past-behind : length t ≤ at → 0 ≡ span p (drop at t)
+  past-behind h = sym (ap (span p) (drop-of-length-le t h))
 
 -- A RAW NUL is what a search for it finds
 found : (t : List ℕ) → not (passes (freeOf (record { first = 0; second = 0; third = 0 })) (length t) t) ≡ has 0 t

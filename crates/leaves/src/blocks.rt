@@ -3,8 +3,8 @@
 ghost use mathlib.Core.Path.{_≡_};
 ghost use Prim.Native.Nat.{_+_, _≤_, _<_};
 ghost use lib.ListN.{length, drop};
-ghost use Rattle.meaning.specs.Bytes.{if_then_else_};
-ghost use Rattle.leaves.specs.Blocks.{freeOf, passes};
+ghost use Rattle.meaning.specs.Bytes.{if_then_else_, span};
+ghost use Rattle.leaves.specs.Blocks.{freeOf, plainStops, passes, Past};
 
 // Three bytes that a text is searched for; two of them may be the same.
 pub struct Stops {
@@ -79,4 +79,87 @@ pub fn is_free(text: &[u8], stops: Stops) -> bool
         return is_free_by(text, 4, stops);
     }
     is_free_block(text, 0, len, stops)
+}
+
+// Whether eight bytes from a place on are there, and none of them is one of the three.
+fn is_free_eight(text: &[u8], at: usize, stops: Stops) -> bool
+    ensures { λ r. ⌜ r ≡ passes (freeOf stops) 8 (drop at (now (text .entry))) ⌝ }
+{
+    if text.len() < 8 {
+        return false;
+    }
+    if text.len() - 8 < at {
+        return false;
+    }
+    is_free_block(text, at, 8, stops)
+}
+
+// The place behind the blocks of eight bytes, from a place on, that hold none of the three.
+fn past_eights(text: &[u8], at: usize, stops: Stops) -> usize
+    requires { ⌜ at ≤ length (now text) ⌝ }
+    ensures { λ r. ⌜ Past (freeOf stops) (now (text .entry)) at r ⌝ }
+{
+    let mut i = at;
+    while is_free_eight(text, i, stops) {
+        i += 8;
+    }
+    i
+}
+
+// How many bytes at a place are none of the three.
+// Rules out: the place told for the number; every other byte passed over (must-fail: tag_from_81, tag_starts_with_dollar).
+pub fn free_run(text: &[u8], at: usize, stops: Stops) -> usize
+    ensures { λ r. ⌜ r ≡ span (freeOf stops) (drop at (now (text .entry))) ⌝ }
+{
+    if text.len() <= at {
+        return 0;
+    }
+    let mut i = past_eights(text, at, stops);
+    while i < text.len() {
+        if !is_other(text[i], stops) {
+            return i - at;
+        }
+        i += 1;
+    }
+    i - at
+}
+
+// The place behind the blocks of eight bytes, from a place on, that hold no ', no backslash and no NUL. The compiler is told the three here.
+fn past_plain(text: &[u8], at: usize) -> usize
+    requires { ⌜ at ≤ length (now text) ⌝ }
+    ensures { λ r. ⌜ Past (freeOf plainStops) (now (text .entry)) at r ⌝ }
+{
+    let stops = Stops {
+        first: 39,
+        second: 92,
+        third: 0,
+    };
+    let mut i = at;
+    while is_free_eight(text, i, stops) {
+        i += 8;
+    }
+    i
+}
+
+// How many bytes at a place are no ', no backslash and no NUL.
+// Rules out: the place told for the number; every other byte passed over (must-fail: tag_from_81, tag_starts_with_dollar).
+pub fn plain_run(text: &[u8], at: usize) -> usize
+    ensures { λ r. ⌜ r ≡ span (freeOf plainStops) (drop at (now (text .entry))) ⌝ }
+{
+    if text.len() <= at {
+        return 0;
+    }
+    let stops = Stops {
+        first: 39,
+        second: 92,
+        third: 0,
+    };
+    let mut end = past_plain(text, at);
+    while end < text.len() {
+        if !is_other(text[end], stops) {
+            return end - at;
+        }
+        end += 1;
+    }
+    end - at
 }

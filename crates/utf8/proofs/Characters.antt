@@ -127,7 +127,7 @@ module _ (l : List ℕ) (at : ℕ) (h : at < length l) where
         let z : suc (at + 1) ≡ at + 2 = omega arith in
         rw s (follow-at n lo hi (at + 1) (omega arith) ∙ rw (z, ← ex))
 
-    pub char-two : getD l at 0 < 0xE0 → 2 ≤ length l - at → (r : ℕ) → r ≡ (if x then 2 else 0) → r ≡ char (drop at l)
+    char-two : getD l at 0 < 0xE0 → 2 ≤ length l - at → (r : ℕ) → r ≡ (if x then 2 else 0) → r ≡ char (drop at l)
     char-two p k r er = er ∙ sym (char-by 1 (lead-two (getD l at 0) (v .low) p) ∙ rw (one-follows k 0, and-true))
 
     module _ (y : Bool) (ey : y ≡ within 0x80 0xBF (getD l (at + 2) 0)) where
@@ -144,6 +144,12 @@ module _ (l : List ℕ) (at : ℕ) (h : at < length l) where
       char-four p k z ez r er =
           er
           ∙ sym (char-by 3 (lead-four (getD l at 0) p (v .high)) ∙ rw (two-follow (omega arith) 1, follow-at 0 0x80 0xBF (at + 3) (omega arith), and-true, ← ez))
+
+-- of two bytes, the second is as any later one
+pub char-pair : (l : List ℕ) (at : ℕ) → at < length l → Leading l at → (x : Bool) → x ≡ within 0x80 0xBF (getD l (at + 1) 0) → getD l at 0 < 0xE0
+    → 2 ≤ length l - at → (r : ℕ) → r ≡ (if x then 2 else 0) → r ≡ char (drop at l)
+char-pair l at h v x ex p k r er =
+    char-two l at h v 0x80 0xBF (sym (low-other (getD l at 0) (λ e. omega arith) (λ e. omega arith))) (sym (high-other (getD l at 0) (λ e. omega arith) (λ e. omega arith))) x ex p k r er
 
 -- A WHOLE CHARACTER leads back to where it began; where none stands the text is no UTF-8
 follow-pushes : (n lo hi : ℕ) (t : List ℕ) → Ranged n lo hi → follow n lo hi t ≡ true → pushes (due n lo hi) t ≡ pushes fresh (drop n t)

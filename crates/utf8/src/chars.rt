@@ -64,13 +64,13 @@ fn later_len(bytes: &[u8], at: usize) -> usize
     if left < 2 {
         return 0;
     }
-    let second = is_within(second_low(first), second_high(first), bytes[at + 1]);
     if first < 0xE0 {
-        return when(second, 2);
+        return when(is_within(0x80, 0xBF, bytes[at + 1]), 2);
     }
     if left < 3 {
         return 0;
     }
+    let second = is_within(second_low(first), second_high(first), bytes[at + 1]);
     let third = second & is_within(0x80, 0xBF, bytes[at + 2]);
     if first < 0xF0 {
         return when(third, 3);
@@ -99,13 +99,13 @@ fn char_len(bytes: &[u8], at: usize) -> usize
     later_len(bytes, at)
 }
 
-// How many bytes of ASCII to pass over at a place where one stands: eight, or that one.
+// How many bytes of ASCII to pass over at a place where one stands: that one, or it and eight more.
 fn ascii_len(bytes: &[u8], at: usize) -> usize
     requires { ⌜ passes isAscii 1 (drop at (now bytes)) ≡ true ⌝ }
     ensures { λ r. ⌜ (0 < r) × (passes isAscii r (drop at (now (bytes .entry))) ≡ true) ⌝ }
 {
-    if is_ascii_eight(bytes, at) {
-        return 8;
+    if is_ascii_eight(bytes, at + 1) {
+        return 9;
     }
     1
 }

@@ -1,17 +1,17 @@
 -- `utf8::ascii::is_ascii_eight` meets its contract. Where fewer bytes stand there, they are not eight. Assumes nothing.
-use Rattle.utf8.proofs.AsciiRuns.{ascii-none, ascii-few}
+use Rattle.leaves.proofs.Scans.{eight-none, eight-few}
 use borrow.Author.Needs.{needs}
 use Rattle.utf8.proofs.ascii.is_ascii_eight.Statement.{statement}
 use Rattle.utf8.proofs.ascii.is_ascii_eight.Tie as tie
 
 returns : tie.Need-returns
-returns c = search ascii-none
+returns c = search eight-none
 
 sub-if2 : tie.Need-sub-if2
 sub-if2 c = search needs
 
 returns-2 : tie.Need-returns-2
-returns-2 c = search ascii-few
+returns-2 c = search eight-few
 
 is-ascii-block-requires : tie.Need-is-ascii-block-requires
 is-ascii-block-requires c κs = search needs

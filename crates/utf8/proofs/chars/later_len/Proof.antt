@@ -1,5 +1,5 @@
 -- `utf8::chars::later_len` meets its contract. Each way out by how many bytes are due and how many are there (`Characters`). Assumes nothing.
-use Rattle.utf8.proofs.Characters.{few-one, few-two, few-three, char-two, char-three, char-four}
+use Rattle.utf8.proofs.Characters.{few-one, few-two, few-three, char-pair, char-three, char-four}
 use borrow.Author.Needs.{needs}
 use Rattle.utf8.proofs.chars.later_len.Statement.{statement}
 use Rattle.utf8.proofs.chars.later_len.Tie as tie
@@ -12,12 +12,6 @@ sub-left c = search needs
 
 returns : tie.Need-returns
 returns c = search few-one
-
-second-low-requires : tie.Need-second-low-requires
-second-low-requires c κs = search needs
-
-second-high-requires : tie.Need-second-high-requires
-second-high-requires c κs = search needs
 
 add-is-within : tie.Need-add-is-within
 add-is-within c = search needs
@@ -32,10 +26,16 @@ when-requires : tie.Need-when-requires
 when-requires c κs = search needs
 
 returns-2 : tie.Need-returns-2
-returns-2 c = search char-two
+returns-2 c = search char-pair
 
 returns-3 : tie.Need-returns-3
 returns-3 c = search few-two
+
+second-low-requires : tie.Need-second-low-requires
+second-low-requires c κs = search needs
+
+second-high-requires : tie.Need-second-high-requires
+second-high-requires c κs = search needs
 
 add-is-within-2 : tie.Need-add-is-within-2
 add-is-within-2 c = search needs
@@ -46,6 +46,15 @@ shared-slice-read-is-within-2 c = search needs
 is-within-requires-2 : tie.Need-is-within-requires-2
 is-within-requires-2 c κs = search needs
 
+add-is-within-3 : tie.Need-add-is-within-3
+add-is-within-3 c = search needs
+
+shared-slice-read-is-within-3 : tie.Need-shared-slice-read-is-within-3
+shared-slice-read-is-within-3 c = search needs
+
+is-within-requires-3 : tie.Need-is-within-requires-3
+is-within-requires-3 c κs = search needs
+
 when-requires-2 : tie.Need-when-requires-2
 when-requires-2 c κs = search needs
 
@@ -55,14 +64,14 @@ returns-4 c = search char-three
 returns-5 : tie.Need-returns-5
 returns-5 c = search few-three
 
-add-is-within-3 : tie.Need-add-is-within-3
-add-is-within-3 c = search needs
+add-is-within-4 : tie.Need-add-is-within-4
+add-is-within-4 c = search needs
 
-shared-slice-read-is-within-3 : tie.Need-shared-slice-read-is-within-3
-shared-slice-read-is-within-3 c = search needs
+shared-slice-read-is-within-4 : tie.Need-shared-slice-read-is-within-4
+shared-slice-read-is-within-4 c = search needs
 
-is-within-requires-3 : tie.Need-is-within-requires-3
-is-within-requires-3 c κs = search needs
+is-within-requires-4 : tie.Need-is-within-requires-4
+is-within-requires-4 c κs = search needs
 
 when-requires-3 : tie.Need-when-requires-3
 when-requires-3 c κs = search needs
@@ -77,22 +86,25 @@ later-len-spec =
     shared-slice-read-first
     sub-left
     returns
-    second-low-requires
-    second-high-requires
     add-is-within
     shared-slice-read-is-within
     is-within-requires
     when-requires
     returns-2
     returns-3
+    second-low-requires
+    second-high-requires
     add-is-within-2
     shared-slice-read-is-within-2
     is-within-requires-2
-    when-requires-2
-    returns-4
-    returns-5
     add-is-within-3
     shared-slice-read-is-within-3
     is-within-requires-3
+    when-requires-2
+    returns-4
+    returns-5
+    add-is-within-4
+    shared-slice-read-is-within-4
+    is-within-requires-4
     when-requires-3
     returns-6)
