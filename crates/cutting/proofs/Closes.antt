@@ -1,23 +1,27 @@
 -- The search for a closing mark at a place of a body: what stands there by the tests of its byte and the next, each turn, and what each way out
 -- answers. Assumes nothing.
-use mathlib.Core.Path.{_≡_, refl, sym, ap, _∙_}
-use mathlib.Core.Bool.{Bool, true, false, _&&_, or-false}
+use mathlib.Core.Path.{_≡_, refl, sym, ap, _∙_, subst}
+use mathlib.Core.Bool.{Bool, true, false, _&&_, not, or-false}
 use mathlib.Core.List.{List, [], _∷_}
 use Prim.Native.Nat.{ℕ, suc, _+_, _-_, _≤_, _<_}
 use native.Mathlib.Omega.{arith}
 use lib.Dec.{eqb}
 use lib.ListN.{length, drop}
 use lib.Seq.{drop-cons, getD-drop}
-use borrow.Author.Tests.{eq-eqb, ne-eqb, eqb-true}
-use Rattle.meaning.specs.Bytes.{if_then_else_, _!_, backslash, isMark}
+use borrow.Author.Tests.{eq-eqb, ne-eqb, eqb-true, not-true}
+use Rattle.meaning.specs.Bytes.{if_then_else_, _!_, span, backslash, isMark}
 use Rattle.meaning.specs.Walk.{keep, give, stop, walk}
 use Rattle.meaning.specs.Steps.{closingStep, doubled}
-use Rattle.laws.proofs.Courses.{SoFar, so-far-keep, so-far-give, stops-here, size-here, stops-end, stops-over}
+use Rattle.laws.proofs.Tests.{and-left, and-right}
+use Rattle.laws.proofs.Courses.{SoFar, so-far-give, Kept, kept-taken, stops-here, size-here, stops-end, stops-over}
 use Rattle.laws.proofs.Openings.{inside}
+use Rattle.leaves.specs.declared.blocks.Stops.{Stops}
+use Rattle.leaves.specs.Blocks.{freeOf}
+use Rattle.leaves.proofs.RunSteps.{KeepsAll, run-kept}
 use Rattle.cutting.specs.declared.marks.Mark.{Mark}
 use Rattle.cutting.specs.declared.marks.Mark.the-variants.{Quote, DoubleQuote}
 use Rattle.cutting.specs.declared.marks.Closing.the-variants.{At, Unclosed}
-use Rattle.cutting.specs.Marks.{markOf, closedOf}
+use Rattle.cutting.specs.Marks.{markOf, closedOf, stopsBy}
 
 next-byte : (l : List ℕ) (at : ℕ) → drop (suc at) l ! 0 ≡ l ! (at + 1)
 next-byte l at = let e : suc at + 0 ≡ at + 1 = omega arith in getD-drop (suc at) l 0 0 ∙ ap (λ (n : ℕ). l ! n) e
@@ -31,6 +35,21 @@ mark-lies DoubleQuote q l i e p = inside (λ b. eqb b 34) refl l i (eq-eqb (l ! 
 pub mark-other : (b : ℕ) → isMark b ≡ true → (b ≡ 39 → ⊥) → 34 ≡ b
 unfolding isMark
 mark-other b m n = sym (eqb-true b 34 (rw (ne-eqb b 39 n, or-false) at m))
+
+-- any other byte than the stops is passed over
+others-kept : (h : Bool) (q : ℕ) → KeepsAll (freeOf (stopsBy h q)) (closingStep h q)
+unfolding freeOf stopsBy
+others-kept h q b t f = rw (hidden h (second (stopsBy h q .second) f), mark)
+  where
+    mark : eqb b q ≡ false
+    mark = not-true (eqb b q) (and-right (not (eqb b q) && not (eqb b (stopsBy h q .second))) (not (eqb b q)) f)
+
+    second : (s : ℕ) → (not (eqb b q) && not (eqb b s) && not (eqb b q)) ≡ true → eqb b s ≡ false
+    second s g = not-true (eqb b s) (and-right (not (eqb b q)) (not (eqb b s)) (and-left (not (eqb b q) && not (eqb b s)) (not (eqb b q)) g))
+
+    hidden : (h : Bool) → eqb b (if h then backslash else q) ≡ false → (h && eqb b backslash) ≡ false
+    hidden true e = e
+    hidden false e = refl
 
 module _ (h : Bool) (q : ℕ) (l : List ℕ) (at : ℕ) (i : at < length l) where
   step-at : closingStep h q (drop at l) ≡ (if h && eqb (l ! at) backslash then give 1 [] else if eqb (l ! at) q then doubled q (drop (suc at) l) else keep)
@@ -59,8 +78,19 @@ module _ (h : Bool) (q : ℕ) (l : List ℕ) (at : ℕ) (i : at < length l) wher
   turn-doubled s m e t a x n b =
       let j = mark-lies m q l (at + 1) e (sym n ∙ b) in so-far-give s 1 (q ∷ []) (at + 2) (omega arith) (step-doubled t a (sym n ∙ b)) (omega arith)
 
-  pub turn-other : SoFar (closingStep h q) l at → (h && eqb (l ! at) backslash) ≡ false → (l ! at ≡ q → ⊥) → SoFar (closingStep h q) l (at + 1)
-  turn-other s t a = so-far-keep s i (step-other t a)
+  -- a byte that is passed over, and the run of such behind it
+  module _ (k : Stops) (ek : k ≡ stopsBy h q) (n : ℕ) (en : n ≡ span (freeOf k) (drop (at + 1) l)) where
+    passed : (h && eqb (l ! at) backslash) ≡ false → (l ! at ≡ q → ⊥) → Kept (closingStep h q) l at (suc n)
+    passed t a =
+        run-kept (freeOf (stopsBy h q)) (closingStep h q) (others-kept h q) l at i (step-other t a) n (en ∙ ap (λ (x : Stops). span (freeOf x) (drop (at + 1) l)) ek)
+
+    pub run-fits : (h && eqb (l ! at) backslash) ≡ false → (l ! at ≡ q → ⊥) → at + (1 + n) ≤ length l
+    run-fits t a = omega (arith, passed t a .room)
+
+    pub turn-other : SoFar (closingStep h q) l at → (h && eqb (l ! at) backslash) ≡ false → (l ! at ≡ q → ⊥) → SoFar (closingStep h q) l (at + (1 + n))
+    turn-other s t a =
+        let z : at + suc n ≡ at + (1 + n) = omega arith in
+        subst (SoFar (closingStep h q) l) z (kept-taken s (suc n) (passed t a) .next)
 
   -- a way out
   pub out-hidden : SoFar (closingStep h q) l at → (m : Mark) → q ≡ markOf m → length l - at < 2 → (h && eqb (l ! at) backslash) ≡ true

@@ -1,9 +1,11 @@
 // The two quote marks, and where a body closes.
+use leaves::blocks::Stops;
+use leaves::blocks::free_run;
 use leaves::bytes::byte_at;
 ghost use mathlib.Core.Path.{_≡_};
 ghost use Rattle.meaning.specs.Walk.{walk};
 ghost use Rattle.meaning.specs.Steps.{closingStep};
-ghost use Rattle.cutting.specs.Marks.{markOf, closedOf};
+ghost use Rattle.cutting.specs.Marks.{markOf, closedOf, stopsBy};
 
 // ' or ".
 pub enum Mark {
@@ -29,6 +31,24 @@ pub enum Closing {
     Unclosed,
 }
 
+// The bytes at which the search stops: the mark, and the backslash where it hides something.
+fn closing_stops(quote: u8, hides: bool) -> Stops
+    ensures { λ r. ⌜ r ≡ stopsBy hides quote ⌝ }
+{
+    if hides {
+        return Stops {
+            first: quote,
+            second: 92,
+            third: quote,
+        };
+    }
+    Stops {
+        first: quote,
+        second: quote,
+        third: quote,
+    }
+}
+
 // The first mark of a body that is not doubled; with `hides` a backslash hides the byte behind it.
 // Rules out: a mark doubled by another byte than the next; a hidden mark taken for the closing one; a byte passed over; a byte hidden past the end
 // (must-fail: doubled_by_the_byte_after, later_e_refused).
@@ -36,6 +56,7 @@ pub fn closing_mark(body: &[u8], mark: Mark, hides: bool) -> Closing
     ensures { λ r. ⌜ r ≡ closedOf (walk (closingStep hides (markOf mark)) 0 (now (body .entry))) ⌝ }
 {
     let quote = mark_byte(mark);
+    let stops = closing_stops(quote, hides);
     let mut at: usize = 0;
     while at < body.len() {
         let byte = body[at];
@@ -50,7 +71,7 @@ pub fn closing_mark(body: &[u8], mark: Mark, hides: bool) -> Closing
             }
             at += 2;
         } else {
-            at += 1;
+            at += 1 + free_run(body, at + 1, stops);
         }
     }
     Closing::Unclosed

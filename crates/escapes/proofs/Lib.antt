@@ -1,5 +1,6 @@
 -- What the functions of this crate share, callees first.
 pub mod Matching
+pub mod Breaking
 pub mod Encodings
 pub mod Running
 pub mod UnitLaws

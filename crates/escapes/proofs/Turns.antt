@@ -1,18 +1,25 @@
 -- The measuring pass over a body by the pieces that are read: a piece takes and stands for what its step does, and every family's step is steady.
 -- A law for a turn and for each way out, as the code counts. Assumes nothing.
-use mathlib.Core.Path.{_≡_, refl, ap, sym, _∙_}
-use mathlib.Core.Bool.{Bool, true, false, _&&_}
-use mathlib.Core.List.{List, []}
-use Prim.Native.Nat.{ℕ, suc, _+_, _≤_, _<_}
+use mathlib.Core.Path.{_≡_, refl, ap, sym, _∙_, subst}
+use mathlib.Core.Bool.{Bool, true, false, _&&_, not, false≢true}
+use mathlib.Core.List.{List, [], _∷_}
+use Prim.Native.Nat.{ℕ, suc, _+_, _-_, _≤_, _<_}
 use native.Mathlib.Omega.{arith}
 use lib.Dec.{eqb}
-use lib.ListN.{length, drop, drop-of-length-le}
-use Rattle.meaning.specs.Bytes.{if_then_else_, _!_}
-use Rattle.meaning.specs.Chars.{pushes}
-use Rattle.meaning.specs.Walk.{stop, walk}
-use Rattle.laws.proofs.Courses.{taken, stands, isKept, Goes}
+use lib.ListN.{length, take, drop, length-take, drop-of-length-le}
+use lib.Seq.{drop-cons, take-take, getD-take, getD-drop}
+use borrow.Author.Tests.{not-true}
+use Rattle.meaning.specs.Bytes.{if_then_else_, _!_, starts, span, quote, backslash}
+use Rattle.meaning.specs.Chars.{Due, due, broken, push, pushes}
+use Rattle.meaning.specs.Walk.{Step, keep, give, stop, walk}
+use Rattle.meaning.specs.Steps.{doubled, uescaped}
+use Rattle.laws.proofs.Tests.{and-left, and-right, eqb-sym}
+use Rattle.laws.proofs.Courses.{SoFar, taken, stands, isKept, Goes, Taken, Kept, kept-taken}
 use Rattle.laws.proofs.StepBounds.{Steady, standard-steady, escape-steady, unicode-steady}
-use Rattle.laws.proofs.Passes.{courseBy, StopsAt, EndsWith, Unbroken, unit-fits, Measuring, measuring-turn, measuring-stop, measuring-broken}
+use Rattle.laws.proofs.Passes.{courseBy, StopsAt, EndsWith, Unbroken, unit-taken, Measuring, measuring-turn, measuring-stop, measuring-broken}
+use Rattle.leaves.specs.declared.blocks.Stops.{Stops}
+use Rattle.leaves.specs.Blocks.{freeOf}
+use Rattle.leaves.proofs.RunSteps.{KeepsAll, run-kept}
 use Rattle.utf8.specs.declared.tail.Utf8Tail.{Utf8Tail}
 use Rattle.utf8.specs.declared.tail.Utf8Tail.the-variants as Tail
 use Rattle.utf8.specs.Tails.{dueOf}
@@ -24,8 +31,9 @@ use Rattle.escapes.specs.declared.pieces.Piece.the-variants as Piece′
 use Rattle.escapes.specs.declared.units.Family.{Family}
 use Rattle.escapes.specs.declared.units.Family.the-variants.{Standard, Escape, Unicode}
 use Rattle.escapes.specs.declared.measuring.Measured.the-variants.{Plain, Length, Refused}
-use Rattle.escapes.specs.Pieces.{meaningOf, moreOf, isKeep, bytesOf, IsBy}
-use Rattle.escapes.specs.Families.{stepOf, checks, dueBy, courseOf, measuredOf}
+use Rattle.escapes.proofs.Breaking.{unbroken-by, unbroken-not}
+use Rattle.escapes.specs.Pieces.{meaningOf, moreBy, isKeep, bytesOf, IsBy, BreaksAt, BrokenAt, Breaks}
+use Rattle.escapes.specs.Families.{stepOf, checks, dueBy, courseOf, measuredOf, stopsOf}
 
 -- EVERY FAMILY's step is steady, since no mark is zero
 mark-not-zero : (m : Mark) → eqb 0 (markOf m) ≡ false
@@ -46,8 +54,31 @@ unit-past f e l at h = record { means = sym (ap (stepOf f e) (drop-of-length-le 
     none Escape = refl
     none (Unicode m) = refl
 
+-- RUNS: a byte that is none of the stops stands for itself in every family; a U& body without an escape character has no byte that does
+module _ (m s b : ℕ) (f : freeOf (record { first = m; second = s; third = m }) b ≡ true) where
+  not-mark : eqb b m ≡ false
+  unfolding freeOf
+  not-mark = not-true (eqb b m) (and-right (not (eqb b m) && not (eqb b s)) (not (eqb b m)) f)
+
+  not-second : eqb b s ≡ false
+  unfolding freeOf
+  not-second = not-true (eqb b s) (and-right (not (eqb b m)) (not (eqb b s)) (and-left (not (eqb b m) && not (eqb b s)) (not (eqb b m)) f))
+
+keeps-all : (f : Family) (e : List ℕ) (b : ℕ) (t : List ℕ) → stepOf f e (b ∷ t) ≡ keep → KeepsAll (freeOf (stopsOf f e)) (stepOf f e)
+unfolding stopsOf doubled uescaped
+keeps-all (Standard m true) e b t h c u f = rw (not-second (markOf m) backslash c f, not-mark (markOf m) backslash c f)
+keeps-all (Standard m false) e b t h c u f = rw (not-mark (markOf m) (markOf m) c f)
+keeps-all Escape e b t h c u f = rw (not-second quote backslash c f, not-mark quote backslash c f)
+keeps-all (Unicode m) [] b t h c u f = absurd (none (eqb b (markOf m)) (eqb (t ! 0) (markOf m)) h)
+  where
+    none : (x y : Bool) → (if x then (if y then give 1 (markOf m ∷ []) else stop) else uescaped [] (b ∷ t)) ≡ keep → ⊥
+    none true true k = let z : _≡_ {A = ℕ} 0 1 = cc in omega arith
+    none true false k = let z : _≡_ {A = ℕ} 0 1 = cc in omega arith
+    none false y k = let z : _≡_ {A = ℕ} 0 1 = cc in omega arith
+keeps-all (Unicode m) (x ∷ e) b t h c u f = rw (not-mark (markOf m) x c f, eqb-sym x c ∙ not-second (markOf m) x c f)
+
 -- A PIECE and its step
-goes-by : (e : List ℕ) (p : Piece) → (p ≡ Piece′.Refused → ⊥) → Goes (meaningOf e p)
+pub goes-by : (e : List ℕ) (p : Piece) → (p ≡ Piece′.Refused → ⊥) → Goes (meaningOf e p)
 goes-by e Piece′.Keep n = tt
 goes-by e (Piece′.Byte m b) n = tt
 goes-by e (Piece′.Two m b c) n = tt
@@ -55,48 +86,66 @@ goes-by e (Piece′.Scalar m c) n = tt
 goes-by e (Piece′.Escape m) n = tt
 goes-by e Piece′.Refused n = n refl
 
-pub piece-taken : (e : List ℕ) (p : Piece) → Goes (meaningOf e p) → taken (meaningOf e p) ≡ suc (moreOf p)
-piece-taken e Piece′.Keep g = refl
-piece-taken e (Piece′.Byte m b) g = refl
-piece-taken e (Piece′.Two m b c) g = refl
-piece-taken e (Piece′.Scalar m c) g = refl
-piece-taken e (Piece′.Escape m) g = refl
-piece-taken e Piece′.Refused g = absurd g
+-- what the code counts behind a turn's first byte, with the stops that it was told
+pub more-by : (p : Piece) (k : ℕ) (st st′ : Stops) (t : List ℕ) → k ≡ moreBy p (span (freeOf st) t) → st ≡ st′ → k ≡ moreBy p (span (freeOf st′) t)
+more-by p k st st′ t e q = subst (λ (x : Stops). k ≡ moreBy p (span (freeOf x) t)) q e
 
-pub piece-stands : (e : List ℕ) (p : Piece) (b : ℕ) → stands (meaningOf e p) b ≡ bytesOf p b e
-piece-stands e Piece′.Keep b = refl
-piece-stands e (Piece′.Byte m c) b = refl
-piece-stands e (Piece′.Two m c d) b = refl
-piece-stands e (Piece′.Scalar m c) b = refl
-piece-stands e (Piece′.Escape m) b = refl
-piece-stands e Piece′.Refused b = refl
+-- what a turn takes, up to the place z: a unit, or a run
+module _ (f : Family) (e l : List ℕ) {at : ℕ} (s : SoFar (stepOf f e) l at) (h : at < length l) where
+  abbrev partTo : ℕ → List ℕ
+  partTo z = take (z - at) (drop at l)
 
-piece-kept : (e : List ℕ) (p : Piece) → isKept (meaningOf e p) ≡ isKeep p
-piece-kept e Piece′.Keep = refl
-piece-kept e (Piece′.Byte m b) = refl
-piece-kept e (Piece′.Two m b c) = refl
-piece-kept e (Piece′.Scalar m c) = refl
-piece-kept e (Piece′.Escape m) = refl
-piece-kept e Piece′.Refused = refl
+  run : stepOf f e (drop at l) ≡ keep → (k : ℕ) → k ≡ span (freeOf (stopsOf f e)) (drop (at + 1) l) → Kept (stepOf f e) l at (suc k)
+  run i k ek =
+      run-kept (freeOf (stopsOf f e)) (stepOf f e) (keeps-all f e (l ! at) (drop (suc at) l) (ap (stepOf f e) (sym (drop-cons l at 0 h)) ∙ i)) l at h i k ek
 
-unbroken-by : (t : Utf8Tail) → (t ≡ Tail.Broken → ⊥) → Unbroken (dueOf t)
-unbroken-by Tail.Start n = tt
-unbroken-by Tail.One n = tt
-unbroken-by Tail.Two n = tt
-unbroken-by Tail.TwoFromA0 n = tt
-unbroken-by Tail.TwoUpTo9F n = tt
-unbroken-by Tail.Three n = tt
-unbroken-by Tail.ThreeFrom90 n = tt
-unbroken-by Tail.ThreeUpTo8F n = tt
-unbroken-by Tail.Broken n = n refl
+  unit : (p : Piece) → Goes (meaningOf e p) → meaningOf e p ≡ stepOf f e (drop at l) → (z : ℕ) → at + taken (meaningOf e p) ≡ z
+      → Taken s (stands (meaningOf e p) (l ! at)) (isKept (meaningOf e p)) z
+  unit p g i z ez = unit-taken s (steady f e) (meaningOf e p) h (sym i) g z ez
 
--- what a unit takes is there, and it stands for no more
-module _ (f : Family) (e l : List ℕ) (at : ℕ) (h : at < length l) (p : Piece) (i : IsBy e p (stepOf f e (drop at l))) where
-  pub fits : Goes (meaningOf e p) → (at + suc (moreOf p) ≤ length l) × (length (bytesOf p (l ! at) e) ≤ suc (moreOf p))
-  fits g = rw (piece-taken e p g, piece-stands e p (l ! at)) at (unit-fits (stepOf f e) (steady f e) l at h (meaningOf e p) (sym (i .means)) g)
+  pub turn-taken : (p : Piece) → IsBy e p (stepOf f e (drop at l)) → Goes (meaningOf e p) → (k : ℕ) → k ≡ moreBy p (span (freeOf (stopsOf f e)) (drop (at + 1) l))
+      → (z : ℕ) → z ≡ at + 1 + k → Taken s (bytesOf p (partTo z) e) (isKeep p) z
+  turn-taken Piece′.Keep i g k ek z ez =
+      let a : at + suc k ≡ z = omega arith in
+      let b : suc k ≡ z - at = omega arith in
+      subst (λ (n : ℕ). Taken s (take n (drop at l)) true z) b (subst (λ (n : ℕ). Taken s (take (suc k) (drop at l)) true n) a (kept-taken s (suc k) (run (sym (i .means)) k ek)))
+  turn-taken (Piece′.Byte m b) i g k ek z ez = unit (Piece′.Byte m b) g (i .means) z (omega arith)
+  turn-taken (Piece′.Two m b c) i g k ek z ez = unit (Piece′.Two m b c) g (i .means) z (omega arith)
+  turn-taken (Piece′.Scalar m c) i g k ek z ez = unit (Piece′.Scalar m c) g (i .means) z (omega arith)
+  turn-taken (Piece′.Escape m) i g k ek z ez = unit (Piece′.Escape m) g (i .means) z (omega arith)
+  turn-taken Piece′.Refused i g k ek z ez = absurd g
 
-  pub piece-fits : (p ≡ Piece′.Refused → ⊥) → (at + suc (moreOf p) ≤ length l) × (length (bytesOf p (l ! at) e) ≤ suc (moreOf p))
-  piece-fits n = fits (goes-by e p n)
+-- where a turn's bytes break the text: at its first byte, or at the byte of a run that does
+module _ (f : Family) (e l : List ℕ) {at n : ℕ} {pl : Bool} (tail : Utf8Tail) (m : Measuring (stepOf f e) true l at n pl (dueOf tail)) (h : at < length l) (k q : ℕ) where
+  abbrev own : List ℕ
+  own = take (at + 1 + k - at) (drop at l)
+
+  at-first : (u : Step) → stepOf f e (drop at l) ≡ u → Goes u → broken ≡ pushes (dueOf tail) (stands u (l ! at)) → q ≡ 0
+      → StopsAt (courseBy true (walk (stepOf f e) 0 l)) (at + q)
+  at-first u i g b z =
+      let a : at ≡ at + q = omega arith in
+      subst (StopsAt (courseBy true (walk (stepOf f e) 0 l))) a (measuring-broken m u h i g b)
+
+  in-run : Kept (stepOf f e) l at (suc k) → BreaksAt (dueOf tail) own q → StopsAt (courseBy true (walk (stepOf f e) 0 l)) (at + q)
+  in-run c w =
+      let c′ = take q (drop at l) in
+      let less : q < at + 1 + k - at = omega (arith, w .inside, length-take (at + 1 + k - at) (drop at l)) in
+      let same : take q own ≡ c′ = take-take q (at + 1 + k - at) (drop at l) (omega arith) in
+      let byte : l ! (at + q) ≡ own ! q = sym (getD-take (at + 1 + k - at) (drop at l) q 0 less ∙ getD-drop at l q 0) in
+      let t = kept-taken (m .so-far) q (record { room = omega (arith, c .room); each = λ j o. c .each j (omega arith) }) in
+      let goes : pushes (dueOf tail) c′ ≡ broken → ⊥ = λ b. w .before (ap (pushes (dueOf tail)) same ∙ b) in
+      let m′ = measuring-turn m c′ true (at + q) (n + length c′) (pl && true) (pushes (dueOf tail) c′) t refl refl refl (unbroken-not (pushes (dueOf tail) c′) goes) in
+      measuring-broken m′ keep (omega (arith, c .room)) (c .each q (omega arith)) tt
+      (sym (ap (push (pushes (dueOf tail) c′)) byte ∙ ap (λ (x : Due). push x (own ! q)) (ap (pushes (dueOf tail)) (sym same)) ∙ w .there))
+
+  breaks-here : (p : Piece) → meaningOf e p ≡ stepOf f e (drop at l) → (p ≡ Piece′.Refused → ⊥) → k ≡ moreBy p (span (freeOf (stopsOf f e)) (drop (at + 1) l))
+      → broken ≡ pushes (dueOf tail) (bytesOf p own e) → BrokenAt p (dueOf tail) own q → StopsAt (courseBy true (walk (stepOf f e) 0 l)) (at + q)
+  breaks-here Piece′.Keep i r ek b w = in-run (run f e l (m .so-far) h (sym i) k ek) w
+  breaks-here (Piece′.Byte j a) i r ek b w = at-first (meaningOf e (Piece′.Byte j a)) (sym i) tt b w
+  breaks-here (Piece′.Two j a c) i r ek b w = at-first (meaningOf e (Piece′.Two j a c)) (sym i) tt b w
+  breaks-here (Piece′.Scalar j a) i r ek b w = at-first (meaningOf e (Piece′.Scalar j a)) (sym i) tt b w
+  breaks-here (Piece′.Escape j) i r ek b w = at-first (meaningOf e (Piece′.Escape j)) (sym i) tt b w
+  breaks-here Piece′.Refused i r ek b w = absurd (r refl)
 
 -- MEASURING; x says whether the walk is checked
 module _ (f : Family) (e l : List ℕ) (x : Bool) (ex : x ≡ checks f) where
@@ -117,21 +166,81 @@ module _ (f : Family) (e l : List ℕ) (x : Bool) (ex : x ≡ checks f) where
     pub measured-refused : p ≡ Piece′.Refused → Refused at ≡ measuredOf (courseOf f e l)
     measured-refused r = refused-here at (measuring-stop m h (sym (i .means) ∙ ap (meaningOf e) r))
 
-    module _ (r : p ≡ Piece′.Refused → ⊥) (tail′ : Utf8Tail) (d : dueOf tail′ ≡ dueBy x (dueOf tail) (bytesOf p (l ! at) e)) where
-      due-stands : dueOf tail′ ≡ (if x then pushes (dueOf tail) (stands (meaningOf e p) (l ! at)) else dueOf tail)
-      due-stands = d ∙ ap (dueBy x (dueOf tail)) (sym (piece-stands e p (l ! at)))
+    module _ (r : p ≡ Piece′.Refused → ⊥) (k : ℕ) (ek : k ≡ moreBy p (span (freeOf (stopsOf f e)) (drop (at + 1) l))) where
+      took : (z : ℕ) → z ≡ at + 1 + k → Taken (m .so-far) (bytesOf p (take (z - at) (drop at l)) e) (isKeep p) z
+      took z ez = turn-taken f e l (m .so-far) h p i (goes-by e p r) k ek z ez
 
-      pub measured-broken : tail′ ≡ Tail.Broken → Refused at ≡ measuredOf (courseOf f e l)
-      measured-broken b =
-          refused-here at (measuring-broken m (meaningOf e p) h (sym (i .means)) (goes-by e p r) (sym (ap dueOf b) ∙ due-stands))
+      pub measured-fits : at + 1 + k ≤ length l
+      measured-fits = took (at + 1 + k) refl .next .inside
 
-      pub measured-turn : (tail′ ≡ Tail.Broken → ⊥) → (y : Bool) → y ≡ isKeep p → (k : ℕ) → k ≡ length (bytesOf p (l ! at) e) → (j : ℕ) → j ≡ moreOf p
-          → Measuring (stepOf f e) x l (at + (1 + j)) (n + k) (pl && y) (dueOf tail′)
-      measured-turn b y ey k ek j ej =
-          let g = goes-by e p r in
-          measuring-turn m (steady f e) (meaningOf e p) h (sym (i .means)) g (at + (1 + j)) (n + k) (pl && y) (dueOf tail′)
-          (omega (arith, piece-taken e p g, ej))
-          (ap (n +_) (ap length (piece-stands e p (l ! at)) ∙ sym ek))
-          (ap (pl &&_) (piece-kept e p ∙ sym ey))
-          due-stands
-          (unbroken-by tail′ b)
+      pub measured-room : n + length (bytesOf p (take (at + 1 + k - at) (drop at l)) e) ≤ length l
+      measured-room = omega (arith, m .short, took (at + 1 + k) refl .brief, measured-fits)
+
+      module _ (tail′ : Utf8Tail) (d : dueOf tail′ ≡ dueBy x (dueOf tail) (bytesOf p (take (at + 1 + k - at) (drop at l)) e)) where
+        abbrev part : List ℕ
+        part = take (at + 1 + k - at) (drop at l)
+
+        -- what breaks it, where nothing was broken, are the turn's own bytes
+        broke : tail′ ≡ Tail.Broken → (x ≡ true) × (broken ≡ pushes (dueOf tail) (bytesOf p part e))
+        broke b = go x (sym (ap dueOf b) ∙ d)
+          where
+            go : (y : Bool) → broken ≡ dueBy y (dueOf tail) (bytesOf p part e) → (y ≡ true) × (broken ≡ pushes (dueOf tail) (bytesOf p part e))
+            go true c = (refl, c)
+            go false c = absurd (subst Unbroken (sym c) (m .unbroken))
+
+        whole : dueOf tail ≡ broken → ⊥
+        whole c = subst Unbroken c (m .unbroken)
+
+        pub measured-breaks : tail′ ≡ Tail.Broken → Breaks p (dueOf tail) part
+        measured-breaks b = go p (broke b .1)
+          where
+            go : (q : Piece) → broken ≡ pushes (dueOf tail) (bytesOf q part e) → Breaks q (dueOf tail) part
+            go Piece′.Keep c = (whole, sym c)
+            go (Piece′.Byte j a) c = tt
+            go (Piece′.Two j a c′) c = tt
+            go (Piece′.Scalar j a) c = tt
+            go (Piece′.Escape j) c = tt
+            go Piece′.Refused c = tt
+
+        pub measured-broken : tail′ ≡ Tail.Broken → (q : ℕ) → BrokenAt p (dueOf tail) part q → Refused (at + q) ≡ measuredOf (courseOf f e l)
+        measured-broken b q w =
+            let y = broke b in
+            refused-here (at + q)
+            (subst (λ (c : Bool). StopsAt (courseBy c (walk (stepOf f e) 0 l)) (at + q)) (sym (y .0))
+            (breaks-here f e l tail (subst (λ (c : Bool). Measuring (stepOf f e) c l at n pl (dueOf tail)) (y .0) m) h k q p (i .means) r ek (y .1) w))
+
+        pub measured-turn : (tail′ ≡ Tail.Broken → ⊥) → (y : Bool) → y ≡ isKeep p → (c : ℕ) → c ≡ length (bytesOf p part e)
+            → Measuring (stepOf f e) x l (at + 1 + k) (n + c) (pl && y) (dueOf tail′)
+        measured-turn b y ey c ec =
+            measuring-turn m (bytesOf p part e) (isKeep p) (at + 1 + k) (n + c) (pl && y) (dueOf tail′) (took (at + 1 + k) refl)
+            (ap (n +_) (sym ec)) (ap (pl &&_) (sym ey)) d (unbroken-by tail′ b)
+
+-- a byte that breaks a text is one of the turn's
+pub broken-inside : (p : Piece) (d : Due) (v : List ℕ) (q : ℕ) → BrokenAt p d v q → q ≤ length v
+broken-inside Piece′.Keep d v q b = omega (arith, b .inside)
+broken-inside (Piece′.Byte j a) d v q b = omega arith
+broken-inside (Piece′.Two j a c) d v q b = omega arith
+broken-inside (Piece′.Scalar j a) d v q b = omega arith
+broken-inside (Piece′.Escape j) d v q b = omega arith
+broken-inside Piece′.Refused d v q b = omega arith
+
+-- THE STOPS by the family
+module _ (f : Family) (e : List ℕ) where
+  pub stops-hidden : (m : Mark) (bs : Bool) → f ≡ Standard m bs → bs ≡ true → (q : ℕ) → q ≡ markOf m
+      → _≡_ {A = Stops} (record { first = q; second = 92; third = q }) (stopsOf f e)
+  unfolding stopsOf
+  stops-hidden m bs ef eb q eq = rw (ef, eb, eq)
+
+  pub stops-shown : (m : Mark) (bs : Bool) → f ≡ Standard m bs → bs ≡ false → (q : ℕ) → q ≡ markOf m
+      → _≡_ {A = Stops} (record { first = q; second = q; third = q }) (stopsOf f e)
+  unfolding stopsOf
+  stops-shown m bs ef eb q eq = rw (ef, eb, eq)
+
+  pub stops-escape : f ≡ Escape → _≡_ {A = Stops} (record { first = 39; second = 92; third = 39 }) (stopsOf f e)
+  unfolding stopsOf
+  stops-escape ef = rw ef
+
+  pub stops-unicode : (m : Mark) → f ≡ Unicode m → (q : ℕ) → q ≡ markOf m → (b : ℕ) → b ≡ e ! 0
+      → _≡_ {A = Stops} (record { first = q; second = b; third = q }) (stopsOf f e)
+  unfolding stopsOf
+  stops-unicode m ef q eq b eb = rw (ef, eq, eb)

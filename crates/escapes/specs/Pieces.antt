@@ -2,8 +2,9 @@
 use mathlib.Core.Bool.{Bool, true, false}
 use mathlib.Core.Path.{_≡_}
 use mathlib.Core.List.{List, [], _∷_}
-use Prim.Native.Nat.{ℕ}
-use Rattle.meaning.specs.Chars.{encode, isScalar}
+use Prim.Native.Nat.{ℕ, _<_}
+use lib.ListN.{length, take, getD}
+use Rattle.meaning.specs.Chars.{Due, due, broken, push, pushes, encode, isScalar}
 use Rattle.meaning.specs.Walk.{Step, keep, give, stop}
 use Rattle.escapes.specs.declared.pieces.Piece.{Piece}
 use Rattle.escapes.specs.declared.pieces.Piece.the-variants.{Keep, Byte, Two, Scalar, Escape, Refused}
@@ -34,14 +35,15 @@ pub record Is (r : Piece) (s : Step) : Type 0 where
   pub means : (e : List ℕ) → meaningOf e r ≡ s
   pub sound : Sound r
 
--- the bytes it takes behind its first, b; whether it is b itself; the bytes that it stands for
-abbrev pub moreOf : Piece → ℕ
-moreOf Keep = 0
-moreOf (Byte m b) = m
-moreOf (Two m b c) = m
-moreOf (Scalar m c) = m
-moreOf (Escape m) = m
-moreOf Refused = 0
+-- the bytes that it takes behind its first, where one that stands for itself is taken with n more of its kind; whether it is such; the bytes that it stands
+-- for, where v are those that stand for themselves
+abbrev pub moreBy : Piece → ℕ → ℕ
+moreBy Keep n = n
+moreBy (Byte m b) n = m
+moreBy (Two m b c) n = m
+moreBy (Scalar m c) n = m
+moreBy (Escape m) n = m
+moreBy Refused n = 0
 
 abbrev pub isKeep : Piece → Bool
 isKeep Keep = true
@@ -51,10 +53,34 @@ isKeep (Scalar m c) = false
 isKeep (Escape m) = false
 isKeep Refused = false
 
-abbrev pub bytesOf : Piece → ℕ → List ℕ → List ℕ
-bytesOf Keep b e = b ∷ []
-bytesOf (Byte m c) b e = c ∷ []
-bytesOf (Two m c d) b e = c ∷ d ∷ []
-bytesOf (Scalar m c) b e = encode c
-bytesOf (Escape m) b e = e
-bytesOf Refused b e = []
+abbrev pub bytesOf : Piece → List ℕ → List ℕ → List ℕ
+bytesOf Keep v e = v
+bytesOf (Byte m c) v e = c ∷ []
+bytesOf (Two m c d) v e = c ∷ d ∷ []
+bytesOf (Scalar m c) v e = encode c
+bytesOf (Escape m) v e = e
+bytesOf Refused v e = []
+
+-- the byte q of v is the one that breaks a text in the state d
+pub record BreaksAt (d : Due) (v : List ℕ) (q : ℕ) : Type 0 where
+  pub inside : q < length v
+  pub before : pushes d (take q v) ≡ broken → ⊥
+  pub there : push (pushes d (take q v)) (getD v q 0) ≡ broken
+
+-- at which byte of a turn's own bytes v it breaks a text; a unit breaks it at its first
+abbrev pub BrokenAt : Piece → Due → List ℕ → ℕ → Type 0
+BrokenAt Keep d v q = BreaksAt d v q
+BrokenAt (Byte m b) d v q = q ≡ 0
+BrokenAt (Two m b c) d v q = q ≡ 0
+BrokenAt (Scalar m c) d v q = q ≡ 0
+BrokenAt (Escape m) d v q = q ≡ 0
+BrokenAt Refused d v q = q ≡ 0
+
+-- bytes that stand for themselves break it
+abbrev pub Breaks : Piece → Due → List ℕ → Type 0
+Breaks Keep d v = (d ≡ broken → ⊥) × (pushes d v ≡ broken)
+Breaks (Byte m b) d v = Unit {0}
+Breaks (Two m b c) d v = Unit {0}
+Breaks (Scalar m c) d v = Unit {0}
+Breaks (Escape m) d v = Unit {0}
+Breaks Refused d v = Unit {0}

@@ -1,10 +1,12 @@
-// How long a body's value is: one pass for every family. E's expansion is checked to be UTF-8 on the way, so that the first of all refusals is found.
+// How long a body's value is: one pass for every family, a unit or a run of bytes that stand for themselves at each turn. E's expansion is checked to be UTF-8 on the way, so that the first of all refusals is found.
 use crate::pieces::Piece;
+use crate::pieces::broken_at;
 use crate::pieces::is_keep;
 use crate::pieces::piece_len;
-use crate::pieces::piece_more;
 use crate::pieces::piece_tail;
+use crate::pieces::turn_more;
 use crate::units::Family;
+use crate::units::run_stops;
 use crate::units::unit_at;
 use utf8::tail::Utf8Tail;
 use utf8::tail::is_whole;
@@ -34,23 +36,24 @@ fn is_checked(family: Family) -> bool
     }
 }
 
-// The UTF-8 state behind a unit's bytes, where it counts.
-fn next_tail(checked: bool, tail: Utf8Tail, piece: Piece, byte: u8, escape: &[u8]) -> Utf8Tail
+// The UTF-8 state behind a turn's bytes, where it counts.
+fn next_tail(checked: bool, tail: Utf8Tail, piece: Piece, part: &[u8], escape: &[u8]) -> Utf8Tail
     requires { ⌜ Sound piece ⌝ }
-    ensures { λ r. ⌜ dueOf r ≡ dueBy checked (dueOf tail) (bytesOf piece byte (now (escape .entry))) ⌝ }
+    ensures { λ r. ⌜ dueOf r ≡ dueBy checked (dueOf tail) (bytesOf piece (now (part .entry)) (now (escape .entry))) ⌝ }
 {
     if checked {
-        return piece_tail(tail, piece, byte, escape);
+        return piece_tail(tail, piece, part, escape);
     }
     tail
 }
 
 // What a body's value is: the body itself, so many bytes, or the place of the unit at which reading stops.
-// Rules out: a body with a doubled mark called plain; a refusal placed behind its unit (must-fail: escaped_is_plain, unit_one_longer).
+// Rules out: a body with a doubled mark called plain; a byte passed over behind each unit (must-fail: escaped_is_plain, unit_one_longer).
 pub fn measure(body: &[u8], family: Family, escape: &[u8]) -> Measured
     ensures { λ r. ⌜ r ≡ measuredOf (courseOf family (now (escape .entry)) (now (body .entry))) ⌝ }
 {
     let checked = is_checked(family);
+    let stops = run_stops(family, escape);
     let mut tail = Utf8Tail::Start;
     let mut plain = true;
     let mut at: usize = 0;
@@ -60,14 +63,17 @@ pub fn measure(body: &[u8], family: Family, escape: &[u8]) -> Measured
         if let Piece::Refused = piece {
             return Measured::Refused(at);
         }
-        let byte = body[at];
-        tail = next_tail(checked, tail, piece, byte, escape);
-        if let Utf8Tail::Broken = tail {
-            return Measured::Refused(at);
+        let end = at + 1 + turn_more(piece, body, at + 1, stops);
+        let part = &body[at..end];
+        let next = next_tail(checked, tail, piece, part, escape);
+        if let Utf8Tail::Broken = next {
+            let place = at + broken_at(tail, piece, part);
+            return Measured::Refused(place);
         }
+        tail = next;
         plain = plain & is_keep(piece);
-        n += piece_len(piece, byte, escape);
-        at += 1 + piece_more(piece);
+        n += piece_len(piece, part, escape);
+        at = end;
     }
     if !is_whole(tail) {
         return Measured::Refused(at);

@@ -3,6 +3,7 @@ use crate::digits::digits_at;
 use crate::pieces::Piece;
 use cutting::marks::Mark;
 use cutting::marks::mark_byte;
+use leaves::blocks::Stops;
 use leaves::bytes::byte_at;
 use leaves::texts::starts_at;
 use scalars::encoding::is_scalar;
@@ -12,13 +13,50 @@ ghost use lib.ListN.{length, drop};
 ghost use Rattle.meaning.specs.Steps.{byteOf, mysqlTable, escapeTable, doubled, mysql, oneByte, scalarBy, escaped, lowHalf, uescaped};
 ghost use Rattle.cutting.specs.Marks.{markOf};
 ghost use Rattle.escapes.specs.Pieces.{Is, IsBy};
-ghost use Rattle.escapes.specs.Families.{stepOf};
+ghost use Rattle.escapes.specs.Families.{stepOf, stopsOf};
 
 // How a body is read: with MySQL's escapes or without them, by E's rules, or by U&'s.
 pub enum Family {
     Standard { mark: Mark, backslash: bool },
     Escape,
     Unicode { mark: Mark },
+}
+
+// The bytes that end a run of bytes which stand for themselves.
+// Rules out: a body's escapes taken into its runs; the other mark looked for (must-fail: body_for_escape, unit_at_the_start).
+pub fn run_stops(family: Family, escape: &[u8]) -> Stops
+    ensures { λ r. ⌜ r ≡ stopsOf family (now (escape .entry)) ⌝ }
+{
+    match family {
+        Family::Standard { mark, backslash } => {
+            let first = mark_byte(mark);
+            if backslash {
+                return Stops {
+                    first,
+                    second: 92,
+                    third: first,
+                };
+            }
+            Stops {
+                first,
+                second: first,
+                third: first,
+            }
+        }
+        Family::Escape => Stops {
+            first: 39,
+            second: 92,
+            third: 39,
+        },
+        Family::Unicode { mark } => {
+            let first = mark_byte(mark);
+            Stops {
+                first,
+                second: byte_at(escape, 0),
+                third: first,
+            }
+        }
+    }
 }
 
 // The mark at a place: doubled it is one, alone it refuses. `at` is the place behind it.

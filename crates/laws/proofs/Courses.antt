@@ -1,13 +1,13 @@
 -- Where a loop stands that walks a text: the course so far, and that the whole walk goes on from there. A loop's invariant holds one of these;
 -- each turn and each way out has its law here, over every step. Assumes nothing.
 use mathlib.Core.Path.{_≡_, refl, ap, sym, _∙_, subst}
-use mathlib.Core.Bool.{Bool, true, false, _&&_, false≢true}
+use mathlib.Core.Bool.{Bool, true, false, _&&_, and-true, false≢true}
 use mathlib.Core.List.{List, [], _∷_, _++_, append-assoc, append-nil}
-use Prim.Native.Nat.{ℕ, suc, _+_, _≤_, _<_}
+use Prim.Native.Nat.{ℕ, zero, suc, _+_, _≤_, _<_}
 use native.Mathlib.Numerals.{add-one}
 use native.Mathlib.Omega.{arith}
-use lib.ListN.{length, getD, drop, length-drop, drop-of-length-le}
-use lib.Seq.{drop-cons, drop-drop}
+use lib.ListN.{length, getD, take, drop, length-drop, drop-of-length-le}
+use lib.Seq.{drop-cons, drop-drop, take-suc, getD-drop, length-take-le}
 use Rattle.meaning.specs.Bytes.{if_then_else_}
 use Rattle.meaning.specs.Chars.{Due, due, broken, push, pushes, whole}
 use Rattle.meaning.specs.Walk.{Step, keep, give, stop, Trace, ended, stopped, kept, gave, after, walk, size, stops, plain, value}
@@ -175,6 +175,44 @@ so-far-unit {step} {l} {at} s (give k out) at′ h e g i a = record {
   plainly = plain-both (s .course) (gave k out ended);
 }
 so-far-unit s stop at′ h e g i a = absurd g
+
+-- WHAT A TURN TAKES, a unit or a run of bytes that stand for themselves: it stands for v, and y says whether each of its bytes stands for itself
+pub record Taken {step : List ℕ → Step} {l : List ℕ} {at : ℕ} (s : SoFar step l at) (v : List ℕ) (y : Bool) (at′ : ℕ) : Type 0 where
+  pub next : SoFar step l at′
+  pub means : value (next .course) ≡ value (s .course) ++ v
+  pub plainly : plain (next .course) ≡ (plain (s .course) && y)
+  pub brief : at + length v ≤ at′
+
+-- k bytes from a place on stand for themselves
+pub record Kept (step : List ℕ → Step) (l : List ℕ) (at k : ℕ) : Type 0 where
+  pub room : at + k ≤ length l
+  pub each : (j : ℕ) → j < k → step (drop (at + j) l) ≡ keep
+
+pub kept-taken : {step : List ℕ → Step} {l : List ℕ} {at : ℕ} (s : SoFar step l at) (k : ℕ) → Kept step l at k → Taken s (take k (drop at l)) true (at + k)
+unfolding so-far-keep
+kept-taken {step} {l} {at} s zero h =
+    let z : at ≡ at + 0 = omega arith in
+    subst (λ (a : ℕ). Taken s [] true a) z
+    (record { next = s; means = sym (append-nil (value (s .course))); plainly = sym (and-true (plain (s .course))); brief = omega arith })
+kept-taken {step} {l} {at} s (suc k) h =
+    let f = kept-taken s k (record { room = omega (arith, h .room); each = λ j q. h .each j (omega arith) }) in
+    let b = getD l (at + k) 0 in
+    let i : at + k < length l = omega (arith, h .room) in
+    let r : suc k ≤ length (drop at l) = omega (arith, length-drop at l, h .room) in
+    let e : take (suc k) (drop at l) ≡ take k (drop at l) ++ (b ∷ []) =
+    take-suc (drop at l) k 0 r ∙ ap (λ (x : ℕ). take k (drop at l) ++ (x ∷ [])) (getD-drop at l k 0) in
+    let z : at + k + 1 ≡ at + suc k = omega arith in
+    subst (λ (a : ℕ). Taken s (take (suc k) (drop at l)) true a) z
+    (record {
+      next = so-far-keep (f .next) i (h .each k (omega arith));
+      means =
+          value-graft (f .next .course) (kept b ended) (f .next .goes)
+          ∙ ap (_++ (b ∷ [])) (f .means)
+          ∙ append-assoc (value (s .course)) (take k (drop at l)) (b ∷ [])
+          ∙ ap (value (s .course) ++_) (sym e);
+      plainly = plain-both (f .next .course) (kept b ended) ∙ and-true (plain (f .next .course)) ∙ f .plainly;
+      brief = omega (arith, length-take-le (suc k) (drop at l) r);
+    })
 
 -- CHECKED COURSES: a check that goes to the end changes nothing
 pub checked-same : (d : Due) (r : Trace) → stops (checked d r) ≡ false → checked d r ≡ r

@@ -17,7 +17,7 @@ use Rattle.meaning.specs.Answers.{filled}
 use Rattle.laws.proofs.Walks.{graft, size-graft, stops-graft}
 use Rattle.laws.proofs.Utf8.{pushes-append}
 use Rattle.laws.proofs.StepBounds.{Bounded, Steady, steady-at}
-use Rattle.laws.proofs.Courses.{SoFar, so-far-none, walk-at, so-far-end, so-far-stop, stops-here, taken, stands, isKept, Goes, Further, so-far-unit, value-graft, plain-both, graft-ended, checked-graft, checked-same}
+use Rattle.laws.proofs.Courses.{SoFar, so-far-none, walk-at, so-far-end, so-far-stop, stops-here, taken, stands, isKept, Goes, Further, so-far-unit, Taken, value-graft, plain-both, graft-ended, checked-graft, checked-same}
 
 -- a course, checked or not
 abbrev pub courseBy : Bool → Trace → Trace
@@ -53,6 +53,13 @@ unit-fits step ok l at h u e g = go u (steady-at step ok l at h u e) g
     go (give k out) b g = omega arith
     go stop b g = absurd g
 
+pub unit-taken : {step : List ℕ → Step} {l : List ℕ} {at : ℕ} (s : SoFar step l at) → Steady step → (u : Step) → at < length l → step (drop at l) ≡ u → Goes u
+    → (at′ : ℕ) → at + taken u ≡ at′ → Taken s (stands u (getD l at 0)) (isKept u) at′
+unit-taken {step} {l} {at} s ok u h e g at′ ea =
+    let b = unit-fits step ok l at h u e g in
+    let f = so-far-unit s u at′ h e g (b .0) ea in
+    record { next = f .next; means = f .means; plainly = f .plainly; brief = omega (arith, b .1, ea) }
+
 -- MEASURING. x: the walk is checked; so far n bytes, p whether each byte stood for itself, d what is due
 pub record Measuring (step : List ℕ → Step) (x : Bool) (l : List ℕ) (at n : ℕ) (p : Bool) (d : Due) : Type 0 where
   pub so-far : SoFar step l at
@@ -78,20 +85,16 @@ behind true c broken h e g q = absurd g
 behind true c (due n lo hi) h e g q = checked-graft fresh c q n lo hi h (sym e)
 
 module _ {step : List ℕ → Step} {x : Bool} {l : List ℕ} {at n : ℕ} {p : Bool} {d : Due} (m : Measuring step x l at n p d) where
-  -- a unit more: it is counted, and the state goes past its bytes
-  pub measuring-turn : Steady step → (u : Step) → at < length l → step (drop at l) ≡ u → Goes u → (at′ n′ : ℕ) (p′ : Bool) (d′ : Due)
-      → at + taken u ≡ at′ → n + length (stands u (getD l at 0)) ≡ n′ → (p && isKept u) ≡ p′
-      → d′ ≡ (if x then pushes d (stands u (getD l at 0)) else d) → Unbroken d′ → Measuring step x l at′ n′ p′ d′
-  measuring-turn ok u h e g at′ n′ p′ d′ ea en ep ed ub =
+  -- a turn: what it stands for is counted, and the state goes past that
+  pub measuring-turn : (v : List ℕ) (y : Bool) (at′ n′ : ℕ) (p′ : Bool) (d′ : Due) → Taken (m .so-far) v y at′ → n + length v ≡ n′ → (p && y) ≡ p′
+      → d′ ≡ (if x then pushes d v else d) → Unbroken d′ → Measuring step x l at′ n′ p′ d′
+  measuring-turn v y at′ n′ p′ d′ f en ep ed ub =
       let s = m .so-far in
-      let b = unit-fits step ok l at h u e g in
-      let f = so-far-unit s u at′ h e g (b .0) ea in
-      let v = stands u (getD l at 0) in
       record {
         so-far = f .next;
-        counted = ap length (f .means) ∙ length-append (value (s .course)) v ∙ omega (arith, m .counted);
-        short = omega (arith, m .short, b .1);
-        plainly = f .plainly ∙ ap (_&& isKept u) (m .plainly) ∙ ep;
+        counted = ap length (f .means) ∙ length-append (value (s .course)) v ∙ omega (arith, m .counted, en);
+        short = omega (arith, m .short, f .brief, en);
+        plainly = f .plainly ∙ ap (_&& y) (m .plainly) ∙ ep;
         state = ed ∙ past x d (value (s .course)) v (m .state) ∙ ap (λ (w : List ℕ). if x then pushes fresh w else fresh) (sym (f .means));
         unbroken = ub;
       }
@@ -198,6 +201,37 @@ module _ {step : List ℕ → Step} {l d out : List ℕ} {at n : ℕ} (w : Writi
       let e = so-far-end (w .so-far) h in
       rw e (sym (w .counted), w .put ∙ ap (λ (k : ℕ). value (w .so-far .course) ++ drop k d) (sym (w .counted)))
 
+  -- a turn that stands for v
+  module _ (v : List ℕ) (y : Bool) (at′ : ℕ) (f : Taken (w .so-far) v y at′) where
+    pub taken-room : n + length v ≤ length d
+    taken-room =
+        let k = within-room room (f .next) in
+        omega (arith, ap length (f .means) ∙ length-append (value (w .so-far .course)) v, w .counted)
+
+    -- the buffer's part from n on was lent to a callee that filled it with these bytes, and has come back
+    pub taken-turn : (n′ : ℕ) (last : List ℕ) → n + length v ≡ n′ → last ≡ filled v (take (length out - n) (drop n out))
+        → Writing step l d (take n out ++ (last ++ drop (length out - n) (drop n out))) at′ n′
+    unfolding filled
+    taken-turn n′ last en el =
+        let c = value (w .so-far .course) in
+        let k : length (drop n out) ≡ length out - n = length-drop n out in
+        let r : length v ≤ length (drop n out) = omega (arith, k, w .same, taken-room) in
+        let tail : take (length out - n) (drop n out) ≡ drop n out = take-all (length out - n) (drop n out) (le-of-eq k) in
+        let g : last ≡ v ++ drop (length v) (drop n out) = el ∙ ap (filled v) tail ∙ rw (le-leb (length v) (length (drop n out)) r) in
+        let z : last ++ drop (length out - n) (drop n out) ≡ v ++ drop (length v) (drop n out) =
+        ap (last ++_) (drop-of-length-le (drop n out) (le-of-eq k)) ∙ append-nil last ∙ g in
+        let put : take n out ++ (last ++ drop (length out - n) (drop n out)) ≡ (c ++ v) ++ drop n′ d =
+        ap (take n out ++_) z
+        ∙ ap (λ (o : List ℕ). take n o ++ (v ++ drop (length v) (drop n o))) (w .put)
+        ∙ put-part c v d n (w .counted) ∙ ap (λ (i : ℕ). (c ++ v) ++ drop i d) en in
+        let len : length (c ++ v) ≡ n′ = length-append c v ∙ omega (arith, w .counted, en) in
+        record {
+          so-far = f .next;
+          counted = ap length (f .means) ∙ len;
+          put = put ∙ ap (_++ drop n′ d) (sym (f .means));
+          same = ap length put ∙ length-append (c ++ v) (drop n′ d) ∙ omega (arith, len, length-drop n′ d, taken-room, en);
+        }
+
   -- a unit more
   module _ (ok : Steady step) (u : Step) (h : at < length l) (e : step (drop at l) ≡ u) where
     pub writing-goes : Goes u
@@ -208,39 +242,14 @@ module _ {step : List ℕ → Step} {l d out : List ℕ} {at n : ℕ} (w : Writi
         go (give k o) e = tt
         go stop e = absurd (false≢true (sym (room .goes) ∙ stops-here (w .so-far) h e))
 
-    further : Further (w .so-far) u (at + taken u)
-    further = so-far-unit (w .so-far) u (at + taken u) h e writing-goes (unit-fits step ok l at h u e writing-goes .0) refl
+    unit : (at′ : ℕ) → at + taken u ≡ at′ → Taken (w .so-far) (stands u (getD l at 0)) (isKept u) at′
+    unit at′ ea = unit-taken (w .so-far) ok u h e writing-goes at′ ea
 
     pub writing-room : n + length (stands u (getD l at 0)) ≤ length d
-    writing-room =
-        let f = further in
-        let k = within-room room (f .next) in
-        omega (arith, ap length (f .means) ∙ length-append (value (w .so-far .course)) (stands u (getD l at 0)), w .counted)
+    writing-room = taken-room (stands u (getD l at 0)) (isKept u) (at + taken u) (unit (at + taken u) refl)
 
-    -- the buffer's part from n on was lent to a callee that filled it with the unit's bytes, and has come back
     pub writing-turn : (at′ n′ : ℕ) (v last : List ℕ) → stands u (getD l at 0) ≡ v → at + taken u ≡ at′ → n + length v ≡ n′
         → last ≡ filled v (take (length out - n) (drop n out))
         → Writing step l d (take n out ++ (last ++ drop (length out - n) (drop n out))) at′ n′
-    unfolding filled
     writing-turn at′ n′ v last ev ea en el =
-        let c = value (w .so-far .course) in
-        let f = further in
-        let k : length (drop n out) ≡ length out - n = length-drop n out in
-        let r : length v ≤ length (drop n out) = omega (arith, k, w .same, writing-room, ap length ev) in
-        let tail : take (length out - n) (drop n out) ≡ drop n out = take-all (length out - n) (drop n out) (le-of-eq k) in
-        let g : last ≡ v ++ drop (length v) (drop n out) = el ∙ ap (filled v) tail ∙ rw (le-leb (length v) (length (drop n out)) r) in
-        let z : last ++ drop (length out - n) (drop n out) ≡ v ++ drop (length v) (drop n out) =
-        ap (last ++_) (drop-of-length-le (drop n out) (le-of-eq k)) ∙ append-nil last ∙ g in
-        let put : take n out ++ (last ++ drop (length out - n) (drop n out)) ≡ (c ++ v) ++ drop n′ d =
-        ap (take n out ++_) z
-        ∙ ap (λ (o : List ℕ). take n o ++ (v ++ drop (length v) (drop n o))) (w .put)
-        ∙ put-part c v d n (w .counted) ∙ ap (λ (i : ℕ). (c ++ v) ++ drop i d) en in
-        let m : value (f .next .course) ≡ c ++ v = f .means ∙ ap (c ++_) ev in
-        let len : length (c ++ v) ≡ n′ = length-append c v ∙ omega (arith, w .counted, en) in
-        subst (λ (a : ℕ). Writing step l d (take n out ++ (last ++ drop (length out - n) (drop n out))) a n′) ea
-        record {
-          so-far = f .next;
-          counted = ap length m ∙ len;
-          put = put ∙ ap (_++ drop n′ d) (sym m);
-          same = ap length put ∙ length-append (c ++ v) (drop n′ d) ∙ omega (arith, len, length-drop n′ d, writing-room, ap length ev, en);
-        }
+        taken-turn v (isKept u) at′ (subst (λ (x : List ℕ). Taken (w .so-far) x (isKept u) at′) ev (unit at′ ea)) n′ last en el

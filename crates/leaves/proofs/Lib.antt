@@ -1,3 +1,4 @@
+pub mod Scans
 pub mod RunSteps
 pub mod Shown
 pub mod Putting

@@ -1,13 +1,15 @@
 -- Runs of bytes at a place of a text. Assumes nothing.
-use mathlib.Core.Path.{_≡_, sym, ap, _∙_}
+use mathlib.Core.Path.{_≡_, refl, sym, ap, _∙_, subst}
 use mathlib.Core.Bool.{Bool, true, false, not}
 use mathlib.Core.List.{List, [], _∷_}
-use Prim.Native.Nat.{ℕ, suc, _+_, _-_, _≤_, _<_}
+use Prim.Native.Nat.{ℕ, zero, suc, _+_, _-_, _≤_, _<_}
 use native.Mathlib.Omega.{arith}
 use lib.ListN.{length, drop, length-drop, drop-of-length-le}
-use lib.Seq.{drop-cons}
+use lib.Seq.{drop-cons, getD-drop}
 use borrow.Author.Tests.{not-true, not-false}
 use Rattle.meaning.specs.Bytes.{if_then_else_, _!_, span, inName, inTag}
+use Rattle.meaning.specs.Walk.{Step, keep}
+use Rattle.laws.proofs.Courses.{Kept}
 use Rattle.leaves.specs.declared.runs.NameClass.{NameClass}
 use Rattle.leaves.specs.declared.runs.NameClass.the-variants.{Charset, DollarTag}
 use Rattle.leaves.specs.Runs.{inClass}
@@ -61,6 +63,35 @@ module _ (p : ℕ → Bool) (l : List ℕ) (at : ℕ) where
 
   pub run-past : length l ≤ at → 0 ≡ span p (drop at l)
   run-past h = sym (ap (span p) (drop-of-length-le l h))
+
+-- BYTES THAT STAND FOR THEMSELVES: each that passes a test does, whatever follows it
+abbrev pub KeepsAll : (ℕ → Bool) → (List ℕ → Step) → Type 0
+KeepsAll p step = (b : ℕ) (t : List ℕ) → p b ≡ true → step (b ∷ t) ≡ keep
+
+span-each : (p : ℕ → Bool) (t : List ℕ) (i : ℕ) → i < span p t → p (t ! i) ≡ true
+span-each p [] i h = absurd (omega arith)
+span-each p (b ∷ t) i h = go (p b) refl i h (span-each p t)
+  where
+    go : (x : Bool) → p b ≡ x → (i : ℕ) → i < (if x then suc (span p t) else 0) → ((j : ℕ) → j < span p t → p (t ! j) ≡ true) → p ((b ∷ t) ! i) ≡ true
+    go true e zero h ih = e
+    go true e (suc i) h ih = ih i (omega arith)
+    go false e i h ih = absurd (omega arith)
+
+-- a byte that stands for itself, and behind it a run of such
+pub run-kept : (p : ℕ → Bool) (step : List ℕ → Step) → KeepsAll p step → (l : List ℕ) (at : ℕ) → at < length l → step (drop at l) ≡ keep → (n : ℕ)
+    → n ≡ span p (drop (at + 1) l) → Kept step l at (suc n)
+run-kept p step k l at h e n en = record { room = room; each = each }
+  where
+    room : at + suc n ≤ length l
+    room = omega (arith, span-length p (drop (at + 1) l), length-drop (at + 1) l, en)
+
+    each : (j : ℕ) → j < suc n → step (drop (at + j) l) ≡ keep
+    each zero q = let z : at ≡ at + 0 = omega arith in subst (λ (i : ℕ). step (drop i l) ≡ keep) z e
+    each (suc j) q =
+        let z : at + 1 + j ≡ at + suc j = omega arith in
+        let i : at + suc j < length l = omega (arith, room) in
+        let b : p (l ! (at + suc j)) ≡ true = subst (λ (i : ℕ). p (l ! i) ≡ true) z (ap p (sym (getD-drop (at + 1) l j 0)) ∙ span-each p (drop (at + 1) l) j (omega (arith, en))) in
+        ap step (drop-cons l (at + suc j) 0 i) ∙ k (l ! (at + suc j)) (drop (suc (at + suc j)) l) b
 
 -- A CLASS by its case
 module _ (k : NameClass) (b : ℕ) (x : Bool) where

@@ -1,2 +1,3 @@
 pub mod Runs
 pub mod Puts
+pub mod Blocks

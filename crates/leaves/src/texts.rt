@@ -1,4 +1,6 @@
 // What a whole text is asked: another text at a place of it, a mark at both its ends, a raw NUL.
+use crate::blocks::Stops;
+use crate::blocks::is_free;
 ghost use mathlib.Core.Path.{_≡_};
 ghost use lib.ListN.{drop};
 ghost use Rattle.meaning.specs.Bytes.{has, starts};
@@ -44,16 +46,16 @@ pub fn is_enclosed(text: &[u8], at: usize, mark: u8) -> bool
 }
 
 // [`string_literal_embeds_nul`] Whether a text holds a raw NUL.
-// Rules out: another byte looked for; the last byte not looked at (must-fail: first_of_each, second_of_each).
+// Rules out: another byte looked for; the answers exchanged (must-fail: first_of_each, second_of_each).
 pub fn string_literal_embeds_nul(text: &[u8]) -> bool
     ensures { λ r. ⌜ r ≡ has 0 (now (text .entry)) ⌝ }
 {
-    let mut i: usize = 0;
-    while i < text.len() {
-        if text[i] == 0 {
-            return true;
-        }
-        i += 1;
-    }
-    false
+    !is_free(
+        text,
+        Stops {
+            first: 0,
+            second: 0,
+            third: 0,
+        },
+    )
 }

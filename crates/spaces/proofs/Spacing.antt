@@ -1,15 +1,19 @@
 -- White space at a place, by the number of the character there; and a loop that steps from one white-space character to the next. Assumes nothing.
 use mathlib.Core.Path.{_≡_, refl, ap, sym, _∙_}
-use mathlib.Core.Bool.{Bool, true, false}
+use mathlib.Core.Bool.{Bool, true, false, _&&_}
 use mathlib.Core.List.{List, [], _∷_}
 use Prim.Native.Nat.{ℕ, zero, suc, _+_, _-_, _≤_, _<_}
 use native.Mathlib.Omega.{arith}
+use native.Mathlib.Decide.{decLt}
+use lib.Dec.{leb}
 use lib.ListN.{length, drop, getD, length-drop, drop-of-length-le}
 use lib.Seq.{drop-cons, drop-drop}
-use Rattle.meaning.specs.Bytes.{if_then_else_}
+use Rattle.meaning.specs.Bytes.{if_then_else_, within}
 use Rattle.meaning.specs.Chars.{Due, due, broken, lead, width, widthBy, isSpace, space, spaceAt}
 use Rattle.meaning.specs.Steps.{spaceStep, spaceBy, gap}
 use Rattle.laws.proofs.Walks.{FitsIn}
+use Rattle.laws.proofs.Tests.{within-below, within-above}
+use Rattle.laws.proofs.Utf8.{low-lead}
 use Rattle.laws.proofs.Gaps.{no-space, space-fits}
 use Rattle.laws.proofs.Courses.{SoFar, so-far-none, so-far-give, size-here, size-end}
 use Rattle.scalars.specs.Scalars.{scalarBy, scalarOf}
@@ -80,3 +84,49 @@ module _ {text : List ℕ} {at i : ℕ} (v : Spacing text at i) where
           above = omega (arith, v .above);
           far = so-far-give (v .far) j [] (i + suc j - at) (omega (arith, length-drop at text, v .above)) s (omega (arith, v .above));
         }
+
+-- AN ASCII BYTE
+module _ (b : ℕ) where
+  pub ascii-controls : (leb 9 b && leb b 13) ≡ true → _≡_ {A = ℕ} 1 (if isSpace b then 1 else 0)
+  unfolding isSpace within
+  ascii-controls h = rw h
+
+  pub ascii-blank : b ≡ 32 → _≡_ {A = ℕ} 1 (if isSpace b then 1 else 0)
+  unfolding isSpace within
+  ascii-blank e = rw e
+
+  not-blank : (b ≡ 32 → ⊥) → within 0x20 0x20 b ≡ false
+  not-blank n = go (decLt b 32)
+    where
+      go : Dec (b < 32) → within 0x20 0x20 b ≡ false
+      go (yes p) = within-below 0x20 0x20 b p
+      go (no p) = within-above 0x20 0x20 b (omega arith)
+
+  not-controls : (leb 9 b && leb b 13) ≡ false → within 0x9 0xD b ≡ false
+  unfolding within
+  not-controls h = h
+
+  not-space : b < 0x80 → (leb 9 b && leb b 13) ≡ false → (b ≡ 32 → ⊥) → isSpace b ≡ false
+  unfolding isSpace
+  not-space l h n =
+      rw (
+        not-controls h,
+        not-blank n,
+        within-below 0x85 0x85 b (omega arith),
+        within-below 0xA0 0xA0 b (omega arith),
+        within-below 0x1680 0x1680 b (omega arith),
+        within-below 0x2000 0x200A b (omega arith),
+        within-below 0x2028 0x2029 b (omega arith),
+        within-below 0x202F 0x202F b (omega arith),
+        within-below 0x205F 0x205F b (omega arith),
+        within-below 0x3000 0x3000 b (omega arith),
+      )
+
+  pub ascii-solid : b < 0x80 → (leb 9 b && leb b 13) ≡ false → (b ≡ 32 → ⊥) → _≡_ {A = ℕ} 0 (if isSpace b then 1 else 0)
+  ascii-solid l h n = rw (not-space l h n)
+
+pub space-ascii : (text : List ℕ) (at : ℕ) → at < length text → getD text at 0 < 0x80 → (r : ℕ) → r ≡ (if isSpace (getD text at 0) then 1 else 0)
+    → r ≡ space (drop at text)
+space-ascii text at h l r e =
+    let z : getD text at 0 - 0 ≡ getD text at 0 = omega arith in
+    e ∙ sym (ap space (drop-cons text at 0 h) ∙ rw (low-lead (getD text at 0) l, z))

@@ -2,7 +2,9 @@
 use scalars::reading::scalar_at;
 use scalars::reading::utf8_width;
 ghost use mathlib.Core.Path.{_≡_};
+ghost use Prim.Native.Nat.{_<_};
 ghost use lib.ListN.{drop};
+ghost use Rattle.meaning.specs.Bytes.{if_then_else_};
 ghost use Rattle.meaning.specs.Chars.{isSpace, space};
 ghost use Rattle.meaning.specs.Steps.{gap};
 
@@ -52,7 +54,21 @@ pub fn is_white_space(scalar: u32) -> bool
     false
 }
 
-// How many bytes the white-space character at a place has; 0 if none stands there.
+// How many bytes an ASCII byte has as white space: one, or none.
+fn ascii_space(byte: u8) -> usize
+    requires { ⌜ byte < 0x80 ⌝ }
+    ensures { λ r. ⌜ r ≡ (if isSpace byte then 1 else 0) ⌝ }
+{
+    if (9 <= byte) & (byte <= 13) {
+        return 1;
+    }
+    if byte == 32 {
+        return 1;
+    }
+    0
+}
+
+// How many bytes the white-space character at a place has; 0 if none stands there. Most gaps are ASCII, and no number is made of that.
 // Rules out: the character at the start asked, or its width told (must-fail: start_asked, width_of_the_start).
 pub fn space_at(text: &[u8], at: usize) -> usize
     ensures { λ r. ⌜ r ≡ space (drop at (now (text .entry))) ⌝ }
@@ -60,8 +76,12 @@ pub fn space_at(text: &[u8], at: usize) -> usize
     if text.len() <= at {
         return 0;
     }
+    let byte = text[at];
+    if byte < 0x80 {
+        return ascii_space(byte);
+    }
     if is_white_space(scalar_at(text, at)) {
-        return utf8_width(text[at]);
+        return utf8_width(byte);
     }
     0
 }

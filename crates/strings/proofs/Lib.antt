@@ -7,3 +7,4 @@ pub mod Lexemes
 pub mod Cuts
 pub mod Joinings
 pub mod Wholes
+pub mod Plains

@@ -1,20 +1,21 @@
 -- The writing pass over a body by the pieces that are read: a law for a turn and for the end, as the code counts. Assumes nothing.
-use mathlib.Core.Path.{_≡_, ap, sym}
+use mathlib.Core.Path.{_≡_, refl, ap, sym}
 use mathlib.Core.List.{List, _++_}
-use Prim.Native.Nat.{ℕ, suc, _+_, _-_, _≤_, _<_}
+use Prim.Native.Nat.{ℕ, _+_, _-_, _≤_, _<_}
 use native.Mathlib.Omega.{arith}
 use lib.ListN.{length, take, drop, length-take, length-drop}
-use Rattle.meaning.specs.Bytes.{_!_}
+use Rattle.meaning.specs.Bytes.{span}
 use Rattle.meaning.specs.Walk.{walk}
-use Rattle.laws.proofs.Courses.{Goes}
-use Rattle.laws.proofs.Passes.{course-same, Writing, Roomy, course-roomy, writing-goes, writing-room, writing-turn, writing-end}
+use Rattle.laws.proofs.Courses.{Taken}
+use Rattle.laws.proofs.Passes.{course-same, Writing, Roomy, course-roomy, writing-goes, taken-room, taken-turn, writing-end}
+use Rattle.leaves.specs.Blocks.{freeOf}
 use Rattle.leaves.specs.Puts.{Puts}
 use Rattle.leaves.proofs.Putting.{puts-room}
 use Rattle.escapes.specs.declared.pieces.Piece.{Piece}
 use Rattle.escapes.specs.declared.units.Family.{Family}
-use Rattle.escapes.specs.Pieces.{meaningOf, moreOf, bytesOf, IsBy}
-use Rattle.escapes.specs.Families.{stepOf, checks, courseOf}
-use Rattle.escapes.proofs.Turns.{steady, piece-taken, piece-stands, fits}
+use Rattle.escapes.specs.Pieces.{meaningOf, moreBy, isKeep, bytesOf, IsBy}
+use Rattle.escapes.specs.Families.{stepOf, stopsOf, checks, courseOf}
+use Rattle.escapes.proofs.Turns.{steady, turn-taken}
 use Rattle.strings.specs.Rooms.{Room, Written}
 
 -- WRITING into a buffer that held d
@@ -28,28 +29,22 @@ module _ (f : Family) (e l d : List ℕ) (room : Room (courseOf f e l) (length d
       let c = sym (course-same (checks f) (walk (stepOf f e) 0 l) (room .goes)) in
       record { answer = rw c at (s .0); buffer = rw c at (s .1) }
 
-  module _ (h : at < length l) (p : Piece) (i : IsBy e p (stepOf f e (drop at l))) where
-    goes : Goes (meaningOf e p)
-    goes = writing-goes w roomy (steady f e) (meaningOf e p) h (sym (i .means))
+  module _ (h : at < length l) (p : Piece) (i : IsBy e p (stepOf f e (drop at l))) (k : ℕ) (ek : k ≡ moreBy p (span (freeOf (stopsOf f e)) (drop (at + 1) l))) where
+    abbrev own : List ℕ
+    own = bytesOf p (take (at + 1 + k - at) (drop at l)) e
 
-    pub written-fits : (at + suc (moreOf p) ≤ length l) × (n + length (bytesOf p (l ! at) e) ≤ length out)
-    written-fits =
-        let r = rw (piece-stands e p (l ! at)) at (writing-room w roomy (steady f e) (meaningOf e p) h (sym (i .means))) in
-        (fits f e l at h p i goes .0, omega (arith, r, w .same))
+    took : Taken (w .so-far) own (isKeep p) (at + 1 + k)
+    took = turn-taken f e l (w .so-far) h p i (writing-goes w roomy (steady f e) (meaningOf e p) h (sym (i .means))) k ek (at + 1 + k) refl
 
-    -- the unit's bytes were put into the buffer's part from n on
-    module _ (r : ℕ) (last : List ℕ) (q : Puts (bytesOf p (l ! at) e) (take (length out - n) (drop n out)) r last) where
-      pub written-answer : r ≡ length (bytesOf p (l ! at) e)
+    pub written-fits : (at + 1 + k ≤ length l) × (n + length own ≤ length out)
+    written-fits = (took .next .inside, omega (arith, taken-room w roomy own (isKeep p) (at + 1 + k) took, w .same))
+
+    -- the turn's bytes were put into the buffer's part from n on
+    module _ (r : ℕ) (last : List ℕ) (q : Puts own (take (length out - n) (drop n out)) r last) where
+      pub written-answer : r ≡ length own
       written-answer =
-          let k : length (bytesOf p (l ! at) e) ≤ length (take (length out - n) (drop n out)) =
-          rw (length-take, length-drop) (omega (arith, written-fits .1)) in
-          puts-room q k
+          let m : length own ≤ length (take (length out - n) (drop n out)) = rw (length-take, length-drop) (omega (arith, written-fits .1)) in
+          puts-room q m
 
-      pub written-turn : (j : ℕ) → j ≡ moreOf p
-          → Writing (stepOf f e) l d (take n out ++ (last ++ drop (length out - n) (drop n out))) (at + (1 + j)) (n + r)
-      written-turn j ej =
-          writing-turn w roomy (steady f e) (meaningOf e p) h (sym (i .means)) (at + (1 + j)) (n + r) (bytesOf p (l ! at) e) last
-          (piece-stands e p (l ! at))
-          (omega (arith, piece-taken e p goes, ej))
-          (ap (n +_) (sym written-answer))
-          (q .buffer)
+      pub written-turn : Writing (stepOf f e) l d (take n out ++ (last ++ drop (length out - n) (drop n out))) (at + 1 + k) (n + r)
+      written-turn = taken-turn w roomy own (isKeep p) (at + 1 + k) took (n + r) last (ap (n +_) (sym written-answer)) (q .buffer)

@@ -3,12 +3,15 @@
 use crate::one::One;
 use crate::one::measure_one;
 use crate::one::write_one;
+use crate::plain::is_plain;
+use crate::plain::next_segment;
 use cutting::cursor::Cursor;
 use cutting::cursor::Next;
 use cutting::segments::Segment;
 use cutting::segments::first_segment;
 use leaves::bytes::byte_at;
 use leaves::names::is_mark;
+use leaves::puts::put_bytes;
 use meaning::Read;
 use meaning::Settings;
 use spaces::gap_at;
@@ -40,6 +43,10 @@ fn is_joined(text: &[u8], settings: Settings) -> bool
 fn segment_length(text: &[u8], settings: Settings) -> Joined
     ensures { λ r. ⌜ r ≡ lengthOf (alone settings (now (text .entry))) ⌝ }
 {
+    if is_plain(text, settings) {
+        let len = text.len() - 2;
+        return Joined::Length(len);
+    }
     match measure_one(text, settings) {
         One::Borrowed { from, until } => Joined::Length(until - from),
         One::Written { len } => Joined::Length(len),
@@ -55,7 +62,7 @@ fn measure_joined(text: &[u8], settings: Settings) -> Joined
     let mut cursor = Cursor::new();
     let mut n: usize = 0;
     loop {
-        match cursor.next(text, settings) {
+        match next_segment(cursor, text, settings) {
             Next::Segment {
                 start,
                 open: _,
@@ -82,6 +89,18 @@ fn measure_joined(text: &[u8], settings: Settings) -> Joined
     }
 }
 
+// Writes what one segment means, for which there is room, and says how long it is; a plain one is copied.
+fn write_segment(text: &[u8], settings: Settings, out: &mut [u8]) -> usize
+    requires { ⌜ Holds (alone settings (now text)) (length (now out)) ⌝ }
+    ensures { λ r. ⌜ Put (alone settings (now (text .entry))) (now (out .entry)) r (now (out .exit)) ⌝ }
+{
+    if is_plain(text, settings) {
+        let end = text.len() - 1;
+        return put_bytes(&text[1..end], out);
+    }
+    write_one(text, settings, out)
+}
+
 // Writes joined text, for which there is room: the tail of the buffer is lent on to each segment.
 fn write_joined(text: &[u8], settings: Settings, out: &mut [u8]) -> usize
     requires { ⌜ Holds (joined settings (cut settings (now text))) (length (now out)) ⌝ }
@@ -90,14 +109,14 @@ fn write_joined(text: &[u8], settings: Settings, out: &mut [u8]) -> usize
     let mut cursor = Cursor::new();
     let mut n: usize = 0;
     loop {
-        match cursor.next(text, settings) {
+        match next_segment(cursor, text, settings) {
             Next::Segment {
                 start,
                 open: _,
                 end,
                 next,
             } => {
-                n += write_one(&text[start..end], settings, &mut out[n..]);
+                n += write_segment(&text[start..end], settings, &mut out[n..]);
                 cursor = next;
             }
             Next::End => {
@@ -110,9 +129,9 @@ fn write_joined(text: &[u8], settings: Settings, out: &mut [u8]) -> usize
     }
 }
 
-// Reads a string's text: a part of it, so many bytes at the buffer's start, the place where reading stops, or the length for which there is no room.
+// Reads any string's text: joined, or as one.
 // Rules out: writing before a later segment refuses; a made-up length (must-fail: length_one_short, written_too_early).
-pub fn read_string(text: &[u8], settings: Settings, out: &mut [u8]) -> Read
+fn read_any(text: &[u8], settings: Settings, out: &mut [u8]) -> Read
     ensures { λ r. ⌜ Reads (read settings (now (text .entry))) (now (out .entry)) r (now (out .exit)) ⌝ }
 {
     if is_joined(text, settings) {
@@ -140,4 +159,16 @@ pub fn read_string(text: &[u8], settings: Settings, out: &mut [u8]) -> Read
         }
         One::Refused { place } => Read::Refused { place },
     }
+}
+
+// Reads a string's text: a part of it, so many bytes at the buffer's start, the place where reading stops, or the length for which there is no room.
+// Rules out: a plain body shown with its mark, or from its mark on (must-fail: plain_from_its_mark, plain_with_its_mark).
+pub fn read_string(text: &[u8], settings: Settings, out: &mut [u8]) -> Read
+    ensures { λ r. ⌜ Reads (read settings (now (text .entry))) (now (out .entry)) r (now (out .exit)) ⌝ }
+{
+    if is_plain(text, settings) {
+        let until = text.len() - 1;
+        return Read::Borrowed { from: 1, until };
+    }
+    read_any(text, settings, out)
 }

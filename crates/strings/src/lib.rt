@@ -2,4 +2,5 @@
 pub mod ident;
 pub mod joined;
 pub mod one;
+mod plain;
 mod writing;

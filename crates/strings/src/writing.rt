@@ -1,7 +1,8 @@
 // Writes a body's value: one pass for every family, into room that measuring found.
 use escapes::pieces::Piece;
-use escapes::pieces::piece_more;
+use escapes::pieces::turn_more;
 use escapes::units::Family;
+use escapes::units::run_stops;
 use escapes::units::unit_at;
 use leaves::puts::put_bytes;
 use scalars::encoding::encode_utf8;
@@ -12,13 +13,14 @@ ghost use Rattle.escapes.specs.Pieces.{bytesOf, Sound};
 ghost use Rattle.escapes.specs.Families.{courseOf};
 ghost use Rattle.strings.specs.Rooms.{Room, Written};
 
-// Puts the bytes that a unit stands for at the buffer's start, and says how many; where there is no room it puts nothing and says 0.
-fn put_piece(piece: Piece, byte: u8, escape: &[u8], out: &mut [u8]) -> usize
+// Puts the bytes that a turn stands for at the buffer's start, and says how many; where there is no room it puts nothing and says 0. A run that stands for
+// itself is one copy.
+fn put_piece(piece: Piece, part: &[u8], escape: &[u8], out: &mut [u8]) -> usize
     requires { ⌜ Sound piece ⌝ }
-    ensures { λ r. ⌜ Puts (bytesOf piece byte (now (escape .entry))) (now (out .entry)) r (now (out .exit)) ⌝ }
+    ensures { λ r. ⌜ Puts (bytesOf piece (now (part .entry)) (now (escape .entry))) (now (out .entry)) r (now (out .exit)) ⌝ }
 {
     match piece {
-        Piece::Keep => put_byte(byte, out),
+        Piece::Keep => put_bytes(part, out),
         Piece::Byte {
             more: _,
             byte: value,
@@ -62,12 +64,14 @@ pub(crate) fn write(body: &[u8], family: Family, escape: &[u8], out: &mut [u8]) 
     requires { ⌜ Room (courseOf family (now escape) (now body)) (length (now out)) ⌝ }
     ensures { λ r. ⌜ Written (courseOf family (now (escape .entry)) (now (body .entry))) (now (out .entry)) r (now (out .exit)) ⌝ }
 {
+    let stops = run_stops(family, escape);
     let mut at: usize = 0;
     let mut n: usize = 0;
     while at < body.len() {
         let piece = unit_at(body, at, family, escape);
-        n += put_piece(piece, body[at], escape, &mut out[n..]);
-        at += 1 + piece_more(piece);
+        let end = at + 1 + turn_more(piece, body, at + 1, stops);
+        n += put_piece(piece, &body[at..end], escape, &mut out[n..]);
+        at = end;
     }
     n
 }

@@ -1,3 +1,4 @@
-pub mod Ascii
+pub mod AsciiRuns
+pub mod Characters
 pub mod Pushing
 pub mod States

@@ -6,18 +6,21 @@ use native.Mathlib.Omega.{arith}
 use lib.ListN.{length}
 use Rattle.meaning.specs.Steps.{closingStep}
 use Rattle.laws.proofs.Courses.{SoFar, so-far-none}
-use Rattle.cutting.proofs.Closes.{turn-hidden, turn-doubled, turn-other, out-hidden, out-lone, out-end}
+use Rattle.cutting.proofs.Closes.{run-fits, turn-hidden, turn-doubled, turn-other, out-hidden, out-lone, out-end}
 use Rattle.cutting.proofs.marks.closing_mark.Statement.{statement}
 use Rattle.cutting.proofs.marks.closing_mark.Tie as tie
 
 abbrev Inv-loop : tie.InvT-loop
-Inv-loop body hides quote at₀ at = SoFar (closingStep hides quote) body at
+Inv-loop body hides quote stops at₀ at = SoFar (closingStep hides quote) body at
 
 abbrev μ-loop : tie.MeasureT-loop
-μ-loop body hides quote at₀ at = length body - at
+μ-loop body hides quote stops at₀ at = length body - at
 
 mark-byte-requires : tie.Need-mark-byte-requires Inv-loop μ-loop
 mark-byte-requires c κs = search needs
+
+closing-stops-requires : tie.Need-closing-stops-requires Inv-loop μ-loop
+closing-stops-requires c κs = search needs
 
 loop-holds : tie.Need-loop-holds Inv-loop μ-loop
 loop-holds c = so-far-none _ _
@@ -56,13 +59,23 @@ loop-less-2 : tie.Need-loop-less-2 Inv-loop μ-loop
 loop-less-2 c = omega arith
 
 loop-again-2 : tie.Need-loop-again-2 Inv-loop μ-loop
-loop-again-2 c = search turn-doubled
+loop-again-2 c =
+    turn-doubled _ _ _ _ (c .before .before .before .before .before .loop-test .taken) (c .before .before .before .before .before .before .loop .inv) (c .before .before .before .before .before .before .before .before .before .before .args .mark) (c .before .before .before .before .before .before .before .before .mark-byte .ensures) (c .before .before .before .if1 .left) (c .before .before .if3 .taken) _ (c .before .byte-at .ensures) (c .if4 .left)
+
+add-free-run : tie.Need-add-free-run Inv-loop μ-loop
+add-free-run c = omega arith
+
+free-run-requires : tie.Need-free-run-requires Inv-loop μ-loop
+free-run-requires c κs = search needs
 
 add-at-3 : tie.Need-add-at-3 Inv-loop μ-loop
-add-at-3 c = omega arith
+add-at-3 c = let f = run-fits _ _ _ _ (c .before .before .before .before .loop-test .taken) _ (c .before .before .before .before .before .before .closing-stops .ensures) _ (c .free-run .ensures) (c .before .before .if1 .left) (c .before .if3 .left) in omega (arith, f)
+
+add-at-4 : tie.Need-add-at-4 Inv-loop μ-loop
+add-at-4 c = let f = run-fits _ _ _ _ (c .before .before .before .before .loop-test .taken) _ (c .before .before .before .before .before .before .closing-stops .ensures) _ (c .free-run .ensures) (c .before .before .if1 .left) (c .before .if3 .left) in omega (arith, f)
 
 loop-less-3 : tie.Need-loop-less-3 Inv-loop μ-loop
-loop-less-3 c = omega arith
+loop-less-3 c = let f = run-fits _ _ _ _ (c .before .before .before .before .loop-test .taken) _ (c .before .before .before .before .before .before .closing-stops .ensures) _ (c .free-run .ensures) (c .before .before .if1 .left) (c .before .if3 .left) in omega (arith, f)
 
 loop-again-3 : tie.Need-loop-again-3 Inv-loop μ-loop
 loop-again-3 c = search turn-other
@@ -77,6 +90,7 @@ closing-mark-spec =
     Inv-loop
     μ-loop
     mark-byte-requires
+    closing-stops-requires
     loop-holds
     shared-slice-read-byte
     sub-if2
@@ -90,7 +104,10 @@ closing-mark-spec =
     add-at-2
     loop-less-2
     loop-again-2
+    add-free-run
+    free-run-requires
     add-at-3
+    add-at-4
     loop-less-3
     loop-again-3
     returns-3)

@@ -21,8 +21,8 @@ new-requires c κs = search needs
 loop-holds : tie.Need-loop-holds Inv-loop μ-loop
 loop-holds c = search joins-start
 
-next-requires : tie.Need-next-requires Inv-loop μ-loop
-next-requires c κs = search needs
+next-segment-requires : tie.Need-next-segment-requires Inv-loop μ-loop
+next-segment-requires c κs = search needs
 
 enum-known-start : tie.Need-enum-known-start Inv-loop μ-loop
 enum-known-start c = search needs
@@ -86,7 +86,7 @@ measure-joined-spec =
     μ-loop
     new-requires
     loop-holds
-    next-requires
+    next-segment-requires
     enum-known-start
     sub-segment-length
     part-segment-length-start

@@ -20,34 +20,34 @@ new-requires c κs = search needs
 loop-holds : tie.Need-loop-holds Inv-loop μ-loop
 loop-holds c = search writes-start
 
-next-requires : tie.Need-next-requires Inv-loop μ-loop
-next-requires c κs = search needs
+next-segment-requires : tie.Need-next-segment-requires Inv-loop μ-loop
+next-segment-requires c κs = search needs
 
 enum-known-start : tie.Need-enum-known-start Inv-loop μ-loop
 enum-known-start c = search needs
 
-sub-write-one : tie.Need-sub-write-one Inv-loop μ-loop
-sub-write-one c = search segment-ordered
+sub-write-segment : tie.Need-sub-write-segment Inv-loop μ-loop
+sub-write-segment c = search segment-ordered
 
-part-write-one-start : tie.Need-part-write-one-start Inv-loop μ-loop
-part-write-one-start c = search segment-ordered
+part-write-segment-start : tie.Need-part-write-segment-start Inv-loop μ-loop
+part-write-segment-start c = search segment-ordered
 
-part-write-one-end : tie.Need-part-write-one-end Inv-loop μ-loop
-part-write-one-end c = search segment-inside
+part-write-segment-end : tie.Need-part-write-segment-end Inv-loop μ-loop
+part-write-segment-end c = search segment-inside
 
-sub-write-one-2 : tie.Need-sub-write-one-2 Inv-loop μ-loop
-sub-write-one-2 c = search writes-within
+sub-write-segment-2 : tie.Need-sub-write-segment-2 Inv-loop μ-loop
+sub-write-segment-2 c = search writes-within
 
-part-write-one-start-2 : tie.Need-part-write-one-start-2 Inv-loop μ-loop
-part-write-one-start-2 c = search writes-within
+part-write-segment-start-2 : tie.Need-part-write-segment-start-2 Inv-loop μ-loop
+part-write-segment-start-2 c = search writes-within
 
-part-write-one-end-2 : tie.Need-part-write-one-end-2 Inv-loop μ-loop
-part-write-one-end-2 c = search needs
+part-write-segment-end-2 : tie.Need-part-write-segment-end-2 Inv-loop μ-loop
+part-write-segment-end-2 c = search needs
 
-write-one-requires : tie.Need-write-one-requires Inv-loop μ-loop
-write-one-requires c κs = search segment-holds
+write-segment-requires : tie.Need-write-segment-requires Inv-loop μ-loop
+write-segment-requires c κs = search segment-holds
 
-fits : (c : tie.After-slice-known2 Inv-loop μ-loop) → c .before .before .before .before .before .before .before .before .before .loop .n + c .before .before .write-one .result ≤ length (c .before .before .before .before .before .before .before .before .before .loop .out)
+fits : (c : tie.After-slice-known2 Inv-loop μ-loop) → c .before .before .before .before .before .before .before .before .before .loop .n + c .before .before .write-segment .result ≤ length (c .before .before .before .before .before .before .before .before .before .loop .out)
 fits c = search writes-fits
 
 add-n : tie.Need-add-n Inv-loop μ-loop
@@ -85,15 +85,15 @@ write-joined-spec =
     μ-loop
     new-requires
     loop-holds
-    next-requires
+    next-segment-requires
     enum-known-start
-    sub-write-one
-    part-write-one-start
-    part-write-one-end
-    sub-write-one-2
-    part-write-one-start-2
-    part-write-one-end-2
-    write-one-requires
+    sub-write-segment
+    part-write-segment-start
+    part-write-segment-end
+    sub-write-segment-2
+    part-write-segment-start-2
+    part-write-segment-end-2
+    write-segment-requires
     add-n
     loop-less
     loop-again

@@ -8,14 +8,14 @@ use Rattle.strings.proofs.writing.put_piece.Tie as tie
 enum-told : tie.Need-enum-told
 enum-told c = search needs
 
-put-byte-requires : tie.Need-put-byte-requires
-put-byte-requires c κs = search needs
+put-bytes-requires : tie.Need-put-bytes-requires
+put-bytes-requires c κs = search needs
 
 enum-known-piece : tie.Need-enum-known-piece
 enum-known-piece c = search needs
 
-put-byte-requires-2 : tie.Need-put-byte-requires-2
-put-byte-requires-2 c κs = search needs
+put-byte-requires : tie.Need-put-byte-requires
+put-byte-requires c κs = search needs
 
 enum-known-piece-2 : tie.Need-enum-known-piece-2
 enum-known-piece-2 c = search needs
@@ -32,8 +32,8 @@ encode-utf8-requires c κs = search needs
 enum-told-2 : tie.Need-enum-told-2
 enum-told-2 c = search needs
 
-put-bytes-requires : tie.Need-put-bytes-requires
-put-bytes-requires c κs = search needs
+put-bytes-requires-2 : tie.Need-put-bytes-requires-2
+put-bytes-requires-2 c κs = search needs
 
 enum-told-3 : tie.Need-enum-told-3
 enum-told-3 c = search needs
@@ -42,13 +42,13 @@ same-length : tie.Need-same-length
 same-length c = search needs
 
 returns : tie.Need-returns
-returns c = rw (c .before .before .before .before .enum-told .given .1) (c .before .before .put-byte .ensures)
+returns c = rw (c .before .before .before .before .enum-told .given .1) (c .before .before .put-bytes .ensures)
 
 same-length-2 : tie.Need-same-length-2
 same-length-2 c = search needs
 
 returns-2 : tie.Need-returns-2
-returns-2 c = rw (c .before .before .before .before .before .piece .given .1) (c .before .before .put-byte2 .ensures)
+returns-2 c = rw (c .before .before .before .before .before .piece .given .1) (c .before .before .put-byte .ensures)
 
 same-length-3 : tie.Need-same-length-3
 same-length-3 c = search needs
@@ -62,13 +62,13 @@ same-length-4 c = search needs
 returns-4 : tie.Need-returns-4
 returns-4 c =
     rw (c .before .before .before .before .before .piece3 .given .1)
-    (puts-encoded _ _ _ _ (rw (c .before .before .before .before .before .piece3 .given .1) at (c .before .before .before .before .before .before .before .before .before .pre)) (c .before .before .encode-utf8 .ensures))
+    (puts-encoded _ _ _ _ (rw (c .before .before .before .before .before .piece3 .given .1) at (c .before .before .before .before .before .before .before .before .before .before .pre)) (c .before .before .encode-utf8 .ensures))
 
 same-length-5 : tie.Need-same-length-5
 same-length-5 c = search needs
 
 returns-5 : tie.Need-returns-5
-returns-5 c = rw (c .before .before .before .before .enum-told2 .given .1) (c .before .before .put-bytes .ensures)
+returns-5 c = rw (c .before .before .before .before .enum-told2 .given .1) (c .before .before .put-bytes2 .ensures)
 
 returns-6 : tie.Need-returns-6
 returns-6 c = rw (c .enum-told3 .given .1) (puts-nothing _)
@@ -78,15 +78,15 @@ put-piece-spec =
     tie.close
     (tie.spec
     enum-told
-    put-byte-requires
+    put-bytes-requires
     enum-known-piece
-    put-byte-requires-2
+    put-byte-requires
     enum-known-piece-2
     put-two-requires
     enum-known-piece-3
     encode-utf8-requires
     enum-told-2
-    put-bytes-requires
+    put-bytes-requires-2
     enum-told-3
     same-length
     returns

@@ -1,0 +1,85 @@
+// A string in ' that holds no other mark and nothing that could be an escape: most names are. One scan tells, and its body is the value.
+use cutting::cursor::Cursor;
+use cutting::cursor::Next;
+use leaves::blocks::Stops;
+use leaves::blocks::is_free;
+use leaves::blocks::plain_run;
+use leaves::bytes::byte_at;
+use leaves::texts::is_enclosed;
+use meaning::Settings;
+use spaces::gap_at;
+ghost use mathlib.Core.Path.{_≡_};
+ghost use lib.ListN.{drop};
+ghost use Rattle.cutting.specs.Segments.{nextOf};
+ghost use Rattle.strings.specs.Plain.{stopsOf, isPlain, PlainAt};
+
+// The bytes that such a body may not hold: the mark, with the setting on the backslash, and NUL.
+fn plain_stops(settings: Settings) -> Stops
+    ensures { λ r. ⌜ r ≡ stopsOf settings ⌝ }
+{
+    if settings.backslash {
+        return Stops {
+            first: 39,
+            second: 92,
+            third: 0,
+        };
+    }
+    Stops {
+        first: 39,
+        second: 39,
+        third: 0,
+    }
+}
+
+// Whether a text is such a string.
+// Rules out: a mark in the body not seen; one mark taken for both; an escape taken for plain.
+pub(crate) fn is_plain(text: &[u8], settings: Settings) -> bool
+    ensures { λ r. ⌜ r ≡ isPlain settings (now (text .entry)) ⌝ }
+{
+    if !is_enclosed(text, 0, 39) {
+        return false;
+    }
+    let until = text.len() - 1;
+    is_free(&text[1..until], plain_stops(settings))
+}
+
+// How many bytes the plain segment at a place has, with its marks; 0 if none stands there. What is plain here is plain at either setting.
+fn plain_segment(text: &[u8], at: usize) -> usize
+    ensures { λ r. ⌜ PlainAt (drop at (now (text .entry))) r ⌝ }
+{
+    if text.len() <= at {
+        return 0;
+    }
+    if text[at] != 39 {
+        return 0;
+    }
+    let from = at + 1;
+    let run = plain_run(text, from);
+    let close = from + run;
+    if byte_at(text, close) != 39 {
+        return 0;
+    }
+    if byte_at(text, close + 1) == 39 {
+        return 0;
+    }
+    run + 2
+}
+
+// What stands at a cursor: a plain segment is found by one scan.
+pub(crate) fn next_segment(cursor: Cursor, text: &[u8], settings: Settings) -> Next
+    ensures { λ r. ⌜ r ≡ nextOf settings (now (text .entry)) (cursor .at) ⌝ }
+{
+    let at = cursor.at;
+    let len = plain_segment(text, at);
+    if len == 0 {
+        return cursor.next(text, settings);
+    }
+    let end = at + len;
+    let next = end + gap_at(text, end);
+    Next::Segment {
+        start: at,
+        open: 1,
+        end,
+        next: Cursor { at: next },
+    }
+}
