@@ -18,7 +18,7 @@ pub fn shown<'a>(text: &'a [u8], out: &'a [u8], answer: Read) -> &'a [u8]
 }
 
 // A part of a slice, empty where it does not fit.
-// Rules out: a part that ends past the slice; one that begins behind its end (must-fail: first_of_each, second_of_each).
+// Rules out: every part that fits shown empty; a part that ends past the slice (must-fail: first_of_each, second_of_each).
 pub fn part_of(bytes: &[u8], from: usize, until: usize) -> &[u8]
     ensures { λ r. ⌜ now r ≡ partShown from until (now (bytes .entry)) ⌝ }
 {
