@@ -134,6 +134,9 @@ module _ (p : ℕ → Bool) (t : List ℕ) (at : ℕ) where
     pub past-fits : (x : Bool) → x ≡ passes p 8 (drop i t) → x ≡ true → i + 8 ≤ length t
     past-fits x e y = omega (arith, v .inside, passes-inside p 8 (drop i t) (sym e ∙ y), length-drop i t)
 
+    pub past-block : (n : ℕ) → n ≤ length t - i → (x : Bool) → x ≡ passes p n (drop i t) → not x ≡ false → Past p t at (i + n)
+    past-block n h x e y = further n h (sym e ∙ not-false x y)
+
     pub past-eight : (x : Bool) → x ≡ passes p 8 (drop i t) → x ≡ true → Past p t at (i + 8)
     past-eight x e y = further 8 (omega (arith, past-fits x e y)) (sym e ∙ y)
 

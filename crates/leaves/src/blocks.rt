@@ -21,7 +21,7 @@ fn is_other(byte: u8, stops: Stops) -> bool
 }
 
 // 1 for yes, 0 for no: what is counted.
-// Rules out: the answers exchanged; 0 for both (must-fail: first_of_each, second_of_each).
+// Rules out: the answers exchanged; 0 for both (must-fail: no_digit_in_tag, only_digits_in_tag).
 pub fn one_if(test: bool) -> u8
     ensures { λ r. ⌜ r ≡ (if test then 1 else 0) ⌝ }
 {
@@ -29,7 +29,7 @@ pub fn one_if(test: bool) -> u8
 }
 
 // Whether none of the three is among n bytes from a place on. The bytes are counted: a count is compiled to one vector test, a chain of tests is not.
-// Rules out: a block that skips its last byte (must-fail: only_digits_in_tag).
+// Rules out: a block that skips its last byte (must-fail: block_without_its_last_byte).
 fn is_free_block(text: &[u8], at: usize, n: usize, stops: Stops) -> bool
     requires { ⌜ (at + n ≤ length (now text)) × (n ≤ 32) ⌝ }
     ensures { λ r. ⌜ r ≡ passes (freeOf stops) n (drop at (now (text .entry))) ⌝ }
@@ -44,7 +44,7 @@ fn is_free_block(text: &[u8], at: usize, n: usize, stops: Stops) -> bool
 }
 
 // Whether none of the three is in a text of n bytes or more, by blocks of n.
-// Rules out: a byte between two blocks passed over; a last block that begins too late (must-fail: no_digit_in_tag).
+// Rules out: a byte between two blocks passed over; a last block that begins too late (must-fail: byte_between_blocks).
 fn is_free_by(text: &[u8], n: usize, stops: Stops) -> bool
     requires { ⌜ (0 < n) × (n ≤ length (now text)) × (n ≤ 32) ⌝ }
     ensures { λ r. ⌜ r ≡ passes (freeOf stops) (length (now (text .entry))) (now (text .entry)) ⌝ }
@@ -135,7 +135,10 @@ fn past_plain(text: &[u8], at: usize) -> usize
         third: 0,
     };
     let mut i = at;
-    while is_free_eight(text, i, stops) {
+    while 8 <= text.len() - i {
+        if !is_free_block(text, i, 8, stops) {
+            return i;
+        }
         i += 8;
     }
     i

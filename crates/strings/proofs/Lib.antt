@@ -8,3 +8,4 @@ pub mod Cuts
 pub mod Joinings
 pub mod Wholes
 pub mod Plains
+pub mod Firsts

@@ -13,12 +13,12 @@ use Rattle.strings.specs.declared.one.One.the-variants as One′
 use Rattle.strings.specs.Answers.{oneOf, Holds, valueIn, Put}
 
 -- what a measure says of an answer
-of-borrowed : (a : Answer) (f u : ℕ) → oneOf a ≡ One′.Borrowed f u → a ≡ borrowed f u
+pub of-borrowed : (a : Answer) (f u : ℕ) → oneOf a ≡ One′.Borrowed f u → a ≡ borrowed f u
 of-borrowed (borrowed g w) f u h = cc
 of-borrowed (written v) f u h = let z : _≡_ {A = ℕ} 0 1 = cc in absurd (omega arith)
 of-borrowed (refused p) f u h = let z : _≡_ {A = ℕ} 0 1 = cc in absurd (omega arith)
 
-of-written : (a : Answer) (n : ℕ) → oneOf a ≡ One′.Written n → (v : List ℕ) × (a ≡ written v) × (length v ≡ n)
+pub of-written : (a : Answer) (n : ℕ) → oneOf a ≡ One′.Written n → (v : List ℕ) × (a ≡ written v) × (length v ≡ n)
 of-written (borrowed g w) n h = let z : _≡_ {A = ℕ} 0 1 = cc in absurd (omega arith)
 of-written (written v) n h = (v, refl, cc)
 of-written (refused p) n h = let z : _≡_ {A = ℕ} 0 1 = cc in absurd (omega arith)

@@ -7,6 +7,7 @@ use crate::plain::is_plain;
 use crate::plain::next_segment;
 use cutting::cursor::Cursor;
 use cutting::cursor::Next;
+use cutting::marks::Mark;
 use cutting::segments::Segment;
 use cutting::segments::first_segment;
 use leaves::bytes::byte_at;
@@ -15,9 +16,13 @@ use leaves::puts::put_bytes;
 use meaning::Read;
 use meaning::Settings;
 use spaces::gap_at;
+use spellings::spelling::is_unicode_lexeme;
+ghost use mathlib.Core.Bool.{false};
 ghost use mathlib.Core.Path.{_≡_};
 ghost use lib.ListN.{length};
+ghost use Rattle.meaning.specs.Bytes.{quote};
 ghost use Rattle.meaning.specs.Cutting.{cut, continues};
+ghost use Rattle.meaning.specs.Spelling.{isUnicode};
 ghost use Rattle.meaning.specs.Reading.{alone, joined, read};
 ghost use Rattle.meaning.specs.Reads.{Reads};
 ghost use Rattle.strings.specs.Answers.{lengthOf, Holds, Put};
@@ -161,6 +166,24 @@ fn read_any(text: &[u8], settings: Settings, out: &mut [u8]) -> Read
     }
 }
 
+// Reads a text that has no U&: what can be read as one is not joined, so it is measured as one first.
+fn read_one(text: &[u8], settings: Settings, out: &mut [u8]) -> Read
+    requires { ⌜ isUnicode quote (now text) ≡ false ⌝ }
+    ensures { λ r. ⌜ Reads (read settings (now (text .entry))) (now (out .entry)) r (now (out .exit)) ⌝ }
+{
+    match measure_one(text, settings) {
+        One::Borrowed { from, until } => Read::Borrowed { from, until },
+        One::Written { len } => {
+            if out.len() < len {
+                return Read::NoRoom { needed: len };
+            }
+            write_one(text, settings, out);
+            Read::Written { len }
+        }
+        One::Refused { place: _ } => read_any(text, settings, out),
+    }
+}
+
 // Reads a string's text: a part of it, so many bytes at the buffer's start, the place where reading stops, or the length for which there is no room.
 // Rules out: a plain body shown with its mark, or from its mark on (must-fail: plain_from_its_mark, plain_with_its_mark).
 pub fn read_string(text: &[u8], settings: Settings, out: &mut [u8]) -> Read
@@ -170,5 +193,8 @@ pub fn read_string(text: &[u8], settings: Settings, out: &mut [u8]) -> Read
         let until = text.len() - 1;
         return Read::Borrowed { from: 1, until };
     }
-    read_any(text, settings, out)
+    if is_unicode_lexeme(text, Mark::Quote) {
+        return read_any(text, settings, out);
+    }
+    read_one(text, settings, out)
 }

@@ -1,11 +1,11 @@
 -- `leaves::blocks::past_plain` meets its contract. The loop's invariant, `Past`: the bytes up to i are none of the three. The measure is what is left of the length.
 -- Assumes nothing.
 use Prim.Native.Nat.{_-_}
-use lib.ListN.{length}
-use Rattle.leaves.specs.Blocks.{freeOf, plainStops, Past}
-use Rattle.leaves.proofs.Scans.{past-none, past-fits, past-eight}
 use borrow.Author.Needs.{needs}
 use native.Mathlib.Omega.{arith}
+use lib.ListN.{length}
+use Rattle.leaves.specs.Blocks.{freeOf, plainStops, Past}
+use Rattle.leaves.proofs.Scans.{past-none, past-block}
 use Rattle.leaves.proofs.blocks.past_plain.Statement.{statement}
 use Rattle.leaves.proofs.blocks.past_plain.Tie as tie
 
@@ -18,20 +18,26 @@ abbrev μ-loop : tie.MeasureT-loop
 loop-holds : tie.Need-loop-holds Inv-loop μ-loop
 loop-holds c = search past-none
 
-is-free-eight-requires : tie.Need-is-free-eight-requires Inv-loop μ-loop
-is-free-eight-requires c κs = search needs
+sub-loop : tie.Need-sub-loop Inv-loop μ-loop
+sub-loop c = omega arith
 
-add-i : tie.Need-add-i Inv-loop μ-loop
-add-i c = let f = past-fits _ _ _ _ (c .before .before .loop .inv) _ (c .before .is-free-eight .ensures) (c .if1 .taken) in omega (arith, f)
-
-loop-less : tie.Need-loop-less Inv-loop μ-loop
-loop-less c = let f = past-fits _ _ _ _ (c .before .before .loop .inv) _ (c .before .is-free-eight .ensures) (c .if1 .taken) in omega (arith, f)
-
-loop-again : tie.Need-loop-again Inv-loop μ-loop
-loop-again c = search past-eight
+is-free-block-requires : tie.Need-is-free-block-requires Inv-loop μ-loop
+is-free-block-requires c κs = omega arith
 
 returns : tie.Need-returns Inv-loop μ-loop
 returns c = search needs
 
+add-i : tie.Need-add-i Inv-loop μ-loop
+add-i c = omega arith
+
+loop-less : tie.Need-loop-less Inv-loop μ-loop
+loop-less c = omega arith
+
+loop-again : tie.Need-loop-again Inv-loop μ-loop
+loop-again c = search past-block
+
+returns-2 : tie.Need-returns-2 Inv-loop μ-loop
+returns-2 c = search needs
+
 pub past-plain-spec : {M : Type 1} → statement M
-past-plain-spec = tie.close (tie.spec Inv-loop μ-loop loop-holds is-free-eight-requires add-i loop-less loop-again returns)
+past-plain-spec = tie.close (tie.spec Inv-loop μ-loop loop-holds sub-loop is-free-block-requires returns add-i loop-less loop-again returns-2)

@@ -1,7 +1,8 @@
 -- `strings::joined::read_string` meets its contract: a plain body is borrowed, and any other text is read. Assumes nothing.
+use mathlib.Core.Path.{sym, _∙_}
+use Rattle.strings.proofs.Plains.{plain-long, plain-borrowed}
 use borrow.Author.Needs.{needs}
 use native.Mathlib.Omega.{arith}
-use Rattle.strings.proofs.Plains.{plain-long, plain-borrowed}
 use Rattle.strings.proofs.joined.read_string.Statement.{statement}
 use Rattle.strings.proofs.joined.read_string.Tie as tie
 
@@ -14,6 +15,9 @@ sub-until c = let h = plain-long _ _ _ (c .before .is-plain .ensures) (c .if1 .t
 returns : tie.Need-returns
 returns c = search plain-borrowed
 
+is-unicode-lexeme-requires : tie.Need-is-unicode-lexeme-requires
+is-unicode-lexeme-requires c κs = search needs
+
 read-any-requires : tie.Need-read-any-requires
 read-any-requires c κs = search needs
 
@@ -23,5 +27,26 @@ same-length c = search needs
 returns-2 : tie.Need-returns-2
 returns-2 c = search needs
 
+read-one-requires : tie.Need-read-one-requires
+read-one-requires c κs = sym (c .before .before .is-unicode-lexeme .ensures) ∙ c .before .if2 .left
+
+same-length-2 : tie.Need-same-length-2
+same-length-2 c = search needs
+
+returns-3 : tie.Need-returns-3
+returns-3 c = search needs
+
 pub read-string-spec : {M : Type 1} → statement M
-read-string-spec = tie.close (tie.spec is-plain-requires sub-until returns read-any-requires same-length returns-2)
+read-string-spec =
+    tie.close
+    (tie.spec
+    is-plain-requires
+    sub-until
+    returns
+    is-unicode-lexeme-requires
+    read-any-requires
+    same-length
+    returns-2
+    read-one-requires
+    same-length-2
+    returns-3)
