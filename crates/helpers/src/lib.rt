@@ -45,7 +45,7 @@ fn is_readable(body: &[u8], family: Family, escape: &[u8]) -> bool
     }
 }
 
-// Whether an E string can be read, its body going from the first quote mark to the last. Yes for text outside this spelling.
+// Whether an E string's body, from the first quote mark to the last, has only good escapes and no lone mark. Yes for text outside this spelling. It can differ from reading.
 // Rules out: " taken for its mark; a body whose expansion alone is UTF-8 (must-fail: bytes_pass, wrong_texts).
 pub fn postgres_escape_string_is_valid(text: &[u8]) -> bool
     ensures { λ r. ⌜ r ≡ escapeValid (now (text .entry)) ⌝ }
@@ -59,7 +59,7 @@ pub fn postgres_escape_string_is_valid(text: &[u8]) -> bool
     utf8 & is_readable(&text[2..until], Family::Escape, text)
 }
 
-// Whether a U& string can be read by its escape character. Yes for text outside this spelling, a bad UESCAPE clause included.
+// Whether a U& string's body has only good escapes by its escape character. Yes for text outside this spelling, a bad UESCAPE clause included.
 // Rules out: an identifier judged for a string; bytes that aren't UTF-8 passed (must-fail: bytes_pass, wrong_texts).
 pub fn unicode_escape_string_is_valid(text: &[u8]) -> bool
     ensures { λ r. ⌜ r ≡ unicodeValid (now (text .entry)) ⌝ }
