@@ -5,3 +5,5 @@ pub mod Encodings
 pub mod Running
 pub mod UnitLaws
 pub mod Turns
+pub mod Standards
+pub mod Pairs

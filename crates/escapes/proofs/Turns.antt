@@ -64,10 +64,14 @@ module _ (m s b : ℕ) (f : freeOf (record { first = m; second = s; third = m })
   unfolding freeOf
   not-second = not-true (eqb b s) (and-right (not (eqb b m)) (not (eqb b s)) (and-left (not (eqb b m) && not (eqb b s)) (not (eqb b m)) f))
 
+pub standard-keeps : (m : Mark) (bs : Bool) (e : List ℕ) → KeepsAll (freeOf (stopsOf (Standard m bs) e)) (stepOf (Standard m bs) e)
+unfolding stopsOf
+standard-keeps m true e c u f = rw (not-second (markOf m) backslash c f, not-mark (markOf m) backslash c f)
+standard-keeps m false e c u f = rw (not-mark (markOf m) (markOf m) c f)
+
 keeps-all : (f : Family) (e : List ℕ) (b : ℕ) (t : List ℕ) → stepOf f e (b ∷ t) ≡ keep → KeepsAll (freeOf (stopsOf f e)) (stepOf f e)
 unfolding stopsOf doubled uescaped
-keeps-all (Standard m true) e b t h c u f = rw (not-second (markOf m) backslash c f, not-mark (markOf m) backslash c f)
-keeps-all (Standard m false) e b t h c u f = rw (not-mark (markOf m) (markOf m) c f)
+keeps-all (Standard m bs) e b t h c u f = standard-keeps m bs e c u f
 keeps-all Escape e b t h c u f = rw (not-second quote backslash c f, not-mark quote backslash c f)
 keeps-all (Unicode m) [] b t h c u f = absurd (none (eqb b (markOf m)) (eqb (t ! 0) (markOf m)) h)
   where

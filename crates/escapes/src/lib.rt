@@ -3,4 +3,5 @@
 mod digits;
 pub mod measuring;
 pub mod pieces;
+pub mod standard;
 pub mod units;

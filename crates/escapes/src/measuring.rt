@@ -5,6 +5,7 @@ use crate::pieces::is_keep;
 use crate::pieces::piece_len;
 use crate::pieces::piece_tail;
 use crate::pieces::turn_more;
+use crate::standard::measure_front;
 use crate::units::Family;
 use crate::units::run_stops;
 use crate::units::unit_at;
@@ -54,10 +55,11 @@ pub fn measure(body: &[u8], family: Family, escape: &[u8]) -> Measured
 {
     let checked = is_checked(family);
     let stops = run_stops(family, escape);
+    let front = measure_front(body, family, escape);
     let mut tail = Utf8Tail::Start;
-    let mut plain = true;
-    let mut at: usize = 0;
-    let mut n: usize = 0;
+    let mut plain = front.plain;
+    let mut at = front.at;
+    let mut n = front.n;
     while at < body.len() {
         let piece = unit_at(body, at, family, escape);
         if let Piece::Refused = piece {

@@ -82,7 +82,8 @@ pub fn is_free(text: &[u8], stops: Stops) -> bool
 }
 
 // Whether eight bytes from a place on are there, and none of them is one of the three.
-fn is_free_eight(text: &[u8], at: usize, stops: Stops) -> bool
+// Rules out: a block at the text's start asked; bytes behind the end taken for free (must-fail: block_at_the_start, block_past_the_end).
+pub fn is_free_eight(text: &[u8], at: usize, stops: Stops) -> bool
     ensures { λ r. ⌜ r ≡ passes (freeOf stops) 8 (drop at (now (text .entry))) ⌝ }
 {
     if text.len() < 8 {

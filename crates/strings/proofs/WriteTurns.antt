@@ -1,12 +1,12 @@
 -- The writing pass over a body by the pieces that are read: a law for a turn and for the end, as the code counts. Assumes nothing.
-use mathlib.Core.Path.{_≡_, refl, ap, sym}
+use mathlib.Core.Path.{_≡_, refl, ap, sym, _∙_}
 use mathlib.Core.List.{List, _++_}
 use Prim.Native.Nat.{ℕ, _+_, _-_, _≤_, _<_}
 use native.Mathlib.Omega.{arith}
-use lib.ListN.{length, take, drop, length-take, length-drop}
+use lib.ListN.{length, take, drop, length-take, length-drop, length-append}
 use Rattle.meaning.specs.Bytes.{span}
-use Rattle.meaning.specs.Walk.{walk}
-use Rattle.laws.proofs.Courses.{Taken}
+use Rattle.meaning.specs.Walk.{Trace, walk, value}
+use Rattle.laws.proofs.Courses.{Taken, value-graft}
 use Rattle.laws.proofs.Passes.{course-same, Writing, Roomy, course-roomy, writing-goes, taken-room, taken-turn, writing-end}
 use Rattle.leaves.specs.Blocks.{freeOf}
 use Rattle.leaves.specs.Puts.{Puts}
@@ -22,6 +22,15 @@ use Rattle.strings.specs.Rooms.{Room, Written}
 module _ (f : Family) (e l d : List ℕ) (room : Room (courseOf f e l) (length d)) {out : List ℕ} {at n : ℕ} (w : Writing (stepOf f e) l d out at n) where
   roomy : Roomy (walk (stepOf f e) 0 l) (length d)
   roomy = course-roomy (checks f) (walk (stepOf f e) 0 l) (length d) (room .goes) (room .fits)
+
+  -- what is written so far is a part of all
+  pub written-front : n ≤ length (value (courseOf f e l))
+  written-front =
+      let s = w .so-far in
+      let q = walk (stepOf f e) 0 (drop at l) in
+      let v = ap (λ (t : Trace). length (value t)) (s .rest) ∙ ap length (value-graft (s .course) q (s .goes)) ∙ length-append (value (s .course)) (value q) in
+      let m : n ≤ length (value (walk (stepOf f e) 0 l)) = omega (arith, v, w .counted) in
+      rw (course-same (checks f) (walk (stepOf f e) 0 l) (room .goes)) m
 
   pub written-end : length l ≤ at → Written (courseOf f e l) d n out
   written-end h =

@@ -3,4 +3,5 @@ pub mod ident;
 pub mod joined;
 pub mod one;
 mod plain;
+mod standard;
 mod writing;

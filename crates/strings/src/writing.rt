@@ -1,4 +1,5 @@
 // Writes a body's value: one pass for every family, into room that measuring found.
+use crate::standard::write_front;
 use escapes::pieces::Piece;
 use escapes::pieces::turn_more;
 use escapes::units::Family;
@@ -65,8 +66,9 @@ pub(crate) fn write(body: &[u8], family: Family, escape: &[u8], out: &mut [u8]) 
     ensures { λ r. ⌜ Written (courseOf family (now (escape .entry)) (now (body .entry))) (now (out .entry)) r (now (out .exit)) ⌝ }
 {
     let stops = run_stops(family, escape);
-    let mut at: usize = 0;
-    let mut n: usize = 0;
+    let front = write_front(body, family, escape, out);
+    let mut at = front.at;
+    let mut n = front.n;
     while at < body.len() {
         let piece = unit_at(body, at, family, escape);
         let end = at + 1 + turn_more(piece, body, at + 1, stops);

@@ -10,7 +10,7 @@ use denote.Ref.{now}
 use lib.ListN.{length, take, drop, length-take}
 use types.Run.{miss}
 use Rattle.meaning.specs.Bytes.{span}
-use Rattle.laws.proofs.Passes.{Measuring, measuring-none, measuring-unfinished, measuring-end}
+use Rattle.laws.proofs.Passes.{Measuring, measuring-unfinished, measuring-end}
 use Rattle.leaves.specs.Blocks.{freeOf}
 use Rattle.utf8.specs.declared.tail.Utf8Tail.the-variants.{Broken}
 use Rattle.utf8.specs.Tails.{dueOf}
@@ -35,16 +35,16 @@ not-broken : (c : tie.At-match2-keys2 Inv-loop μ-loop) → c .before .next-tail
 not-broken c q = miss (0 ∷ 1 ∷ 2 ∷ 3 ∷ 4 ∷ 5 ∷ 6 ∷ 7 ∷ []) 8 tt (rw q at (c .match2 .keys2))
 
 -- what it takes behind its first byte, by the family's stops; and that this is there
-more : (c : tie.After-turn-more Inv-loop μ-loop) → let s = c .before .before .before .before .before .before .before .before .before .args in
+more : (c : tie.After-turn-more Inv-loop μ-loop) → let s = c .before .before .before .before .before .before .before .before .before .before .args in
     c .turn-more .result ≡ moreBy (c .before .before .unit-at .result) (span (freeOf (stopsOf (s .family) (now (s .escape)))) (drop (c .before .before .before .before .loop .at + 1) (now (s .body))))
 more c =
-    let s = c .before .before .before .before .before .before .before .before .before .args in
-    more-by (c .before .before .unit-at .result) (c .turn-more .result) (c .before .before .before .before .before .run-stops .result) (stopsOf (s .family) (now (s .escape))) (drop (c .before .before .before .before .loop .at + 1) (now (s .body))) (c .turn-more .ensures) (c .before .before .before .before .before .run-stops .ensures)
+    let s = c .before .before .before .before .before .before .before .before .before .before .args in
+    more-by (c .before .before .unit-at .result) (c .turn-more .result) (c .before .before .before .before .before .before .run-stops .result) (stopsOf (s .family) (now (s .escape))) (drop (c .before .before .before .before .loop .at + 1) (now (s .body))) (c .turn-more .ensures) (c .before .before .before .before .before .before .run-stops .ensures)
 
-fits : (c : tie.After-turn-more Inv-loop μ-loop) → c .before .before .before .before .loop .at + 1 + c .turn-more .result ≤ length (now (c .before .before .before .before .before .before .before .before .before .args .body))
+fits : (c : tie.After-turn-more Inv-loop μ-loop) → c .before .before .before .before .loop .at + 1 + c .turn-more .result ≤ length (now (c .before .before .before .before .before .before .before .before .before .before .args .body))
 fits c =
-    let s = c .before .before .before .before .before .before .before .before .before .args in
-    measured-fits (s .family) (now (s .escape)) (now (s .body)) _ (c .before .before .before .before .before .before .is-checked .ensures) (c .before .before .before .before .loop .tail) (c .before .before .before .before .loop .inv) (c .before .before .before .loop-test .taken) _ (c .before .before .unit-at .ensures) (not-refused (c .before)) _ (more c)
+    let s = c .before .before .before .before .before .before .before .before .before .before .args in
+    measured-fits (s .family) (now (s .escape)) (now (s .body)) _ (c .before .before .before .before .before .before .before .is-checked .ensures) (c .before .before .before .before .loop .tail) (c .before .before .before .before .loop .inv) (c .before .before .before .loop-test .taken) _ (c .before .before .unit-at .ensures) (not-refused (c .before)) _ (more c)
 
 is-checked-requires : tie.Need-is-checked-requires Inv-loop μ-loop
 is-checked-requires c κs = search needs
@@ -52,8 +52,11 @@ is-checked-requires c κs = search needs
 run-stops-requires : tie.Need-run-stops-requires Inv-loop μ-loop
 run-stops-requires c κs = search needs
 
+measure-front-requires : tie.Need-measure-front-requires Inv-loop μ-loop
+measure-front-requires c κs = search needs
+
 loop-holds : tie.Need-loop-holds Inv-loop μ-loop
-loop-holds c = measuring-none _ _ _
+loop-holds c = rw (c .before .before .is-checked .ensures) (c .measure-front .ensures)
 
 unit-at-requires : tie.Need-unit-at-requires Inv-loop μ-loop
 unit-at-requires c κs = search needs
@@ -63,8 +66,8 @@ enum-told c = search needs
 
 returns : tie.Need-returns Inv-loop μ-loop
 returns c =
-    let s = c .before .before .before .before .before .before .before .before .before .args in
-    measured-refused (s .family) (now (s .escape)) (now (s .body)) _ (c .before .before .before .before .before .before .is-checked .ensures) (c .before .before .before .before .loop .tail) (c .before .before .before .before .loop .inv) (c .before .before .before .loop-test .taken) _ (c .before .before .unit-at .ensures) (c .enum-told .given .1)
+    let s = c .before .before .before .before .before .before .before .before .before .before .args in
+    measured-refused (s .family) (now (s .escape)) (now (s .body)) _ (c .before .before .before .before .before .before .before .is-checked .ensures) (c .before .before .before .before .loop .tail) (c .before .before .before .before .loop .inv) (c .before .before .before .loop-test .taken) _ (c .before .before .unit-at .ensures) (c .enum-told .given .1)
 
 add-end : tie.Need-add-end Inv-loop μ-loop
 add-end c = omega arith
@@ -95,22 +98,22 @@ enum-told-2 c = search needs
 
 broken-at-requires : tie.Need-broken-at-requires Inv-loop μ-loop
 broken-at-requires c κs =
-    let s = c .before .before .before .before .before .before .before .before .before .before .before .before .before .args in
-    measured-breaks (s .family) (now (s .escape)) (now (s .body)) _ (c .before .before .before .before .before .before .before .before .before .before .is-checked .ensures) (c .before .before .before .before .before .before .before .before .loop .tail) (c .before .before .before .before .before .before .before .before .loop .inv) (c .before .before .before .before .before .before .before .loop-test .taken) _ (c .before .before .before .before .before .before .unit-at .ensures) (not-refused (c .before .before .before .before .before)) _ (more (c .before .before .before .before)) _ (c .before .before .next-tail .ensures) (c .enum-told2 .given .1)
+    let s = c .before .before .before .before .before .before .before .before .before .before .before .before .before .before .args in
+    measured-breaks (s .family) (now (s .escape)) (now (s .body)) _ (c .before .before .before .before .before .before .before .before .before .before .before .is-checked .ensures) (c .before .before .before .before .before .before .before .before .loop .tail) (c .before .before .before .before .before .before .before .before .loop .inv) (c .before .before .before .before .before .before .before .loop-test .taken) _ (c .before .before .before .before .before .before .unit-at .ensures) (not-refused (c .before .before .before .before .before)) _ (more (c .before .before .before .before)) _ (c .before .before .next-tail .ensures) (c .enum-told2 .given .1)
 
 add-place : tie.Need-add-place Inv-loop μ-loop
 add-place c =
     let t = c .before .before .before .before .before in
     let a = t .before .before .before .before .loop .at in
     let k = a + 1 + t .turn-more .result - a in
-    let l = drop a (now (c .before .before .before .before .before .before .before .before .before .before .before .before .before .before .args .body)) in
+    let l = drop a (now (c .before .before .before .before .before .before .before .before .before .before .before .before .before .before .before .args .body)) in
     let q = broken-inside (t .before .before .unit-at .result) (dueOf (t .before .before .before .before .loop .tail)) (take k l) _ (c .broken-at .ensures) in
-    omega (arith, fits t, q, length-take k l)
+    omega (arith, fits t, q, length-take k l, c .before .before .before .before .before .before .before .before .before .before .before .before .before .before .before .good .0 .0)
 
 returns-2 : tie.Need-returns-2 Inv-loop μ-loop
 returns-2 c =
-    let s = c .before .before .before .before .before .before .before .before .before .before .before .before .before .before .args in
-    measured-broken (s .family) (now (s .escape)) (now (s .body)) _ (c .before .before .before .before .before .before .before .before .before .before .before .is-checked .ensures) (c .before .before .before .before .before .before .before .before .before .loop .tail) (c .before .before .before .before .before .before .before .before .before .loop .inv) (c .before .before .before .before .before .before .before .before .loop-test .taken) _ (c .before .before .before .before .before .before .before .unit-at .ensures) (not-refused (c .before .before .before .before .before .before)) _ (more (c .before .before .before .before .before)) _ (c .before .before .before .next-tail .ensures) (c .before .enum-told2 .given .1) _ (c .broken-at .ensures)
+    let s = c .before .before .before .before .before .before .before .before .before .before .before .before .before .before .before .args in
+    measured-broken (s .family) (now (s .escape)) (now (s .body)) _ (c .before .before .before .before .before .before .before .before .before .before .before .before .is-checked .ensures) (c .before .before .before .before .before .before .before .before .before .loop .tail) (c .before .before .before .before .before .before .before .before .before .loop .inv) (c .before .before .before .before .before .before .before .before .loop-test .taken) _ (c .before .before .before .before .before .before .before .unit-at .ensures) (not-refused (c .before .before .before .before .before .before)) _ (more (c .before .before .before .before .before)) _ (c .before .before .before .next-tail .ensures) (c .before .enum-told2 .given .1) _ (c .broken-at .ensures)
 
 is-keep-requires : tie.Need-is-keep-requires Inv-loop μ-loop
 is-keep-requires c κs = search needs
@@ -120,37 +123,37 @@ piece-len-requires c κs = search needs
 
 add-n : tie.Need-add-n Inv-loop μ-loop
 add-n c =
-    let s = c .before .before .before .before .before .before .before .before .before .before .before .before .before .before .args in
-    let f = measured-room (s .family) (now (s .escape)) (now (s .body)) _ (c .before .before .before .before .before .before .before .before .before .before .before .is-checked .ensures) (c .before .before .before .before .before .before .before .before .before .loop .tail) (c .before .before .before .before .before .before .before .before .before .loop .inv) (c .before .before .before .before .before .before .before .before .loop-test .taken) _ (c .before .before .before .before .before .before .before .unit-at .ensures) (not-refused (c .before .before .before .before .before .before)) _ (more (c .before .before .before .before .before)) in
-    omega (arith, f, c .piece-len .ensures)
+    let s = c .before .before .before .before .before .before .before .before .before .before .before .before .before .before .before .args in
+    let f = measured-room (s .family) (now (s .escape)) (now (s .body)) _ (c .before .before .before .before .before .before .before .before .before .before .before .before .is-checked .ensures) (c .before .before .before .before .before .before .before .before .before .loop .tail) (c .before .before .before .before .before .before .before .before .before .loop .inv) (c .before .before .before .before .before .before .before .before .loop-test .taken) _ (c .before .before .before .before .before .before .before .unit-at .ensures) (not-refused (c .before .before .before .before .before .before)) _ (more (c .before .before .before .before .before)) in
+    omega (arith, f, c .piece-len .ensures, c .before .before .before .before .before .before .before .before .before .before .before .before .before .before .before .good .0 .0)
 
 loop-less : tie.Need-loop-less Inv-loop μ-loop
 loop-less c = omega (arith, fits (c .before .before .before .before .before))
 
 loop-again : tie.Need-loop-again Inv-loop μ-loop
 loop-again c =
-    let s = c .before .before .before .before .before .before .before .before .before .before .before .before .before .before .args in
-    measured-turn (s .family) (now (s .escape)) (now (s .body)) _ (c .before .before .before .before .before .before .before .before .before .before .before .is-checked .ensures) (c .before .before .before .before .before .before .before .before .before .loop .tail) (c .before .before .before .before .before .before .before .before .before .loop .inv) (c .before .before .before .before .before .before .before .before .loop-test .taken) _ (c .before .before .before .before .before .before .before .unit-at .ensures) (not-refused (c .before .before .before .before .before .before)) _ (more (c .before .before .before .before .before)) _ (c .before .before .before .next-tail .ensures) (not-broken (c .before .before)) _ (c .before .is-keep .ensures) _ (c .piece-len .ensures)
+    let s = c .before .before .before .before .before .before .before .before .before .before .before .before .before .before .before .args in
+    measured-turn (s .family) (now (s .escape)) (now (s .body)) _ (c .before .before .before .before .before .before .before .before .before .before .before .before .is-checked .ensures) (c .before .before .before .before .before .before .before .before .before .loop .tail) (c .before .before .before .before .before .before .before .before .before .loop .inv) (c .before .before .before .before .before .before .before .before .loop-test .taken) _ (c .before .before .before .before .before .before .before .unit-at .ensures) (not-refused (c .before .before .before .before .before .before)) _ (more (c .before .before .before .before .before)) _ (c .before .before .before .next-tail .ensures) (not-broken (c .before .before)) _ (c .before .is-keep .ensures) _ (c .piece-len .ensures)
 
 is-whole-requires : tie.Need-is-whole-requires Inv-loop μ-loop
 is-whole-requires c κs = search needs
 
 returns-3 : tie.Need-returns-3 Inv-loop μ-loop
 returns-3 c =
-    let s = c .before .before .before .before .before .before .before .before .args in
-    measured-stop (s .family) (now (s .escape)) (now (s .body)) _ (c .before .before .before .before .before .is-checked .ensures) _
+    let s = c .before .before .before .before .before .before .before .before .before .args in
+    measured-stop (s .family) (now (s .escape)) (now (s .body)) _ (c .before .before .before .before .before .before .is-checked .ensures) _
     (measuring-unfinished (c .before .before .before .loop .inv) (c .before .before .loop-test .left) (sym (c .before .is-whole .ensures) ∙ not-true _ (c .if1 .taken)))
 
 returns-4 : tie.Need-returns-4 Inv-loop μ-loop
 returns-4 c =
-    let s = c .before .before .before .before .before .before .before .before .before .args in
-    measured-plain (s .family) (now (s .escape)) (now (s .body)) _ (c .before .before .before .before .before .before .is-checked .ensures) _
+    let s = c .before .before .before .before .before .before .before .before .before .before .args in
+    measured-plain (s .family) (now (s .escape)) (now (s .body)) _ (c .before .before .before .before .before .before .before .is-checked .ensures) _
     (rw (c .if2 .taken) at (measuring-end (c .before .before .before .before .loop .inv) (c .before .before .before .loop-test .left) (sym (c .before .before .is-whole .ensures) ∙ not-false _ (c .before .if1 .left))))
 
 returns-5 : tie.Need-returns-5 Inv-loop μ-loop
 returns-5 c =
-    let s = c .before .before .before .before .before .before .before .before .before .args in
-    measured-length (s .family) (now (s .escape)) (now (s .body)) _ (c .before .before .before .before .before .before .is-checked .ensures) _
+    let s = c .before .before .before .before .before .before .before .before .before .before .args in
+    measured-length (s .family) (now (s .escape)) (now (s .body)) _ (c .before .before .before .before .before .before .before .is-checked .ensures) _
     (rw (c .if2 .left) at (measuring-end (c .before .before .before .before .loop .inv) (c .before .before .before .loop-test .left) (sym (c .before .before .is-whole .ensures) ∙ not-false _ (c .before .if1 .left))))
 
 pub measure-spec : {M : Type 1} → statement M
@@ -161,6 +164,7 @@ measure-spec =
     μ-loop
     is-checked-requires
     run-stops-requires
+    measure-front-requires
     loop-holds
     unit-at-requires
     enum-told

@@ -1,0 +1,189 @@
+-- `strings::standard::write_ahead` meets its contract. The loop's invariant, `Writing`: what the units so far stand for is at the buffer's start, and the rest
+-- is as it was. The measure is what is left of the body. Assumes nothing.
+use mathlib.Core.Path.{_≡_, sym, _∙_}
+use Prim.Native.Nat.{_+_, _-_, _≤_}
+use borrow.Author.Needs.{needs}
+use native.Mathlib.Omega.{arith}
+use denote.Ref.{now}
+use lib.ListN.{length}
+use Rattle.meaning.specs.Steps.{standardStep}
+use Rattle.laws.proofs.Passes.{Writing, writing-none}
+use Rattle.strings.proofs.WritePairs.{Goes, narrow, within, eight-inside, pair-written, eight-written}
+use Rattle.strings.proofs.standard.write_ahead.Statement.{statement}
+use Rattle.strings.proofs.standard.write_ahead.Tie as tie
+
+abbrev Inv-loop : tie.InvT-loop
+Inv-loop body backslash out₀ quote stops at₀ n₀ out at n = Writing (standardStep backslash quote) body out₀ out at n
+
+abbrev μ-loop : tie.MeasureT-loop
+μ-loop body backslash out₀ quote stops at₀ n₀ out at n = length body - at
+
+-- eight bytes are there; and the buffer's part from n on
+eight-in : (c : tie.Then1 Inv-loop μ-loop) → c .before .before .before .loop .at + 8 ≤ length (now (c .before .before .before .before .before .before .before .before .args .body))
+eight-in c = eight-inside _ _ _ (sym (c .before .is-free-eight .ensures) ∙ c .if1 .taken)
+
+in-out : (c : tie.Then1 Inv-loop μ-loop) → c .before .before .before .loop .n ≤ length (c .before .before .before .loop .out)
+in-out c =
+    let s = c .before .before .before .before .before .before .before .before .args in
+    within (s .mark) _ (c .before .before .before .before .before .mark-byte .ensures) (s .backslash) (now (s .body)) (now (s .out)) (c .before .before .before .before .before .before .before .before .pre) (c .before .before .before .loop .inv)
+
+-- where a turn leads
+eight : (c : tie.After-put-bytes Inv-loop μ-loop) → let s = c .before .before .before .before .before .before .before .before .before .before .before .args in let i = c .before .before .before .before .before .before .loop in
+    Goes (standardStep (s .backslash) (c .before .before .before .before .before .before .before .before .mark-byte .result)) (now (s .body)) (now (s .out)) (i .out) (i .at) (i .n) (i .at + 8) (c .put-bytes .result) (c .put-bytes .last .1 .0)
+eight c =
+    let s = c .before .before .before .before .before .before .before .before .before .before .before .args in
+    eight-written (s .mark) _ (c .before .before .before .before .before .before .before .before .mark-byte .ensures) (s .backslash) (now (s .body)) (now (s .out)) (c .before .before .before .before .before .before .before .before .before .before .before .pre) (c .before .before .before .before .before .before .loop .inv) (now (s .body)) _ (c .before .before .before .before .before .before .before .run-stops .ensures)
+    (sym (c .before .before .before .before .is-free-eight .ensures) ∙ c .before .before .before .if1 .taken) _ _ (c .put-bytes .ensures)
+
+pair : (c : tie.After-put-unit Inv-loop μ-loop) → let s = c .before .before .before .before .before .before .before .before .before .before .before .before .before .before .args in let i = c .before .before .before .before .before .before .before .before .before .loop in let u = c .before .before .before .standard-unit .result in
+    Goes (standardStep (s .backslash) (c .before .before .before .before .before .before .before .before .before .before .before .mark-byte .result)) (now (s .body)) (now (s .out)) (i .out) (i .at) (i .n) (i .at + (1 + u .more)) (c .put-unit .result) (c .put-unit .last .1 .0)
+pair c =
+    let s = c .before .before .before .before .before .before .before .before .before .before .before .before .before .before .args in
+    pair-written (s .mark) _ (c .before .before .before .before .before .before .before .before .before .before .before .mark-byte .ensures) (s .backslash) (now (s .body)) (now (s .out)) (c .before .before .before .before .before .before .before .before .before .before .before .before .before .before .pre) (c .before .before .before .before .before .before .before .before .before .loop .inv) _ (c .before .before .before .standard-unit .ensures)
+    (c .before .before .before .before .before .before .before .before .loop-test .taken) (c .before .before .if2 .left) _ _ (c .put-unit .ensures)
+
+mark-byte-requires : tie.Need-mark-byte-requires Inv-loop μ-loop
+mark-byte-requires c κs = search needs
+
+run-stops-requires : tie.Need-run-stops-requires Inv-loop μ-loop
+run-stops-requires c κs = search needs
+
+loop-holds : tie.Need-loop-holds Inv-loop μ-loop
+loop-holds c = writing-none _ _ _
+
+sub-loop : tie.Need-sub-loop Inv-loop μ-loop
+sub-loop c = c .loop .inv .so-far .inside
+
+is-free-eight-requires : tie.Need-is-free-eight-requires Inv-loop μ-loop
+is-free-eight-requires c κs = search needs
+
+add-put-bytes : tie.Need-add-put-bytes Inv-loop μ-loop
+add-put-bytes c = omega (arith, eight-in c)
+
+sub-put-bytes : tie.Need-sub-put-bytes Inv-loop μ-loop
+sub-put-bytes c = omega arith
+
+part-put-bytes-start : tie.Need-part-put-bytes-start Inv-loop μ-loop
+part-put-bytes-start c = omega (arith, eight-in c)
+
+part-put-bytes-end : tie.Need-part-put-bytes-end Inv-loop μ-loop
+part-put-bytes-end c = omega (arith, eight-in c)
+
+sub-put-bytes-2 : tie.Need-sub-put-bytes-2 Inv-loop μ-loop
+sub-put-bytes-2 c = in-out (c .before)
+
+part-put-bytes-start-2 : tie.Need-part-put-bytes-start-2 Inv-loop μ-loop
+part-put-bytes-start-2 c = omega (arith, in-out (c .before))
+
+part-put-bytes-end-2 : tie.Need-part-put-bytes-end-2 Inv-loop μ-loop
+part-put-bytes-end-2 c = omega (arith, in-out (c .before))
+
+put-bytes-requires : tie.Need-put-bytes-requires Inv-loop μ-loop
+put-bytes-requires c κs = search needs
+
+add-n : tie.Need-add-n Inv-loop μ-loop
+add-n c = omega (arith, eight (c .before .before) .room, c .before .before .before .before .before .before .before .before .loop .inv .same, c .before .before .before .before .before .before .before .before .before .before .before .before .before .good .1 .1 .1 .0 .0)
+
+add-at : tie.Need-add-at Inv-loop μ-loop
+add-at c = omega (arith, eight (c .before .before) .inside)
+
+loop-less : tie.Need-loop-less Inv-loop μ-loop
+loop-less c = omega (arith, eight (c .before .before) .inside)
+
+loop-again : tie.Need-loop-again Inv-loop μ-loop
+loop-again c = eight (c .before .before) .next
+
+shared-slice-read-standard-unit : tie.Need-shared-slice-read-standard-unit Inv-loop μ-loop
+shared-slice-read-standard-unit c = omega (arith, c .before .before .before .loop-test .taken)
+
+add-standard-unit : tie.Need-add-standard-unit Inv-loop μ-loop
+add-standard-unit c = omega (arith, c .before .before .before .loop-test .taken)
+
+shared-slice-read-standard-unit-2 : tie.Need-shared-slice-read-standard-unit-2 Inv-loop μ-loop
+shared-slice-read-standard-unit-2 c = omega (arith, c .before .before .before .before .loop-test .taken)
+
+standard-unit-requires : tie.Need-standard-unit-requires Inv-loop μ-loop
+standard-unit-requires c κs = search needs
+
+same-length : tie.Need-same-length Inv-loop μ-loop
+same-length c = c .before .before .before .before .before .before .before .loop .inv .same
+
+returns : tie.Need-returns Inv-loop μ-loop
+returns c = rw (sym (c .before .before .before .before .before .before .before .before .before .mark-byte .ensures)) (c .before .before .before .before .before .before .before .loop .inv)
+
+sub-put-unit : tie.Need-sub-put-unit Inv-loop μ-loop
+sub-put-unit c = 
+    let s = c .before .before .before .before .before .before .before .before .before .before .before .before .args in within (s .mark) _ (c .before .before .before .before .before .before .before .before .before .mark-byte .ensures) (s .backslash) (now (s .body)) (now (s .out)) (c .before .before .before .before .before .before .before .before .before .before .before .before .pre) (c .before .before .before .before .before .before .before .loop .inv)
+
+part-put-unit-start : tie.Need-part-put-unit-start Inv-loop μ-loop
+part-put-unit-start c = 
+    omega (arith, let s = c .before .before .before .before .before .before .before .before .before .before .before .before .args in within (s .mark) _ (c .before .before .before .before .before .before .before .before .before .mark-byte .ensures) (s .backslash) (now (s .body)) (now (s .out)) (c .before .before .before .before .before .before .before .before .before .before .before .before .pre) (c .before .before .before .before .before .before .before .loop .inv))
+
+part-put-unit-end : tie.Need-part-put-unit-end Inv-loop μ-loop
+part-put-unit-end c = 
+    omega (arith, let s = c .before .before .before .before .before .before .before .before .before .before .before .before .args in within (s .mark) _ (c .before .before .before .before .before .before .before .before .before .mark-byte .ensures) (s .backslash) (now (s .body)) (now (s .out)) (c .before .before .before .before .before .before .before .before .before .before .before .before .pre) (c .before .before .before .before .before .before .before .loop .inv))
+
+put-unit-requires : tie.Need-put-unit-requires Inv-loop μ-loop
+put-unit-requires c κs = search narrow
+
+add-n-2 : tie.Need-add-n-2 Inv-loop μ-loop
+add-n-2 c = omega (arith, pair (c .before .before) .room, c .before .before .before .before .before .before .before .before .before .before .before .loop .inv .same, c .before .before .before .before .before .before .before .before .before .before .before .before .before .before .before .before .good .1 .1 .1 .0 .0)
+
+add-at-2 : tie.Need-add-at-2 Inv-loop μ-loop
+add-at-2 c = omega (arith, pair (c .before .before) .inside)
+
+add-at-3 : tie.Need-add-at-3 Inv-loop μ-loop
+add-at-3 c = omega (arith, pair (c .before .before) .inside)
+
+loop-less-2 : tie.Need-loop-less-2 Inv-loop μ-loop
+loop-less-2 c = omega (arith, pair (c .before .before) .inside)
+
+loop-again-2 : tie.Need-loop-again-2 Inv-loop μ-loop
+loop-again-2 c = pair (c .before .before) .next
+
+same-length-2 : tie.Need-same-length-2 Inv-loop μ-loop
+same-length-2 c = c .before .loop .inv .same
+
+returns-2 : tie.Need-returns-2 Inv-loop μ-loop
+returns-2 c = rw (sym (c .before .before .before .mark-byte .ensures)) (c .before .loop .inv)
+
+pub write-ahead-spec : {M : Type 1} → statement M
+write-ahead-spec =
+    tie.close
+    (tie.spec
+    Inv-loop
+    μ-loop
+    mark-byte-requires
+    run-stops-requires
+    loop-holds
+    sub-loop
+    is-free-eight-requires
+    add-put-bytes
+    sub-put-bytes
+    part-put-bytes-start
+    part-put-bytes-end
+    sub-put-bytes-2
+    part-put-bytes-start-2
+    part-put-bytes-end-2
+    put-bytes-requires
+    add-n
+    add-at
+    loop-less
+    loop-again
+    shared-slice-read-standard-unit
+    add-standard-unit
+    shared-slice-read-standard-unit-2
+    standard-unit-requires
+    same-length
+    returns
+    sub-put-unit
+    part-put-unit-start
+    part-put-unit-end
+    put-unit-requires
+    add-n-2
+    add-at-2
+    add-at-3
+    loop-less-2
+    loop-again-2
+    same-length-2
+    returns-2)
