@@ -2,8 +2,9 @@
 use mathlib.Core.Path.{_≡_, refl, ap, sym, _∙_, subst}
 use mathlib.Core.Bool.{Bool, true, false, _&&_, and-true, false≢true}
 use mathlib.Core.List.{List, [], _∷_}
-use Prim.Native.Nat.{ℕ, zero, suc, _+_, _-_, _≤_, _<_}
+use Prim.Native.Nat.{ℕ, zero, suc, _+_, _-_, _%_, _≤_, _<_}
 use native.Mathlib.Omega.{arith}
+use borrow.Author.Tests.{ne-eqb}
 use lib.Dec.{eqb, ltb}
 use lib.ListN.{length, take, drop, length-drop}
 use lib.Seq.{drop-cons, getD-drop, length-take-le}
@@ -26,7 +27,7 @@ use Rattle.escapes.specs.declared.units.Family.the-variants.{Standard}
 use Rattle.escapes.specs.declared.standard.Ahead.{Ahead}
 use Rattle.escapes.specs.declared.standard.StandardUnit.{StandardUnit}
 use Rattle.escapes.specs.Families.{stepOf, checks, stopsOf}
-use Rattle.escapes.specs.Standard.{unitBy, standsFor}
+use Rattle.escapes.specs.Standard.{unitBy}
 use Rattle.escapes.proofs.Turns.{steady, standard-keeps}
 
 -- two bytes stand for themselves, or for one or two, or nothing may stand there
@@ -52,21 +53,20 @@ shaped bs q b c = go (bs && eqb b backslash) (ltb (byteOf mysqlTable c) 256) (ha
     go false w x true false = tt
     go false w x false z = tt
 
--- what is told of a step that goes on
-record Tells (b : ℕ) (s : Step) : Type 0 where
+-- what is told of a step that goes on; x says whether a backslash is active there
+record Tells (x : Bool) (b : ℕ) (s : Step) : Type 0 where
   goes : Goes s
-  takes : taken s ≡ 1 + unitBy b s .more
-  means : stands s b ≡ standsFor (unitBy b s)
-  kept : isKept s ≡ unitBy b s .keep
-  long : length (standsFor (unitBy b s)) ≡ 1 + unitBy b s .wide
+  takes : taken s ≡ 1 + unitBy x s .more
+  kept : isKept s ≡ unitBy x s .keep
+  long : length (stands s b) ≡ 1 + unitBy x s .wide
 
-tells : (b : ℕ) (s : Step) → Shaped s → unitBy b s .refused ≡ false → Tells b s
-tells b keep h r = record { goes = tt; takes = refl; means = refl; kept = refl; long = refl }
-tells b (give m []) h r = absurd h
-tells b (give m (x ∷ [])) h r = record { goes = tt; takes = omega arith; means = refl; kept = refl; long = refl }
-tells b (give m (x ∷ (y ∷ []))) h r = record { goes = tt; takes = omega arith; means = refl; kept = refl; long = refl }
-tells b (give m (x ∷ (y ∷ (z ∷ t)))) h r = absurd h
-tells b stop h r = absurd (false≢true (sym r))
+tells : (x : Bool) (b : ℕ) (s : Step) → Shaped s → unitBy x s .refused ≡ false → Tells x b s
+tells x b keep h r = record { goes = tt; takes = refl; kept = refl; long = refl }
+tells x b (give m []) h r = absurd h
+tells x b (give m (a ∷ [])) h r = record { goes = tt; takes = omega arith; kept = refl; long = refl }
+tells x b (give m (a ∷ (c ∷ []))) h r = record { goes = tt; takes = omega arith; kept = refl; long = refl }
+tells x b (give m (a ∷ (c ∷ (d ∷ t)))) h r = absurd h
+tells x b stop h r = absurd (false≢true (sym r))
 
 passes-each : (p : ℕ → Bool) (n : ℕ) (t : List ℕ) (j : ℕ) → passes p n t ≡ true → j < n → p (t ! j) ≡ true
 passes-each p zero t j h i = absurd (omega arith)
@@ -78,11 +78,14 @@ module _ (m : Mark) (q : ℕ) (eq : q ≡ markOf m) (bs : Bool) (l : List ℕ) w
   abbrev step : List ℕ → Step
   step = standardStep bs q
 
+  abbrev pub pairAt : ℕ → Step
+  pairAt at = step (l ! at ∷ l ! (at + 1) ∷ [])
+
   abbrev pub unitAt : ℕ → StandardUnit
-  unitAt at = unitBy (l ! at) (step (l ! at ∷ l ! (at + 1) ∷ []))
+  unitAt at = unitBy (bs && eqb (l ! at) 92) (pairAt at)
 
   -- what follows two bytes does not matter
-  here : (at : ℕ) → 1 < length l - at → step (drop at l) ≡ step (l ! at ∷ l ! (at + 1) ∷ [])
+  here : (at : ℕ) → 1 < length l - at → step (drop at l) ≡ pairAt at
   unfolding doubled
   here at h =
       let z : suc at ≡ at + 1 = omega arith in
@@ -90,13 +93,12 @@ module _ (m : Mark) (q : ℕ) (eq : q ≡ markOf m) (bs : Bool) (l : List ℕ) w
       ∙ ap (λ (i : ℕ). step (l ! at ∷ l ! i ∷ [])) z
 
   pub pair-taken : {at : ℕ} (s : SoFar step l at) (u : StandardUnit) → u ≡ unitAt at → 1 < length l - at → u .refused ≡ false
-      → Taken s (standsFor u) (u .keep) (at + (1 + u .more)) × (length (standsFor u) ≡ 1 + u .wide)
+      → Taken s (stands (pairAt at) (l ! at)) (u .keep) (at + (1 + u .more)) × (length (stands (pairAt at) (l ! at)) ≡ 1 + u .wide)
   pair-taken {at} s u e h r =
-      let w = step (l ! at ∷ l ! (at + 1) ∷ []) in
       let ok : Steady step = subst (λ (x : ℕ). Steady (standardStep bs x)) (sym eq) (steady (Standard m bs) []) in
-      let t = tells (l ! at) w (shaped bs q (l ! at) (l ! (at + 1))) (rw e at r) in
-      let k = unit-taken s ok w (omega arith) (here at h) (t .goes) (at + (1 + unitAt at .more)) (ap (at +_) (t .takes)) in
-      rw e (rw (t .means, t .kept) at k, t .long)
+      let t = tells (bs && eqb (l ! at) 92) (l ! at) (pairAt at) (shaped bs q (l ! at) (l ! (at + 1))) (rw e at r) in
+      let k = unit-taken s ok (pairAt at) (omega arith) (here at h) (t .goes) (at + (1 + unitAt at .more)) (ap (at +_) (t .takes)) in
+      rw e (rw (t .kept) at k, t .long)
 
   -- eight bytes none of which is one of the stops
   module _ (e : List ℕ) (st : Stops) (es : st ≡ stopsOf (Standard m bs) e) where
@@ -120,7 +122,7 @@ module _ (m : Mark) (q : ℕ) (eq : q ≡ markOf m) (bs : Bool) (l : List ℕ) w
         → Measuring step false l (at + (1 + u .more)) (n + (1 + u .wide)) (p && u .keep) fresh
     pair-measured u e h r =
         let t = pair-taken (v .so-far) u e h r in
-        measuring-turn v (standsFor u) (u .keep) (at + (1 + u .more)) (n + (1 + u .wide)) (p && u .keep) fresh (t .0) (ap (n +_) (t .1)) refl refl tt
+        measuring-turn v (stands (pairAt at) (l ! at)) (u .keep) (at + (1 + u .more)) (n + (1 + u .wide)) (p && u .keep) fresh (t .0) (ap (n +_) (t .1)) refl refl tt
 
     pub eight-measured : (e : List ℕ) (st : Stops) → st ≡ stopsOf (Standard m bs) e → passes (freeOf st) 8 (drop at l) ≡ true
         → Measuring step false l (at + 8) (n + 8) p fresh
@@ -135,3 +137,13 @@ front-none f e l r q = rw q (measuring-none (stepOf f e) (checks f) l)
 pub front-standard : (f : Family) (e l : List ℕ) (m : Mark) (bs : Bool) → f ≡ Standard m bs → (r : Ahead)
     → Measuring (standardStep bs (markOf m)) false l (r .at) (r .n) (r .plain) fresh → Measuring (stepOf f e) (checks f) l (r .at) (r .n) (r .plain) fresh
 front-standard f e l m bs q r v = rw q v
+
+-- every eighth place is looked at
+pub here-yes : (at : ℕ) (p : Bool) → at % 8 ≡ 0 → p ≡ (eqb (at % 8) 0 && p)
+here-yes at p h = rw h
+
+pub here-no : (at : ℕ) (p : Bool) → (at % 8 ≡ 0 → ⊥) → false ≡ (eqb (at % 8) 0 && p)
+here-no at p h = rw (ne-eqb (at % 8) 0 h)
+
+pub here-free : (at : ℕ) (p x : Bool) → x ≡ (eqb (at % 8) 0 && p) → x ≡ true → p ≡ true
+here-free at p x e h = and-right (eqb (at % 8) 0) p (sym e ∙ h)

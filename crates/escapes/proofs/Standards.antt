@@ -1,96 +1,60 @@
 -- What two bytes of a standard body tell is what its step says there. Assumes nothing.
 use mathlib.Core.Path.{_≡_, refl, ap, sym, _∙_}
 use mathlib.Core.Bool.{Bool, true, false, _&&_, _||_, not, or-false, false≢true}
-use mathlib.Core.List.{List, [], _∷_}
-use Prim.Native.Nat.{ℕ, zero, suc, _<_}
-use native.Mathlib.Omega.{arith}
-use borrow.Author.Tests.{eqb-true, eqb-false, not-true}
+use mathlib.Core.List.{[], _∷_}
+use Prim.Native.Nat.{ℕ}
+use borrow.Author.Tests.{eqb-true}
 use lib.Dec.{eqb, ltb}
-use lib.ListN.{getD}
 use Rattle.meaning.specs.Bytes.{if_then_else_, ascii, has}
-use Rattle.meaning.specs.Walk.{Step, keep, give, stop}
+use Rattle.meaning.specs.Walk.{keep, give, stop}
 use Rattle.meaning.specs.Steps.{byteOf, mysqlTable, mysql, doubled, standardStep}
-use Rattle.laws.proofs.Tests.{and-left, and-right}
 use Rattle.escapes.specs.declared.standard.StandardUnit.{StandardUnit}
 use Rattle.escapes.specs.Standard.{unitBy}
 
--- THE TABLE, looked at entry by entry
-abbrev letters : List ℕ
-letters =
-    0 ∷ 1 ∷ 2 ∷ 3 ∷ 4 ∷ 5 ∷ 6 ∷ 7 ∷ 8 ∷ 9 ∷ 10 ∷ 11 ∷ 12 ∷ 13 ∷ 14 ∷ 15 ∷ 16 ∷ 17 ∷ 18 ∷ 19 ∷ 20 ∷ 21 ∷ 22 ∷ 23 ∷ 24 ∷ 25 ∷ 26 ∷ 27 ∷ 28 ∷ 29 ∷ 30 ∷
-    31 ∷ 32 ∷ 33 ∷ 34 ∷ 35 ∷ 36 ∷ 37 ∷ 38 ∷ 39 ∷ 40 ∷ 41 ∷ 42 ∷ 43 ∷ 44 ∷ 45 ∷ 46 ∷ 47 ∷ 0 ∷ 49 ∷ 50 ∷ 51 ∷ 52 ∷ 53 ∷ 54 ∷ 55 ∷ 56 ∷ 57 ∷ 58 ∷ 59 ∷
-    60 ∷ 61 ∷ 62 ∷ 63 ∷ 64 ∷ 65 ∷ 66 ∷ 67 ∷ 68 ∷ 69 ∷ 70 ∷ 71 ∷ 72 ∷ 73 ∷ 74 ∷ 75 ∷ 76 ∷ 77 ∷ 78 ∷ 79 ∷ 80 ∷ 81 ∷ 82 ∷ 83 ∷ 84 ∷ 85 ∷ 86 ∷ 87 ∷ 88 ∷
-    89 ∷ 26 ∷ 91 ∷ 92 ∷ 93 ∷ 94 ∷ 95 ∷ 96 ∷ 97 ∷ 8 ∷ 99 ∷ 100 ∷ 101 ∷ 102 ∷ 103 ∷ 104 ∷ 105 ∷ 106 ∷ 107 ∷ 108 ∷ 109 ∷ 10 ∷ 111 ∷ 112 ∷ 113 ∷ 13 ∷
-    115 ∷ 9 ∷ 117 ∷ 118 ∷ 119 ∷ 120 ∷ 121 ∷ 122 ∷ 123 ∷ 124 ∷ 125 ∷ 126 ∷ 127 ∷ 128 ∷ 129 ∷ 130 ∷ 131 ∷ 132 ∷ 133 ∷ 134 ∷ 135 ∷ 136 ∷ 137 ∷ 138 ∷
-    139 ∷ 140 ∷ 141 ∷ 142 ∷ 143 ∷ 144 ∷ 145 ∷ 146 ∷ 147 ∷ 148 ∷ 149 ∷ 150 ∷ 151 ∷ 152 ∷ 153 ∷ 154 ∷ 155 ∷ 156 ∷ 157 ∷ 158 ∷ 159 ∷ 160 ∷ 161 ∷ 162 ∷
-    163 ∷ 164 ∷ 165 ∷ 166 ∷ 167 ∷ 168 ∷ 169 ∷ 170 ∷ 171 ∷ 172 ∷ 173 ∷ 174 ∷ 175 ∷ 176 ∷ 177 ∷ 178 ∷ 179 ∷ 180 ∷ 181 ∷ 182 ∷ 183 ∷ 184 ∷ 185 ∷ 186 ∷
-    187 ∷ 188 ∷ 189 ∷ 190 ∷ 191 ∷ 192 ∷ 193 ∷ 194 ∷ 195 ∷ 196 ∷ 197 ∷ 198 ∷ 199 ∷ 200 ∷ 201 ∷ 202 ∷ 203 ∷ 204 ∷ 205 ∷ 206 ∷ 207 ∷ 208 ∷ 209 ∷ 210 ∷
-    211 ∷ 212 ∷ 213 ∷ 214 ∷ 215 ∷ 216 ∷ 217 ∷ 218 ∷ 219 ∷ 220 ∷ 221 ∷ 222 ∷ 223 ∷ 224 ∷ 225 ∷ 226 ∷ 227 ∷ 228 ∷ 229 ∷ 230 ∷ 231 ∷ 232 ∷ 233 ∷ 234 ∷
-    235 ∷ 236 ∷ 237 ∷ 238 ∷ 239 ∷ 240 ∷ 241 ∷ 242 ∷ 243 ∷ 244 ∷ 245 ∷ 246 ∷ 247 ∷ 248 ∷ 249 ∷ 250 ∷ 251 ∷ 252 ∷ 253 ∷ 254 ∷ 255 ∷ []
+abbrev wild : ℕ → Bool
+wild c = eqb c 37 || eqb c 95
 
-abbrev every : (ℕ → Bool) → ℕ → Bool
-every p zero = true
-every p (suc n) = p n && every p n
-
-every-at : (p : ℕ → Bool) (n c : ℕ) → every p n ≡ true → c < n → p c ≡ true
-every-at p zero c e h = absurd (omega arith)
-every-at p (suc n) c e h = go (eqb c n) refl (λ l. every-at p n c (and-right (p n) (every p n) e) l)
+-- neither % nor _ is in the table of letters
+pub not-wild : (c : ℕ) → wild c ≡ true → ltb (byteOf mysqlTable c) 256 ≡ false
+not-wild c h = go (eqb c 37) refl h
   where
-    go : (x : Bool) → eqb c n ≡ x → (c < n → p c ≡ true) → p c ≡ true
-    go true q k = ap p (eqb-true c n q) ∙ and-left (p n) (every p n) e
-    go false q k = k (omega (arith, eqb-false c n q))
+    go : (x : Bool) → eqb c 37 ≡ x → (x || eqb c 95) ≡ true → ltb (byteOf mysqlTable c) 256 ≡ false
+    go true e k = rw (eqb-true c 37 e)
+    go false e k = rw (eqb-true c 95 k)
 
--- what a letter stands for, and that neither % nor _ is in the table
-abbrev ownOf : ℕ → ℕ
-ownOf c = if ltb (byteOf mysqlTable c) 256 then byteOf mysqlTable c else c
+pub wild-has : (c : ℕ) → has c (ascii "%_") ≡ wild c
+wild-has c = ap (eqb c 37 ||_) (or-false (eqb c 95))
 
-abbrev inTable : ℕ → Bool
-inTable c = ltb (byteOf mysqlTable c) 256 && (eqb c 37 || eqb c 95)
-
-abbrev right : ℕ → Bool
-right c = eqb (getD letters c 0) (ownOf c) && not (inTable c)
-
-all-right : every right 256 ≡ true
-all-right = refl
-
-letter-own : (c : ℕ) → c < 256 → getD letters c 0 ≡ ownOf c
-letter-own c h = eqb-true (getD letters c 0) (ownOf c) (and-left (eqb (getD letters c 0) (ownOf c)) (not (inTable c)) (every-at right 256 c all-right h))
-
-not-wild : (c : ℕ) → c < 256 → inTable c ≡ false
-not-wild c h = not-true (inTable c) (and-right (eqb (getD letters c 0) (ownOf c)) (not (inTable c)) (every-at right 256 c all-right h))
-
--- WHAT TWO BYTES TELL, b and c, with the setting bs and the mark q
+-- with the setting bs and the mark q, of the bytes b and c
 module _ (bs : Bool) (q b c : ℕ) where
-  abbrev pub escapes : Bool
+  abbrev escapes : Bool
   escapes = bs && eqb b 92
 
-  abbrev pub marks : Bool
+  abbrev marks : Bool
   marks = not escapes && eqb b q
 
-  abbrev pub told : ℕ → ℕ → ℕ → StandardUnit
-  told m w v = record { refused = marks && not (eqb c q); keep = not (escapes || marks); more = m; wide = w; first = b; last = v }
-
-  module _ (m w : ℕ) (em : m ≡ (if escapes || marks then 1 else 0)) (ew : w ≡ (if escapes && (eqb c 37 || eqb c 95) then 1 else 0)) where
-    pub told-escaped : escapes ≡ true → c < 256 → told m w (getD letters c 0) ≡ unitBy b (standardStep bs q (b ∷ c ∷ []))
-    told-escaped x h =
-        let wild : has c (ascii "%_") ≡ (eqb c 37 || eqb c 95) = ap (eqb c 37 ||_) (or-false (eqb c 95)) in
-        rw x (letter (eqb-true b 92 (and-right bs (eqb b 92) x)) (ltb (byteOf mysqlTable c) 256) refl (eqb c 37 || eqb c 95) refl wild m w (rw x at em) (rw x at ew))
-      where
-        letter : b ≡ 92 → (x : Bool) → ltb (byteOf mysqlTable c) 256 ≡ x → (y : Bool) → (eqb c 37 || eqb c 95) ≡ y → has c (ascii "%_") ≡ (eqb c 37 || eqb c 95)
-            → (m w : ℕ) → m ≡ 1 → w ≡ (if eqb c 37 || eqb c 95 then 1 else 0)
-            → _≡_ {A = StandardUnit} (record { refused = false; keep = false; more = m; wide = w; first = b; last = getD letters c 0 }) (unitBy b (mysql (c ∷ [])))
-        letter eb true ex true ey ez m w em ew = absurd (false≢true (sym (not-wild c h) ∙ rw (ex, ey)))
-        letter eb true ex false ey ez m w em ew = rw (em, ew, letter-own c h, ex, ey)
-        letter eb false ex true ey ez m w em ew = rw (em, ew, letter-own c h, ex, ez, ey, eb)
-        letter eb false ex false ey ez m w em ew = rw (em, ew, letter-own c h, ex, ez, ey)
-
-    pub told-plain : escapes ≡ false → told m w b ≡ unitBy b (standardStep bs q (b ∷ c ∷ []))
+  module _ (m w : ℕ) (em : m ≡ (if escapes || marks then 1 else 0)) (ew : w ≡ (if escapes && wild c then 1 else 0)) where
+    pub told : _≡_ {A = StandardUnit} (record { refused = marks && not (eqb c q); keep = not (escapes || marks); escapes = escapes; more = m; wide = w })
+        (unitBy escapes (standardStep bs q (b ∷ c ∷ [])))
     unfolding doubled
-    told-plain x = rw x (mark (eqb b q) refl (eqb c q) refl m w (rw x at em) (rw x at ew))
+    told = go escapes m w em ew
       where
-        mark : (x : Bool) → eqb b q ≡ x → (y : Bool) → eqb c q ≡ y → (m w : ℕ) → m ≡ (if x then 1 else 0) → w ≡ 0
-            → _≡_ {A = StandardUnit} (record { refused = x && not y; keep = not x; more = m; wide = w; first = b; last = b })
-            (unitBy b (if x then (if y then give 1 (q ∷ []) else stop) else keep))
-        mark true ex true ey m w em ew = rw (em, ew, eqb-true b q ex)
-        mark true ex false ey m w em ew = rw (em, ew)
-        mark false ex y ey m w em ew = rw (em, ew)
+        letter : (x : Bool) → ltb (byteOf mysqlTable c) 256 ≡ x → (y : Bool) → wild c ≡ y → (m w : ℕ) → m ≡ 1 → w ≡ (if y then 1 else 0)
+            → _≡_ {A = StandardUnit} (record { refused = false; keep = false; escapes = true; more = m; wide = w }) (unitBy true (mysql (c ∷ [])))
+        letter true ex true ey m w em ew = absurd (false≢true (sym (not-wild c ey) ∙ ex))
+        letter true ex false ey m w em ew = rw (em, ew, ex)
+        letter false ex true ey m w em ew = rw (em, ew, ex, wild-has c, ey)
+        letter false ex false ey m w em ew = rw (em, ew, ex, wild-has c, ey)
+
+        mark : (x y : Bool) (m w : ℕ) → m ≡ (if x then 1 else 0) → w ≡ 0
+            → _≡_ {A = StandardUnit} (record { refused = x && not y; keep = not x; escapes = false; more = m; wide = w })
+            (unitBy false (if x then (if y then give 1 (q ∷ []) else stop) else keep))
+        mark true true m w em ew = rw (em, ew)
+        mark true false m w em ew = rw (em, ew)
+        mark false y m w em ew = rw (em, ew)
+
+        go : (x : Bool) (m w : ℕ) → m ≡ (if x || (not x && eqb b q) then 1 else 0) → w ≡ (if x && wild c then 1 else 0)
+            → _≡_ {A = StandardUnit} (record { refused = (not x && eqb b q) && not (eqb c q); keep = not (x || (not x && eqb b q)); escapes = x; more = m; wide = w })
+            (unitBy x (if x then mysql (c ∷ []) else (if eqb b q then doubled q (c ∷ []) else keep)))
+        go true m w em ew = letter (ltb (byteOf mysqlTable c) 256) refl (wild c) refl m w em ew
+        go false m w em ew = mark (eqb b q) (eqb c q) m w em ew

@@ -4,306 +4,58 @@ use crate::units::Family;
 use crate::units::run_stops;
 use cutting::marks::Mark;
 use cutting::marks::mark_byte;
+use leaves::blocks::Stops;
 use leaves::blocks::is_free_eight;
 use leaves::blocks::one_if;
 ghost use mathlib.Core.Path.{_≡_};
-ghost use mathlib.Core.Bool.{true, false};
+ghost use mathlib.Core.Bool.{true, false, _&&_};
 ghost use mathlib.Core.List.{[], _∷_};
+ghost use Prim.Native.Nat.{_%_};
+ghost use lib.Dec.{eqb};
+ghost use lib.ListN.{drop};
 ghost use Rattle.meaning.specs.Chars.{fresh};
 ghost use Rattle.meaning.specs.Steps.{standardStep};
 ghost use Rattle.laws.proofs.Passes.{Measuring};
+ghost use Rattle.leaves.specs.Blocks.{freeOf, passes};
 ghost use Rattle.cutting.specs.Marks.{markOf};
 ghost use Rattle.escapes.specs.Families.{stepOf, checks};
 ghost use Rattle.escapes.specs.Standard.{unitBy};
 
-// What MySQL's backslash makes of the byte behind it: six letters stand for another byte, every other byte for itself.
-const LETTERS: [u8; 256] = [
-    0,
-    1,
-    2,
-    3,
-    4,
-    5,
-    6,
-    7,
-    8,
-    9,
-    10,
-    11,
-    12,
-    13,
-    14,
-    15,
-    16,
-    17,
-    18,
-    19,
-    20,
-    21,
-    22,
-    23,
-    24,
-    25,
-    26,
-    27,
-    28,
-    29,
-    30,
-    31,
-    32,
-    33,
-    34,
-    35,
-    36,
-    37,
-    38,
-    39,
-    40,
-    41,
-    42,
-    43,
-    44,
-    45,
-    46,
-    47,
-    0,
-    49,
-    50,
-    51,
-    52,
-    53,
-    54,
-    55,
-    56,
-    57,
-    58,
-    59,
-    60,
-    61,
-    62,
-    63,
-    64,
-    65,
-    66,
-    67,
-    68,
-    69,
-    70,
-    71,
-    72,
-    73,
-    74,
-    75,
-    76,
-    77,
-    78,
-    79,
-    80,
-    81,
-    82,
-    83,
-    84,
-    85,
-    86,
-    87,
-    88,
-    89,
-    26,
-    91,
-    92,
-    93,
-    94,
-    95,
-    96,
-    97,
-    8,
-    99,
-    100,
-    101,
-    102,
-    103,
-    104,
-    105,
-    106,
-    107,
-    108,
-    109,
-    10,
-    111,
-    112,
-    113,
-    13,
-    115,
-    9,
-    117,
-    118,
-    119,
-    120,
-    121,
-    122,
-    123,
-    124,
-    125,
-    126,
-    127,
-    128,
-    129,
-    130,
-    131,
-    132,
-    133,
-    134,
-    135,
-    136,
-    137,
-    138,
-    139,
-    140,
-    141,
-    142,
-    143,
-    144,
-    145,
-    146,
-    147,
-    148,
-    149,
-    150,
-    151,
-    152,
-    153,
-    154,
-    155,
-    156,
-    157,
-    158,
-    159,
-    160,
-    161,
-    162,
-    163,
-    164,
-    165,
-    166,
-    167,
-    168,
-    169,
-    170,
-    171,
-    172,
-    173,
-    174,
-    175,
-    176,
-    177,
-    178,
-    179,
-    180,
-    181,
-    182,
-    183,
-    184,
-    185,
-    186,
-    187,
-    188,
-    189,
-    190,
-    191,
-    192,
-    193,
-    194,
-    195,
-    196,
-    197,
-    198,
-    199,
-    200,
-    201,
-    202,
-    203,
-    204,
-    205,
-    206,
-    207,
-    208,
-    209,
-    210,
-    211,
-    212,
-    213,
-    214,
-    215,
-    216,
-    217,
-    218,
-    219,
-    220,
-    221,
-    222,
-    223,
-    224,
-    225,
-    226,
-    227,
-    228,
-    229,
-    230,
-    231,
-    232,
-    233,
-    234,
-    235,
-    236,
-    237,
-    238,
-    239,
-    240,
-    241,
-    242,
-    243,
-    244,
-    245,
-    246,
-    247,
-    248,
-    249,
-    250,
-    251,
-    252,
-    253,
-    254,
-    255,
-];
-
-// What stands at a place: how many bytes it takes beside its first, and the byte that it stands for. Where `wide` is 1 it stands for two, `first` and `last`.
+// What stands at a place, and how many bytes it takes beside its first; where `wide` is 1 it stands for two bytes, else for one. `escapes` says whether a
+// backslash stands there that is active.
 pub struct StandardUnit {
     pub refused: bool,
     pub keep: bool,
+    pub escapes: bool,
     pub more: usize,
     pub wide: usize,
-    pub first: u8,
-    pub last: u8,
 }
 
 // What two bytes tell of the place of the first.
-// Rules out: a lone mark taken; % without its backslash (must-fail: wrong_standard_units).
+// Rules out: a lone mark taken; % taken for one byte (must-fail: lone_mark_taken, wild_for_one_byte).
 pub fn standard_unit(byte: u8, next: u8, quote: u8, backslash: bool) -> StandardUnit
-    ensures { λ r. ⌜ r ≡ unitBy byte (standardStep backslash quote (byte ∷ next ∷ [])) ⌝ }
+    ensures { λ r. ⌜ r ≡ unitBy (backslash && eqb byte 92) (standardStep backslash quote (byte ∷ next ∷ [])) ⌝ }
 {
-    let letters = LETTERS;
-    let letter = letters[next as usize];
     let escapes = backslash & (byte == 92);
     let marks = !escapes & (byte == quote);
-    let wild = escapes & ((next == 37) | (next == 95));
     StandardUnit {
         refused: marks & (next != quote),
         keep: !(escapes | marks),
+        escapes,
         more: one_if(escapes | marks) as usize,
-        wide: one_if(wild) as usize,
-        first: byte,
-        last: if escapes { letter } else { byte },
+        wide: one_if(escapes & ((next == 37) | (next == 95))) as usize,
     }
+}
+
+// Whether eight bytes that stand for themselves begin here. It is looked for at every eighth place alone: where escapes are many, it is seldom so.
+// Rules out: the eight bytes at the body's start asked; other places looked at (must-fail: lone_mark_taken, wild_for_one_byte).
+pub fn is_free_here(body: &[u8], at: usize, stops: Stops) -> bool
+    ensures { λ r. ⌜ r ≡ (eqb (at % 8) 0 && passes (freeOf stops) 8 (drop at (now (body .entry)))) ⌝ }
+{
+    if at % 8 == 0 {
+        return is_free_eight(body, at, stops);
+    }
+    false
 }
 
 // How far a body is measured: up to a place, so many bytes, and whether each of them stands for itself.
@@ -314,6 +66,7 @@ pub struct Ahead {
 }
 
 // Measures a standard body up to its last byte, or up to a mark that stands alone; whoever asks looks at what is left.
+// Rules out: a block counted as nine bytes (must-fail: nine_for_a_block).
 fn measure_ahead(body: &[u8], mark: Mark, backslash: bool) -> Ahead
     ensures { λ r. ⌜ Measuring (standardStep backslash (markOf mark)) false (now (body .entry)) (r .at) (r .n) (r .plain) fresh ⌝ }
 {
@@ -323,7 +76,7 @@ fn measure_ahead(body: &[u8], mark: Mark, backslash: bool) -> Ahead
     let mut n: usize = 0;
     let mut plain = true;
     while 1 < body.len() - at {
-        if is_free_eight(body, at, stops) {
+        if is_free_here(body, at, stops) {
             n += 8;
             at += 8;
         } else {

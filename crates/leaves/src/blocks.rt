@@ -82,7 +82,7 @@ pub fn is_free(text: &[u8], stops: Stops) -> bool
 }
 
 // Whether eight bytes from a place on are there, and none of them is one of the three.
-// Rules out: a block at the text's start asked; bytes behind the end taken for free (must-fail: block_at_the_start, block_past_the_end).
+// Rules out: the block at the text's start asked; the last eight bytes not looked at (must-fail: block_at_the_start, last_block_left_out).
 pub fn is_free_eight(text: &[u8], at: usize, stops: Stops) -> bool
     ensures { λ r. ⌜ r ≡ passes (freeOf stops) 8 (drop at (now (text .entry))) ⌝ }
 {

@@ -1,5 +1,6 @@
 -- What the functions of this crate share, callees first.
 pub mod WriteTurns
+pub mod Letters
 pub mod WritePairs
 pub mod Ones
 pub mod BySpelling

@@ -1,14 +1,16 @@
 -- The writing pass over a standard body: by what two bytes tell, or past eight bytes that stand for themselves. Assumes nothing.
 use mathlib.Core.Path.{_≡_, refl, ap, sym, _∙_, subst}
-use mathlib.Core.Bool.{Bool, true, false}
+use mathlib.Core.Bool.{Bool, true, false, _&&_}
 use mathlib.Core.List.{List, [], _∷_, _++_}
 use Prim.Native.Nat.{ℕ, zero, suc, _+_, _-_, _≤_, _<_}
 use native.Mathlib.Omega.{arith}
-use lib.ListN.{length, take, drop, set, length-take, length-drop}
+use lib.Dec.{eqb}
+use lib.ListN.{length, getD, take, drop, set, length-take, length-drop}
 use lib.Seq.{drop-at, drop-drop}
+use Rattle.meaning.specs.Bytes.{if_then_else_, _!_}
 use Rattle.meaning.specs.Walk.{Step, keep, give, stop, Trace, walk, value}
 use Rattle.meaning.specs.Steps.{standardStep}
-use Rattle.laws.proofs.Courses.{Taken}
+use Rattle.laws.proofs.Courses.{Taken, stands}
 use Rattle.laws.proofs.Passes.{Writing, Roomy, writing-within, taken-room, taken-turn}
 use Rattle.leaves.specs.declared.blocks.Stops.{Stops}
 use Rattle.leaves.specs.Blocks.{freeOf, passes}
@@ -21,10 +23,11 @@ use Rattle.escapes.specs.declared.units.Family.{Family}
 use Rattle.escapes.specs.declared.units.Family.the-variants.{Standard}
 use Rattle.escapes.specs.declared.standard.StandardUnit.{StandardUnit}
 use Rattle.escapes.specs.Families.{stepOf, courseOf, stopsOf}
-use Rattle.escapes.specs.Standard.{unitBy, twoBy, standsFor}
-use Rattle.escapes.proofs.Pairs.{unitAt, pair-taken, eight-taken}
+use Rattle.escapes.specs.Standard.{unitBy}
+use Rattle.escapes.proofs.Pairs.{pairAt, unitAt, pair-taken, eight-taken}
 use Rattle.strings.specs.declared.standard.Front.{Front}
-use Rattle.strings.specs.Rooms.{Room, Written}
+use Rattle.strings.specs.Rooms.{Room, Written, twoBy}
+use Rattle.strings.proofs.Letters.{letters, pair-stands}
 
 -- ONE BYTE OR TWO at a buffer's start: the last is stored behind the first, or over it
 two-long : (w x y : ℕ) → w ≤ 1 → length (twoBy w x y) ≡ 1 + w
@@ -41,15 +44,22 @@ two-sets zero x y (b ∷ out) h l = puts-sets (y ∷ []) (b ∷ out) l
 two-sets (suc zero) x y out h l = puts-sets (x ∷ y ∷ []) out l
 two-sets (suc (suc w)) x y out h l = absurd (omega arith)
 
-pub narrow : (b : ℕ) (s : Step) (u : StandardUnit) → u ≡ unitBy b s → u .wide ≤ 1
-narrow b s u e = rw e (go s)
+pub narrow : (x : Bool) (s : Step) (u : StandardUnit) → u ≡ unitBy x s → u .wide ≤ 1
+narrow x s u e = rw e (go s)
   where
-    go : (s : Step) → unitBy b s .wide ≤ 1
+    go : (s : Step) → unitBy x s .wide ≤ 1
     go keep = omega arith
     go (give m []) = omega arith
-    go (give m (x ∷ [])) = omega arith
-    go (give m (x ∷ (y ∷ t))) = omega arith
+    go (give m (a ∷ [])) = omega arith
+    go (give m (a ∷ (b ∷ t))) = omega arith
     go stop = omega arith
+
+unit-escapes : (x : Bool) (s : Step) → unitBy x s .escapes ≡ x
+unit-escapes x keep = refl
+unit-escapes x (give m []) = refl
+unit-escapes x (give m (a ∷ [])) = refl
+unit-escapes x (give m (a ∷ (b ∷ t))) = refl
+unit-escapes x stop = refl
 
 -- A TURN that stands for v: these bytes were put into the buffer's part from n on
 module _ {step : List ℕ → Step} {l d out : List ℕ} {at n : ℕ} (w : Writing step l d out at n) (room : Room (walk step 0 l) (length d))
@@ -83,15 +93,20 @@ module _ (m : Mark) (q : ℕ) (eq : q ≡ markOf m) (bs : Bool) (l d : List ℕ)
   pub within : n ≤ length out
   within = omega (arith, writing-within w (record { goes = room′ .goes; fits = room′ .fits }), w .same)
 
-  pub pair-written : (u : StandardUnit) → u ≡ unitAt m q eq bs l at → 1 < length l - at → u .refused ≡ false → (r : ℕ) (last : List ℕ)
-      → Puts (standsFor u) (take (length out - n) (drop n out)) r last → Goes (standardStep bs q) l d out at n (at + (1 + u .more)) r last
-  pair-written u e h g r last p =
+  pub pair-written : (u : StandardUnit) → u ≡ unitAt m q eq bs l at → 1 < length l - at → u .refused ≡ false → l ! (at + 1) < 256
+      → (v : ℕ) → v ≡ (if u .escapes then getD letters (l ! (at + 1)) 0 else l ! at) → (r : ℕ) (last : List ℕ)
+      → Puts (twoBy (u .wide) (l ! at) v) (take (length out - n) (drop n out)) r last → Goes (standardStep bs q) l d out at n (at + (1 + u .more)) r last
+  pair-written u e h g b v ev r last p =
       let t = pair-taken m q eq bs l (w .so-far) u e h g in
-      let c = counts w room′ (standsFor u) (u .keep) (at + (1 + u .more)) (t .0) r last p in
+      let k : stands (pairAt m q eq bs l at) (l ! at) ≡ twoBy (u .wide) (l ! at) v =
+      rw (ev, e, unit-escapes (bs && eqb (l ! at) 92) (pairAt m q eq bs l at)) (pair-stands bs q (l ! at) (l ! (at + 1)) b (rw e at g)) in
+      let f : Taken (w .so-far) (twoBy (u .wide) (l ! at) v) (u .keep) (at + (1 + u .more)) = subst (λ (x : List ℕ). Taken (w .so-far) x (u .keep) (at + (1 + u .more))) k (t .0) in
+      let y = twoBy (u .wide) (l ! at) v in
+      let c = counts w room′ y (u .keep) (at + (1 + u .more)) f r last p in
       record {
-        inside = t .0 .next .inside;
-        room = omega (arith, c, fits w room′ (standsFor u) (u .keep) (at + (1 + u .more)) (t .0));
-        next = turn w room′ (standsFor u) (u .keep) (at + (1 + u .more)) (t .0) r last p;
+        inside = f .next .inside;
+        room = omega (arith, c, fits w room′ y (u .keep) (at + (1 + u .more)) f);
+        next = turn w room′ y (u .keep) (at + (1 + u .more)) f r last p;
       }
 
   pub eight-written : (e : List ℕ) (st : Stops) → st ≡ stopsOf (Standard m bs) e → passes (freeOf st) 8 (drop at l) ≡ true → (r : ℕ) (last : List ℕ)

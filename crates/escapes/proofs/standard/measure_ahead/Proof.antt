@@ -1,6 +1,6 @@
 -- `escapes::standard::measure_ahead` meets its contract. The loop's invariant, `Measuring`: the units so far stand for n bytes. The measure is what is left of
 -- the body. Assumes nothing.
-use mathlib.Core.Path.{_≡_, sym, _∙_}
+use mathlib.Core.Path.{_≡_, sym}
 use mathlib.Core.Bool.{false, _&&_}
 use Prim.Native.Nat.{_+_, _-_}
 use borrow.Author.Needs.{needs}
@@ -10,7 +10,7 @@ use lib.ListN.{length}
 use Rattle.meaning.specs.Chars.{fresh}
 use Rattle.meaning.specs.Steps.{standardStep}
 use Rattle.laws.proofs.Passes.{Measuring, measuring-none}
-use Rattle.escapes.proofs.Pairs.{pair-measured, eight-measured}
+use Rattle.escapes.proofs.Pairs.{pair-measured, eight-measured, here-free}
 use Rattle.escapes.proofs.standard.measure_ahead.Statement.{statement}
 use Rattle.escapes.proofs.standard.measure_ahead.Tie as tie
 
@@ -25,7 +25,7 @@ eight : (c : tie.Then1 Inv-loop μ-loop) → let i = c .before .before .before .
     Measuring (standardStep (c .before .before .before .before .before .before .before .args .backslash) (c .before .before .before .before .before .mark-byte .result)) false (now (c .before .before .before .before .before .before .before .args .body)) (i .at + 8) (i .n + 8) (i .plain) fresh
 eight c =
     let s = c .before .before .before .before .before .before .before .args in
-    eight-measured (s .mark) _ (c .before .before .before .before .before .mark-byte .ensures) (s .backslash) (now (s .body)) (c .before .before .before .loop .inv) (now (s .body)) _ (c .before .before .before .before .run-stops .ensures) (sym (c .before .is-free-eight .ensures) ∙ c .if1 .taken)
+    eight-measured (s .mark) _ (c .before .before .before .before .before .mark-byte .ensures) (s .backslash) (now (s .body)) (c .before .before .before .loop .inv) (now (s .body)) _ (c .before .before .before .before .run-stops .ensures) (here-free (c .before .before .before .loop .at) _ _ (c .before .is-free-here .ensures) (c .if1 .taken))
 
 -- past a unit: where that leads
 pair : (c : tie.After-struct-known2 Inv-loop μ-loop) → let i = c .before .before .before .before .before .before .before .before .before .loop in let u = c .before .before .before .standard-unit .result in
@@ -46,8 +46,8 @@ loop-holds c = measuring-none _ _ _
 sub-loop : tie.Need-sub-loop Inv-loop μ-loop
 sub-loop c = c .loop .inv .so-far .inside
 
-is-free-eight-requires : tie.Need-is-free-eight-requires Inv-loop μ-loop
-is-free-eight-requires c κs = search needs
+is-free-here-requires : tie.Need-is-free-here-requires Inv-loop μ-loop
+is-free-here-requires c κs = search needs
 
 add-n : tie.Need-add-n Inv-loop μ-loop
 add-n c = omega (arith, eight c .short, eight c .so-far .inside)
@@ -107,7 +107,7 @@ measure-ahead-spec =
     run-stops-requires
     loop-holds
     sub-loop
-    is-free-eight-requires
+    is-free-here-requires
     add-n
     add-at
     loop-less

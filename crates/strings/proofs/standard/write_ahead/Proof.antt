@@ -8,19 +8,20 @@ use denote.Ref.{now}
 use lib.ListN.{length}
 use Rattle.meaning.specs.Steps.{standardStep}
 use Rattle.laws.proofs.Passes.{Writing, writing-none}
+use Rattle.escapes.proofs.Pairs.{here-free}
 use Rattle.strings.proofs.WritePairs.{Goes, narrow, within, eight-inside, pair-written, eight-written}
 use Rattle.strings.proofs.standard.write_ahead.Statement.{statement}
 use Rattle.strings.proofs.standard.write_ahead.Tie as tie
 
 abbrev Inv-loop : tie.InvT-loop
-Inv-loop body backslash out₀ quote stops at₀ n₀ out at n = Writing (standardStep backslash quote) body out₀ out at n
+Inv-loop body backslash out₀ quote stops letters at₀ n₀ out at n = Writing (standardStep backslash quote) body out₀ out at n
 
 abbrev μ-loop : tie.MeasureT-loop
-μ-loop body backslash out₀ quote stops at₀ n₀ out at n = length body - at
+μ-loop body backslash out₀ quote stops letters at₀ n₀ out at n = length body - at
 
 -- eight bytes are there; and the buffer's part from n on
 eight-in : (c : tie.Then1 Inv-loop μ-loop) → c .before .before .before .loop .at + 8 ≤ length (now (c .before .before .before .before .before .before .before .before .args .body))
-eight-in c = eight-inside _ _ _ (sym (c .before .is-free-eight .ensures) ∙ c .if1 .taken)
+eight-in c = eight-inside _ _ _ (here-free (c .before .before .before .loop .at) _ _ (c .before .is-free-here .ensures) (c .if1 .taken))
 
 in-out : (c : tie.Then1 Inv-loop μ-loop) → c .before .before .before .loop .n ≤ length (c .before .before .before .loop .out)
 in-out c =
@@ -33,14 +34,14 @@ eight : (c : tie.After-put-bytes Inv-loop μ-loop) → let s = c .before .before
 eight c =
     let s = c .before .before .before .before .before .before .before .before .before .before .before .args in
     eight-written (s .mark) _ (c .before .before .before .before .before .before .before .before .mark-byte .ensures) (s .backslash) (now (s .body)) (now (s .out)) (c .before .before .before .before .before .before .before .before .before .before .before .pre) (c .before .before .before .before .before .before .loop .inv) (now (s .body)) _ (c .before .before .before .before .before .before .before .run-stops .ensures)
-    (sym (c .before .before .before .before .is-free-eight .ensures) ∙ c .before .before .before .if1 .taken) _ _ (c .put-bytes .ensures)
+    (here-free (c .before .before .before .before .before .before .loop .at) _ _ (c .before .before .before .before .is-free-here .ensures) (c .before .before .before .if1 .taken)) _ _ (c .put-bytes .ensures)
 
-pair : (c : tie.After-put-unit Inv-loop μ-loop) → let s = c .before .before .before .before .before .before .before .before .before .before .before .before .before .before .args in let i = c .before .before .before .before .before .before .before .before .before .loop in let u = c .before .before .before .standard-unit .result in
-    Goes (standardStep (s .backslash) (c .before .before .before .before .before .before .before .before .before .before .before .mark-byte .result)) (now (s .body)) (now (s .out)) (i .out) (i .at) (i .n) (i .at + (1 + u .more)) (c .put-unit .result) (c .put-unit .last .1 .0)
+pair : (c : tie.After-put-pair Inv-loop μ-loop) → let s = c .before .before .before .before .before .before .before .before .before .before .before .before .before .before .before .args in let i = c .before .before .before .before .before .before .before .before .before .before .loop in let u = c .before .before .before .before .standard-unit .result in
+    Goes (standardStep (s .backslash) (c .before .before .before .before .before .before .before .before .before .before .before .before .mark-byte .result)) (now (s .body)) (now (s .out)) (i .out) (i .at) (i .n) (i .at + (1 + u .more)) (c .put-pair .result) (c .put-pair .last .1 .1 .1 .0)
 pair c =
-    let s = c .before .before .before .before .before .before .before .before .before .before .before .before .before .before .args in
-    pair-written (s .mark) _ (c .before .before .before .before .before .before .before .before .before .before .before .mark-byte .ensures) (s .backslash) (now (s .body)) (now (s .out)) (c .before .before .before .before .before .before .before .before .before .before .before .before .before .before .pre) (c .before .before .before .before .before .before .before .before .before .loop .inv) _ (c .before .before .before .standard-unit .ensures)
-    (c .before .before .before .before .before .before .before .before .loop-test .taken) (c .before .before .if2 .left) _ _ (c .put-unit .ensures)
+    let s = c .before .before .before .before .before .before .before .before .before .before .before .before .before .before .before .args in
+    pair-written (s .mark) _ (c .before .before .before .before .before .before .before .before .before .before .before .before .mark-byte .ensures) (s .backslash) (now (s .body)) (now (s .out)) (c .before .before .before .before .before .before .before .before .before .before .before .before .before .before .before .pre) (c .before .before .before .before .before .before .before .before .before .before .loop .inv) _ (c .before .before .before .before .standard-unit .ensures)
+    (c .before .before .before .before .before .before .before .before .before .loop-test .taken) (c .before .before .before .if2 .left) (omega (arith, c .before .before .before .before .before .shared-slice-known3 .given (c .before .before .before .before .before .before .before .before .before .before .loop .at + 1))) _ (c .before .before .choose .ensures) _ _ (c .put-pair .ensures)
 
 mark-byte-requires : tie.Need-mark-byte-requires Inv-loop μ-loop
 mark-byte-requires c κs = search needs
@@ -54,8 +55,8 @@ loop-holds c = writing-none _ _ _
 sub-loop : tie.Need-sub-loop Inv-loop μ-loop
 sub-loop c = c .loop .inv .so-far .inside
 
-is-free-eight-requires : tie.Need-is-free-eight-requires Inv-loop μ-loop
-is-free-eight-requires c κs = search needs
+is-free-here-requires : tie.Need-is-free-here-requires Inv-loop μ-loop
+is-free-here-requires c κs = search needs
 
 add-put-bytes : tie.Need-add-put-bytes Inv-loop μ-loop
 add-put-bytes c = omega (arith, eight-in c)
@@ -93,14 +94,14 @@ loop-less c = omega (arith, eight (c .before .before) .inside)
 loop-again : tie.Need-loop-again Inv-loop μ-loop
 loop-again c = eight (c .before .before) .next
 
-shared-slice-read-standard-unit : tie.Need-shared-slice-read-standard-unit Inv-loop μ-loop
-shared-slice-read-standard-unit c = omega (arith, c .before .before .before .loop-test .taken)
+shared-slice-read-byte : tie.Need-shared-slice-read-byte Inv-loop μ-loop
+shared-slice-read-byte c = omega (arith, c .before .before .before .loop-test .taken)
 
-add-standard-unit : tie.Need-add-standard-unit Inv-loop μ-loop
-add-standard-unit c = omega (arith, c .before .before .before .loop-test .taken)
+add-next : tie.Need-add-next Inv-loop μ-loop
+add-next c = omega (arith, c .before .before .before .loop-test .taken)
 
-shared-slice-read-standard-unit-2 : tie.Need-shared-slice-read-standard-unit-2 Inv-loop μ-loop
-shared-slice-read-standard-unit-2 c = omega (arith, c .before .before .before .before .loop-test .taken)
+shared-slice-read-next : tie.Need-shared-slice-read-next Inv-loop μ-loop
+shared-slice-read-next c = omega (arith, c .before .before .before .before .loop-test .taken)
 
 standard-unit-requires : tie.Need-standard-unit-requires Inv-loop μ-loop
 standard-unit-requires c κs = search needs
@@ -111,35 +112,44 @@ same-length c = c .before .before .before .before .before .before .before .loop 
 returns : tie.Need-returns Inv-loop μ-loop
 returns c = rw (sym (c .before .before .before .before .before .before .before .before .before .mark-byte .ensures)) (c .before .before .before .before .before .before .before .loop .inv)
 
-sub-put-unit : tie.Need-sub-put-unit Inv-loop μ-loop
-sub-put-unit c = 
-    let s = c .before .before .before .before .before .before .before .before .before .before .before .before .args in within (s .mark) _ (c .before .before .before .before .before .before .before .before .before .mark-byte .ensures) (s .backslash) (now (s .body)) (now (s .out)) (c .before .before .before .before .before .before .before .before .before .before .before .before .pre) (c .before .before .before .before .before .before .before .loop .inv)
+cast-choose : tie.Need-cast-choose Inv-loop μ-loop
+cast-choose c = omega (arith, c .before .before .shared-slice-known3 .given (c .before .before .before .before .before .before .before .loop .at + 1))
 
-part-put-unit-start : tie.Need-part-put-unit-start Inv-loop μ-loop
-part-put-unit-start c = 
-    omega (arith, let s = c .before .before .before .before .before .before .before .before .before .before .before .before .args in within (s .mark) _ (c .before .before .before .before .before .before .before .before .before .mark-byte .ensures) (s .backslash) (now (s .body)) (now (s .out)) (c .before .before .before .before .before .before .before .before .before .before .before .before .pre) (c .before .before .before .before .before .before .before .loop .inv))
+array-read-choose : tie.Need-array-read-choose Inv-loop μ-loop
+array-read-choose c = omega (arith, c .before .before .shared-slice-known3 .given (c .before .before .before .before .before .before .before .loop .at + 1))
 
-part-put-unit-end : tie.Need-part-put-unit-end Inv-loop μ-loop
-part-put-unit-end c = 
-    omega (arith, let s = c .before .before .before .before .before .before .before .before .before .before .before .before .args in within (s .mark) _ (c .before .before .before .before .before .before .before .before .before .mark-byte .ensures) (s .backslash) (now (s .body)) (now (s .out)) (c .before .before .before .before .before .before .before .before .before .before .before .before .pre) (c .before .before .before .before .before .before .before .loop .inv))
+choose-requires : tie.Need-choose-requires Inv-loop μ-loop
+choose-requires c κs = search needs
 
-put-unit-requires : tie.Need-put-unit-requires Inv-loop μ-loop
-put-unit-requires c κs = search narrow
+sub-put-pair : tie.Need-sub-put-pair Inv-loop μ-loop
+sub-put-pair c =
+    let s = c .before .before .before .before .before .before .before .before .before .before .before .before .before .args in within (s .mark) _ (c .before .before .before .before .before .before .before .before .before .before .mark-byte .ensures) (s .backslash) (now (s .body)) (now (s .out)) (c .before .before .before .before .before .before .before .before .before .before .before .before .before .pre) (c .before .before .before .before .before .before .before .before .loop .inv)
+
+part-put-pair-start : tie.Need-part-put-pair-start Inv-loop μ-loop
+part-put-pair-start c =
+    omega (arith, let s = c .before .before .before .before .before .before .before .before .before .before .before .before .before .args in within (s .mark) _ (c .before .before .before .before .before .before .before .before .before .before .mark-byte .ensures) (s .backslash) (now (s .body)) (now (s .out)) (c .before .before .before .before .before .before .before .before .before .before .before .before .before .pre) (c .before .before .before .before .before .before .before .before .loop .inv))
+
+part-put-pair-end : tie.Need-part-put-pair-end Inv-loop μ-loop
+part-put-pair-end c =
+    omega (arith, let s = c .before .before .before .before .before .before .before .before .before .before .before .before .before .args in within (s .mark) _ (c .before .before .before .before .before .before .before .before .before .before .mark-byte .ensures) (s .backslash) (now (s .body)) (now (s .out)) (c .before .before .before .before .before .before .before .before .before .before .before .before .before .pre) (c .before .before .before .before .before .before .before .before .loop .inv))
+
+put-pair-requires : tie.Need-put-pair-requires Inv-loop μ-loop
+put-pair-requires c κs = search narrow
 
 add-n-2 : tie.Need-add-n-2 Inv-loop μ-loop
-add-n-2 c = omega (arith, pair (c .before .before) .room, c .before .before .before .before .before .before .before .before .before .before .before .loop .inv .same, c .before .before .before .before .before .before .before .before .before .before .before .before .before .before .before .before .good .1 .1 .1 .0 .0)
+add-n-2 c = omega (arith, pair (c .before .before) .room, c .before .before .before .before .before .before .before .before .before .before .before .before .loop .inv .same, c .before .before .before .before .before .before .before .before .before .before .before .before .before .before .before .before .before .good .1 .1 .1 .0 .0)
 
 add-at-2 : tie.Need-add-at-2 Inv-loop μ-loop
-add-at-2 c = omega (arith, pair (c .before .before) .inside)
+add-at-2 c = omega (arith, pair (c .before .before .before) .inside)
 
 add-at-3 : tie.Need-add-at-3 Inv-loop μ-loop
-add-at-3 c = omega (arith, pair (c .before .before) .inside)
+add-at-3 c = omega (arith, pair (c .before .before .before) .inside)
 
 loop-less-2 : tie.Need-loop-less-2 Inv-loop μ-loop
-loop-less-2 c = omega (arith, pair (c .before .before) .inside)
+loop-less-2 c = omega (arith, pair (c .before .before .before) .inside)
 
 loop-again-2 : tie.Need-loop-again-2 Inv-loop μ-loop
-loop-again-2 c = pair (c .before .before) .next
+loop-again-2 c = pair (c .before .before .before) .next
 
 same-length-2 : tie.Need-same-length-2 Inv-loop μ-loop
 same-length-2 c = c .before .loop .inv .same
@@ -157,7 +167,7 @@ write-ahead-spec =
     run-stops-requires
     loop-holds
     sub-loop
-    is-free-eight-requires
+    is-free-here-requires
     add-put-bytes
     sub-put-bytes
     part-put-bytes-start
@@ -170,16 +180,19 @@ write-ahead-spec =
     add-at
     loop-less
     loop-again
-    shared-slice-read-standard-unit
-    add-standard-unit
-    shared-slice-read-standard-unit-2
+    shared-slice-read-byte
+    add-next
+    shared-slice-read-next
     standard-unit-requires
     same-length
     returns
-    sub-put-unit
-    part-put-unit-start
-    part-put-unit-end
-    put-unit-requires
+    cast-choose
+    array-read-choose
+    choose-requires
+    sub-put-pair
+    part-put-pair-start
+    part-put-pair-end
+    put-pair-requires
     add-n-2
     add-at-2
     add-at-3

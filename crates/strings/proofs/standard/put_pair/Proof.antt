@@ -1,10 +1,10 @@
--- `strings::standard::put_unit` meets its contract. Assumes nothing.
+-- `strings::standard::put_pair` meets its contract. Assumes nothing.
 use native.Mathlib.Omega.{arith}
 use lib.ListN.{length-set}
 use Rattle.strings.proofs.WritePairs.{two-none, two-sets}
 use borrow.Author.Needs.{needs}
-use Rattle.strings.proofs.standard.put_unit.Statement.{statement}
-use Rattle.strings.proofs.standard.put_unit.Tie as tie
+use Rattle.strings.proofs.standard.put_pair.Statement.{statement}
+use Rattle.strings.proofs.standard.put_pair.Tie as tie
 
 add-len : tie.Need-add-len
 add-len c = search needs
@@ -24,6 +24,6 @@ same-length c = search needs
 returns-2 : tie.Need-returns-2
 returns-2 c = two-sets _ _ _ _ (c .before .pre) (c .if1 .left)
 
-pub put-unit-spec : {M : Type 1} → statement M
-put-unit-spec =
+pub put-pair-spec : {M : Type 1} → statement M
+put-pair-spec =
     tie.close (tie.spec add-len returns slice-write-out slice-write-out-2 same-length returns-2)
