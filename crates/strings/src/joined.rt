@@ -26,6 +26,7 @@ ghost use Rattle.meaning.specs.Spelling.{isUnicode};
 ghost use Rattle.meaning.specs.Reading.{alone, joined, read};
 ghost use Rattle.meaning.specs.Reads.{Reads};
 ghost use Rattle.strings.specs.Answers.{lengthOf, Holds, Put};
+ghost use Rattle.strings.specs.Plain.{SaysPlain};
 
 // How long joined text's value is, or where reading stops.
 pub enum Joined {
@@ -44,11 +45,12 @@ fn is_joined(text: &[u8], settings: Settings) -> bool
     }
 }
 
-// The length of one segment's value, or where it is refused.
-fn segment_length(text: &[u8], settings: Settings) -> Joined
+// The length of one segment's value, or where it is refused; of a plain one no byte is looked at.
+fn segment_length(text: &[u8], plain: bool, settings: Settings) -> Joined
+    requires { ⌜ SaysPlain settings (now text) plain ⌝ }
     ensures { λ r. ⌜ r ≡ lengthOf (alone settings (now (text .entry))) ⌝ }
 {
-    if is_plain(text, settings) {
+    if plain {
         let len = text.len() - 2;
         return Joined::Length(len);
     }
@@ -67,14 +69,16 @@ fn measure_joined(text: &[u8], settings: Settings) -> Joined
     let mut cursor = Cursor::new();
     let mut n: usize = 0;
     loop {
-        match next_segment(cursor, text, settings) {
+        let cut = next_segment(cursor, text, settings);
+        let stands = cut.next;
+        match stands {
             Next::Segment {
                 start,
                 open: _,
                 end,
                 next,
             } => {
-                match segment_length(&text[start..end], settings) {
+                match segment_length(&text[start..end], cut.plain, settings) {
                     Joined::Length(k) => {
                         n += k;
                     }
@@ -95,11 +99,12 @@ fn measure_joined(text: &[u8], settings: Settings) -> Joined
 }
 
 // Writes what one segment means, for which there is room, and says how long it is; a plain one is copied.
-fn write_segment(text: &[u8], settings: Settings, out: &mut [u8]) -> usize
+fn write_segment(text: &[u8], plain: bool, settings: Settings, out: &mut [u8]) -> usize
+    requires { ⌜ SaysPlain settings (now text) plain ⌝ }
     requires { ⌜ Holds (alone settings (now text)) (length (now out)) ⌝ }
     ensures { λ r. ⌜ Put (alone settings (now (text .entry))) (now (out .entry)) r (now (out .exit)) ⌝ }
 {
-    if is_plain(text, settings) {
+    if plain {
         let end = text.len() - 1;
         return put_bytes(&text[1..end], out);
     }
@@ -114,14 +119,16 @@ fn write_joined(text: &[u8], settings: Settings, out: &mut [u8]) -> usize
     let mut cursor = Cursor::new();
     let mut n: usize = 0;
     loop {
-        match next_segment(cursor, text, settings) {
+        let cut = next_segment(cursor, text, settings);
+        let stands = cut.next;
+        match stands {
             Next::Segment {
                 start,
                 open: _,
                 end,
                 next,
             } => {
-                n += write_segment(&text[start..end], settings, &mut out[n..]);
+                n += write_segment(&text[start..end], cut.plain, settings, &mut out[n..]);
                 cursor = next;
             }
             Next::End => {
