@@ -1,6 +1,8 @@
 -- What the functions of this crate share, callees first.
 pub mod WriteTurns
+pub mod Expansions
 pub mod Ones
+pub mod Shorts
 pub mod BySpelling
 pub mod Readings
 pub mod Lexemes

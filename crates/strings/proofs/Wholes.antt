@@ -6,17 +6,15 @@ use Prim.Native.Nat.{ℕ, _≤_, _<_}
 use native.Mathlib.Omega.{arith}
 use lib.ListN.{length, drop}
 use Rattle.meaning.specs.declared.Settings.{Settings}
+use Rattle.meaning.specs.declared.Read.{Read}
 use Rattle.meaning.specs.declared.Read.the-variants as Read′
 use Rattle.meaning.specs.Cutting.{cut, continues}
-use Rattle.meaning.specs.Reading.{Value, means, fails, one, alone, joined, asWritten, read}
+use Rattle.meaning.specs.Reading.{Value, means, fails, one, joined, asWritten, read}
 use Rattle.meaning.specs.Reads.{Reads}
-use Rattle.strings.specs.declared.one.One.{One}
-use Rattle.strings.specs.declared.one.One.the-variants as One′
 use Rattle.strings.specs.declared.joined.Joined.{Joined}
 use Rattle.strings.specs.declared.joined.Joined.the-variants as Joined′
-use Rattle.strings.specs.Answers.{oneOf, lengthOf, Holds, valueIn, Put}
+use Rattle.strings.specs.Answers.{lengthOf, Holds, valueIn, Put}
 use Rattle.laws.proofs.Owed.{reads-short, reads-written, reads-refused}
-use Rattle.strings.proofs.Readings.{told-borrowed, told-short, told-holds, told-written, told-refused}
 use Rattle.strings.proofs.Joinings.{length-means, length-fails}
 
 module _ (σ : Settings) (t out : List ℕ) (x : Bool) (ex : x ≡ continues σ t) where
@@ -45,23 +43,7 @@ module _ (σ : Settings) (t out : List ℕ) (x : Bool) (ex : x ≡ continues σ 
     joined-refused p q = reads-refused (read σ t) out p (as-joined (fails p) (length-fails (joined σ (cut σ t)) p (sym ek ∙ q)))
 
   -- A TEXT READ AS ONE
-  module _ (y : x ≡ false) (r : One) (er : r ≡ oneOf (one σ t)) where
-    as-one : read σ t ≡ one σ t
+  module _ (y : x ≡ false) (after : List ℕ) (r : Read) where
+    pub one-reads : Reads (one σ t) out r after → Reads (read σ t) out r after
     unfolding read
-    as-one = rw (sym ex ∙ y)
-
-    pub one-borrowed : (f u : ℕ) → r ≡ One′.Borrowed f u → Reads (read σ t) out (Read′.Borrowed f u) out
-    one-borrowed f u q = rw as-one (told-borrowed out (one σ t) r er f u q)
-
-    pub one-short : (n : ℕ) → r ≡ One′.Written n → length out < n → Reads (read σ t) out (Read′.NoRoom n) out
-    one-short n q h = rw as-one (told-short out (one σ t) r er n q h)
-
-    pub one-holds : (n : ℕ) → r ≡ One′.Written n → n ≤ length out → Holds (alone σ t) (length out)
-    one-holds n q h = told-holds out (one σ t) r er t n q h
-
-    pub one-written : (n : ℕ) → r ≡ One′.Written n → n ≤ length out → (w : ℕ) (after : List ℕ) → Put (alone σ t) out w after
-        → Reads (read σ t) out (Read′.Written n) after
-    one-written n q h w after p = rw as-one (told-written out (one σ t) r er t n q h w after p)
-
-    pub one-refused : (p : ℕ) → r ≡ One′.Refused p → Reads (read σ t) out (Read′.Refused p) out
-    one-refused p q = rw as-one (told-refused out (one σ t) r er p q)
+    one-reads g = rw (sym ex ∙ y) g

@@ -1,3 +1,4 @@
 pub mod Answers
 pub mod Rooms
 pub mod Plain
+pub mod Expanding

@@ -1,5 +1,6 @@
 // [01 Cutting, String reading] Joined text, measured whole before the first byte is written; each segment is written into the room the earlier ones left.
 // The reading of a string's text.
+use crate::alone::read_alone;
 use crate::one::One;
 use crate::one::measure_one;
 use crate::one::write_one;
@@ -160,35 +161,19 @@ fn read_any(text: &[u8], settings: Settings, out: &mut [u8]) -> Read
             }
         }
     }
-    match measure_one(text, settings) {
-        One::Borrowed { from, until } => Read::Borrowed { from, until },
-        One::Written { len } => {
-            if out.len() < len {
-                return Read::NoRoom { needed: len };
-            }
-            write_one(text, settings, out);
-            Read::Written { len }
-        }
-        One::Refused { place } => Read::Refused { place },
-    }
+    read_alone(text, settings, out)
 }
 
-// Reads a text that has no U&: what can be read as one is not joined, so it is measured as one first.
+// Reads a text that has no U&: what can be read as one is not joined, so it is read as one first.
 fn read_one(text: &[u8], settings: Settings, out: &mut [u8]) -> Read
     requires { ⌜ isUnicode quote (now text) ≡ false ⌝ }
     ensures { λ r. ⌜ Reads (read settings (now (text .entry))) (now (out .entry)) r (now (out .exit)) ⌝ }
 {
-    match measure_one(text, settings) {
-        One::Borrowed { from, until } => Read::Borrowed { from, until },
-        One::Written { len } => {
-            if out.len() < len {
-                return Read::NoRoom { needed: len };
-            }
-            write_one(text, settings, out);
-            Read::Written { len }
-        }
-        One::Refused { place: _ } => read_any(text, settings, out),
+    let alone = read_alone(text, settings, out);
+    if let Read::Refused { place: _ } = alone {
+        return read_any(text, settings, out);
     }
+    alone
 }
 
 // Reads a string's text: a part of it, so many bytes at the buffer's start, the place where reading stops, or the length for which there is no room.
