@@ -36,14 +36,6 @@ put-some v out r after p some = go (leb (length v) (length out)) refl (p .answer
     go true e a b = (a, leb-true (length v) (length out) e, b)
     go false e a b = absurd (some a)
 
-filled-length : (v out : List ℕ) → length (filled v out) ≡ length out
-unfolding filled
-filled-length v out = go (leb (length v) (length out)) refl
-  where
-    go : (x : Bool) → leb (length v) (length out) ≡ x → length (if x then v ++ drop (length v) out else out) ≡ length out
-    go true e = omega (arith, length-append v (drop (length v) out), length-drop (length v) out, leb-true (length v) (length out) e)
-    go false e = refl
-
 pub record Expanding (step : List ℕ → Step) (l d out : List ℕ) (at n : ℕ) (p : Bool) : Type 0 where
   pub writing : Writing step l d out at n
   pub plainly : plain (writing .so-far .course) ≡ p
@@ -122,24 +114,6 @@ module _ (f : Family) (e l d : List ℕ) {out : List ℕ} {at n : ℕ} {pl : Boo
       go (Piece′.Scalar m c) q = inside (λ z. let y : _≡_ {A = ℕ} 0 1 = cc in omega arith)
       go (Piece′.Escape m) q = inside (λ z. let y : _≡_ {A = ℕ} 0 1 = cc in omega arith)
       go Piece′.Refused q = let z : k ≡ 0 = ek ∙ ap (λ (y : Piece). moreBy y (span (freeOf (stopsOf f e)) (drop (at + 1) l))) q in omega arith
-
-  -- whatever was put into the buffer's part from n on, the buffer is as long as it was
-  pub expanded-same : (r : ℕ) (last : List ℕ) → Puts own (take (length out - n) (drop n out)) r last
-      → length (take n out ++ (last ++ drop (length out - n) (drop n out))) ≡ length d
-  expanded-same r last q =
-      let k : length last ≡ length (take (length out - n) (drop n out)) = ap length (q .buffer) ∙ filled-length own (take (length out - n) (drop n out)) in
-      omega (
-        arith,
-        length-append (take n out) (last ++ drop (length out - n) (drop n out)),
-        length-append last (drop (length out - n) (drop n out)),
-        k,
-        length-take n out,
-        length-take (length out - n) (drop n out),
-        length-drop (length out - n) (drop n out),
-        length-drop n out,
-        expanding-within x,
-        x .writing .same,
-      )
 
   -- something was put there
   module _ (r : ℕ) (last : List ℕ) (q : Puts own (take (length out - n) (drop n out)) r last) (some : r ≡ 0 → ⊥) where

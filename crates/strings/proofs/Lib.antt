@@ -11,3 +11,4 @@ pub mod Joinings
 pub mod Wholes
 pub mod Plains
 pub mod Firsts
+pub mod Gatherings

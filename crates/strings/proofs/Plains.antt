@@ -158,7 +158,7 @@ module _ (σ : Settings) (t : List ℕ) (x : Bool) (e : SaysPlain σ t x) (y : x
   body-long : suc (length t - 1 - 1) ≤ length t - 1
   body-long = omega (arith, enclosed-long quote t (and-left (encloses 0 quote t) (freeBody σ (part 1 (length t - 1) t)) halves))
 
-  plain-alone : alone σ t ≡ means (take (length t - 1 - 1) (drop 1 t))
+  pub plain-alone : alone σ t ≡ means (take (length t - 1 - 1) (drop 1 t))
   plain-alone =
       let b = halves in
       let s = enclosed-is quote t (and-left (encloses 0 quote t) (freeBody σ (part 1 (length t - 1) t)) b) in

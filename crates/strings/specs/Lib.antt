@@ -2,3 +2,4 @@ pub mod Answers
 pub mod Rooms
 pub mod Plain
 pub mod Expanding
+pub mod Gathering

@@ -1,11 +1,14 @@
 // [01 Cutting, String reading] Joined text, measured whole before the first byte is written; each segment is written into the room the earlier ones left.
 // The reading of a string's text.
 use crate::alone::read_alone;
+use crate::bodies::Short;
+use crate::gathering::join_short;
 use crate::one::One;
 use crate::one::measure_one;
 use crate::one::write_one;
 use crate::plain::is_plain;
 use crate::plain::next_segment;
+use crate::plain::plain_segment;
 use cutting::cursor::Cursor;
 use cutting::cursor::Next;
 use cutting::marks::Mark;
@@ -24,7 +27,7 @@ ghost use lib.ListN.{length};
 ghost use Rattle.meaning.specs.Bytes.{quote};
 ghost use Rattle.meaning.specs.Cutting.{cut, continues};
 ghost use Rattle.meaning.specs.Spelling.{isUnicode};
-ghost use Rattle.meaning.specs.Reading.{alone, joined, read};
+ghost use Rattle.meaning.specs.Reading.{alone, joined, asWritten, read};
 ghost use Rattle.meaning.specs.Reads.{Reads};
 ghost use Rattle.strings.specs.Answers.{lengthOf, Holds, Put};
 ghost use Rattle.strings.specs.Plain.{SaysPlain};
@@ -142,24 +145,43 @@ fn write_joined(text: &[u8], settings: Settings, out: &mut [u8]) -> usize
     }
 }
 
-// Reads any string's text: joined, or as one.
+// Reads joined text by two passes: measured whole before the first byte is written.
 // Rules out: writing before a later segment refuses; a made-up length (must-fail: length_one_short, written_too_early).
+fn join_long(text: &[u8], settings: Settings, out: &mut [u8]) -> Read
+    ensures { λ r. ⌜ Reads (asWritten (joined settings (cut settings (now (text .entry))))) (now (out .entry)) r (now (out .exit)) ⌝ }
+{
+    match measure_joined(text, settings) {
+        Joined::Length(n) => {
+            if out.len() < n {
+                return Read::NoRoom { needed: n };
+            }
+            write_joined(text, settings, out);
+            Read::Written { len: n }
+        }
+        Joined::Refused(place) => Read::Refused { place },
+    }
+}
+
+// Reads joined text: by one pass where it is short.
+fn read_joined(text: &[u8], settings: Settings, out: &mut [u8]) -> Read
+    ensures { λ r. ⌜ Reads (asWritten (joined settings (cut settings (now (text .entry))))) (now (out .entry)) r (now (out .exit)) ⌝ }
+{
+    if 256 < text.len() {
+        return join_long(text, settings, out);
+    }
+    let short = join_short(text, settings, out);
+    if let Short::Answer(answer) = short {
+        return answer;
+    }
+    join_long(text, settings, out)
+}
+
+// Reads any string's text: joined, or as one.
 fn read_any(text: &[u8], settings: Settings, out: &mut [u8]) -> Read
     ensures { λ r. ⌜ Reads (read settings (now (text .entry))) (now (out .entry)) r (now (out .exit)) ⌝ }
 {
     if is_joined(text, settings) {
-        match measure_joined(text, settings) {
-            Joined::Length(n) => {
-                if out.len() < n {
-                    return Read::NoRoom { needed: n };
-                }
-                write_joined(text, settings, out);
-                return Read::Written { len: n };
-            }
-            Joined::Refused(place) => {
-                return Read::Refused { place };
-            }
-        }
+        return read_joined(text, settings, out);
     }
     read_alone(text, settings, out)
 }
@@ -176,7 +198,8 @@ fn read_one(text: &[u8], settings: Settings, out: &mut [u8]) -> Read
     alone
 }
 
-// Reads a string's text: a part of it, so many bytes at the buffer's start, the place where reading stops, or the length for which there is no room.
+// Reads a string's text: a part of it, so many bytes at the buffer's start, the place where reading stops, or the length for which there is no room. A text
+// that begins with a plain segment and goes on is not read as one first.
 // Rules out: a plain body shown with its mark, or from its mark on (must-fail: plain_from_its_mark, plain_with_its_mark).
 pub fn read_string(text: &[u8], settings: Settings, out: &mut [u8]) -> Read
     ensures { λ r. ⌜ Reads (read settings (now (text .entry))) (now (out .entry)) r (now (out .exit)) ⌝ }
@@ -186,6 +209,10 @@ pub fn read_string(text: &[u8], settings: Settings, out: &mut [u8]) -> Read
         return Read::Borrowed { from: 1, until };
     }
     if is_unicode_lexeme(text, Mark::Quote) {
+        return read_any(text, settings, out);
+    }
+    let first = plain_segment(text, 0);
+    if (0 < first) & (first < text.len()) {
         return read_any(text, settings, out);
     }
     read_one(text, settings, out)

@@ -2,6 +2,7 @@
 mod alone;
 mod bodies;
 mod expanding;
+mod gathering;
 pub mod ident;
 pub mod joined;
 pub mod one;

@@ -49,7 +49,7 @@ pub(crate) fn is_plain(text: &[u8], settings: Settings) -> bool
 }
 
 // How many bytes the plain segment at a place has, with its marks; 0 if none stands there. What is plain here is plain at either setting.
-fn plain_segment(text: &[u8], at: usize) -> usize
+pub(crate) fn plain_segment(text: &[u8], at: usize) -> usize
     ensures { λ r. ⌜ PlainAt (drop at (now (text .entry))) r ⌝ }
 {
     if text.len() <= at {

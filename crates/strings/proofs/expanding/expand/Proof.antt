@@ -1,6 +1,6 @@
 -- `strings::expanding::expand` meets its contract. The loop's invariant, `Expanding`: what the turns so far stand for is at the buffer's start, and the rest is
 -- as it was. The measure is what is left of the body. Assumes nothing.
-use mathlib.Core.Path.{_≡_}
+use mathlib.Core.Path.{_≡_, _∙_}
 use Prim.Native.Nat.{_+_, _-_, _≤_}
 use borrow.Author.Needs.{needs}
 use native.Mathlib.Omega.{arith}
@@ -11,7 +11,7 @@ use Rattle.leaves.specs.Blocks.{freeOf}
 use Rattle.escapes.specs.Pieces.{moreBy}
 use Rattle.escapes.specs.Families.{stepOf, stopsOf}
 use Rattle.escapes.proofs.Turns.{more-by}
-use Rattle.strings.proofs.Expansions.{Expanding, expanding-none, expanding-within, expanding-end, expanded-fits, expanded-same, expanded-room, expanded-turn}
+use Rattle.strings.proofs.Expansions.{Expanding, expanding-none, expanding-within, expanding-end, expanded-fits, expanded-room, expanded-turn}
 use Rattle.strings.proofs.expanding.expand.Statement.{statement}
 use Rattle.strings.proofs.expanding.expand.Tie as tie
 
@@ -82,9 +82,7 @@ put-piece-requires : tie.Need-put-piece-requires Inv-loop μ-loop
 put-piece-requires c κs = c .before .before .before .unit-at .ensures .sound
 
 same-length : tie.Need-same-length Inv-loop μ-loop
-same-length c =
-    let s = c .before .before .before .before .before .before .before .before .before .before .before .before .before .before .args in
-    expanded-same (s .family) (now (s .escape)) (now (s .body)) (now (s .out)) (c .before .before .before .before .before .before .before .before .before .loop .inv) (c .before .before .before .before .before .before .before .before .loop-test .taken) _ (c .before .before .before .before .before .before .before .unit-at .ensures) _ (more (c .before .before .before .before .before .before)) _ _ (c .before .before .before .put-piece .ensures)
+same-length c = c .before .before .out .given .1 ∙ c .before .before .before .before .before .before .before .before .before .loop .inv .writing .same
 
 returns : tie.Need-returns Inv-loop μ-loop
 returns c = tt
