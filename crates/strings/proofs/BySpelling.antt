@@ -11,7 +11,10 @@ use borrow.Author.Tests.{eq-eqb, ne-eqb}
 use Rattle.meaning.specs.declared.Settings.{Settings}
 use Rattle.meaning.specs.Bytes.{if_then_else_, part, has, backslash}
 use Rattle.meaning.specs.Spelling.{Spelling, unicode, spelling}
-use Rattle.meaning.specs.Reading.{Value, means, refused, valueOf, answer, read-as, one, alone}
+use Rattle.meaning.specs.declared.Read.{Read}
+use Rattle.meaning.specs.declared.Read.the-variants as Read′
+use Rattle.meaning.specs.Reads.{Reads}
+use Rattle.meaning.specs.Reading.{Answer, Value, means, refused, valueOf, answer, read-as, one, alone}
 use Rattle.laws.proofs.Joining.{fails≢means}
 use Rattle.laws.proofs.Ranges.{BodyIn, spelling-body}
 use Rattle.cutting.specs.declared.marks.Mark.{Mark}
@@ -25,12 +28,16 @@ use Rattle.escapes.specs.Families.{courseOf}
 use Rattle.leaves.specs.Puts.{Puts}
 use Rattle.spellings.specs.Spelled.{escapeOf, spelledOf, EscapeInside, Spells}
 use Rattle.strings.specs.Answers.{Inside, oneOf, Holds, Put}
-use Rattle.strings.proofs.Ones.{body-inside, means-put, spelled-body, spelled-one, spelled-holds, spelled-put}
+use Rattle.strings.proofs.Ones.{body-inside, means-put, one-spelled, spelled-body, spelled-one, spelled-holds, spelled-put}
 
 -- a NUL
 pub nul-one : (σ : Settings) (t : List ℕ) (x : Bool) → x ≡ has 0 t → x ≡ true → One′.Refused 0 ≡ oneOf (one σ t)
 unfolding one
 nul-one σ t x e q = rw (sym e ∙ q)
+
+pub nul-reads : (σ : Settings) (t out : List ℕ) (x : Bool) → x ≡ has 0 t → x ≡ true → Reads (one σ t) out (Read′.Refused 0) out
+unfolding one
+nul-reads σ t out x e q = rw (sym e ∙ q) (record { answer = refl; buffer = refl })
 
 -- WHERE THINGS LIE
 module _ (t : List ℕ) (s : Spelled) (spells : Spells t s (spelling t)) where
@@ -91,6 +98,41 @@ module _ (σ : Settings) (t : List ℕ) (s : Spelled) (spells : Spells t s (spel
 
     pub unspelt-one : s ≡ Unspelt → One′.Refused 0 ≡ oneOf (one σ t)
     unspelt-one q = spelled-one σ t s spells (sym nul ∙ none) Unspelt q (One′.Refused 0) refl
+
+  -- READ into a buffer, in a text without a NUL
+  module _ (x : Bool) (nul : x ≡ has 0 t) (none : x ≡ false) (out after : List ℕ) (r : Read) where
+    reads-by : (s′ : Spelled) → s ≡ s′ → Reads (read-as σ t (spelledOf t s′)) out r after → Reads (one σ t) out r after
+    reads-by s′ q g =
+        subst (λ (a : Answer). Reads a out r after)
+        (ap (λ (y : Spelled). read-as σ t (spelledOf t y)) (sym q) ∙ sym (one-spelled σ t s spells (sym nul ∙ none))) g
+
+    pub standard-reads : (m : Mark) (f u : ℕ) (e : List ℕ) → s ≡ Standard m f u
+        → Reads (answer f u (courseOf (Family′.Standard m (σ .backslash)) e (part f u t))) out r after → Reads (one σ t) out r after
+    standard-reads m f u e q g = reads-by (Standard m f u) q g
+
+    pub escape-reads : (f u : ℕ) (e : List ℕ) → s ≡ Escape f u → Reads (answer f u (courseOf Family′.Escape e (part f u t))) out r after
+        → Reads (one σ t) out r after
+    escape-reads f u e q g = reads-by (Escape f u) q g
+
+    unicode-reads : (f u a z : ℕ) (e : List ℕ) → escapeOf t a z ≡ e → s ≡ Unicode f u a z
+        → Reads (answer f u (courseOf (Family′.Unicode Quote) e (part f u t))) out r after → Reads (one σ t) out r after
+    unicode-reads f u a z e k q g =
+        reads-by (Unicode f u a z) q (subst (λ (y : List ℕ). Reads (read-as σ t (unicode y f u)) out r after) (sym k) g)
+
+    pub default-reads : (f u a z : ℕ) → s ≡ Unicode f u a z → a ≡ z
+        → Reads (answer f u (courseOf (Family′.Unicode Quote) (backslash ∷ []) (part f u t))) out r after → Reads (one σ t) out r after
+    default-reads f u a z q h g = unicode-reads f u a z (backslash ∷ []) (default-escape t a z h) q g
+
+    pub chosen-reads : (f u a z : ℕ) → s ≡ Unicode f u a z → (a ≡ z → ⊥)
+        → Reads (answer f u (courseOf (Family′.Unicode Quote) (take (z - a) (drop a t)) (part f u t))) out r after → Reads (one σ t) out r after
+    chosen-reads f u a z q h g = unicode-reads f u a z (take (z - a) (drop a t)) (chosen-escape t a z h) q g
+
+  module _ (x : Bool) (nul : x ≡ has 0 t) (none : x ≡ false) (out : List ℕ) where
+    pub dollar-reads : (f u : ℕ) → s ≡ Dollar f u → Reads (one σ t) out (Read′.Borrowed f u) out
+    dollar-reads f u q = reads-by x nul none out out (Read′.Borrowed f u) (Dollar f u) q (record { answer = refl; buffer = refl })
+
+    pub unspelt-reads : s ≡ Unspelt → Reads (one σ t) out (Read′.Refused 0) out
+    unspelt-reads q = reads-by x nul none out out (Read′.Refused 0) Unspelt q (record { answer = refl; buffer = refl })
 
   -- WRITTEN, where it means something and there is room
   module _ (n : ℕ) (h : Holds (alone σ t) n) where

@@ -1,25 +1,24 @@
 -- A text without U& that can be read as one is not joined. Assumes nothing.
-use mathlib.Core.Path.{_≡_, refl, ap, sym, _∙_}
+use mathlib.Core.Path.{_≡_, refl, ap, sym, _∙_, subst}
 use mathlib.Core.Bool.{Bool, true, false, false≢true}
-use mathlib.Core.List.{List, [], _∷_}
+use mathlib.Core.List.{List, [], _∷_, _++_}
 use Prim.Native.Nat.{ℕ, zero, suc, _≤_, _<_}
 use native.Mathlib.Omega.{arith}
 use native.Mathlib.Decide.{decLt}
-use lib.ListN.{length}
+use lib.Dec.{leb}
+use lib.ListN.{length, drop}
 use Rattle.meaning.specs.declared.Settings.{Settings}
+use Rattle.meaning.specs.declared.Read.{Read}
 use Rattle.meaning.specs.declared.Read.the-variants as Read′
-use Rattle.meaning.specs.Bytes.{quote}
+use Rattle.meaning.specs.Bytes.{if_then_else_, part, quote}
 use Rattle.meaning.specs.Cutting.{segment, continues}
 use Rattle.meaning.specs.Spelling.{isUnicode}
-use Rattle.meaning.specs.Reading.{means, valueOf, one, alone, read}
-use Rattle.meaning.specs.Reads.{Reads}
+use Rattle.meaning.specs.Answers.{filled}
+use Rattle.meaning.specs.Reading.{Answer, borrowed, written, refused, means, valueOf, one, alone, read}
+use Rattle.meaning.specs.Reads.{Reads, readOf, bufferOf}
 use Rattle.laws.proofs.Openings.{segment-fits}
 use Rattle.laws.proofs.WholeRefused.{refused-whole}
 use Rattle.laws.proofs.Written.{lone}
-use Rattle.strings.specs.declared.one.One.{One}
-use Rattle.strings.specs.declared.one.One.the-variants as One′
-use Rattle.strings.specs.Answers.{oneOf, Holds, Put}
-use Rattle.strings.proofs.Readings.{of-borrowed, of-written, told-borrowed, told-short, told-holds, told-written}
 
 one-first : (σ : Settings) (t : List ℕ) → isUnicode quote t ≡ false → (v : List ℕ) → alone σ t ≡ means v → read σ t ≡ one σ t
 unfolding read continues segment
@@ -34,19 +33,30 @@ one-first σ (b ∷ t) u v h = go (segment σ (b ∷ t)) refl
     go zero e = rw e
     go (suc n) e = whole n e (decLt (suc n) (length (b ∷ t)))
 
-module _ (σ : Settings) (t out : List ℕ) (none : isUnicode quote t ≡ false) (r : One) (er : r ≡ oneOf (one σ t)) where
-  pub first-borrowed : (f u : ℕ) → r ≡ One′.Borrowed f u → Reads (read σ t) out (Read′.Borrowed f u) out
-  first-borrowed f u q = rw (one-first σ t none _ (ap (valueOf t) (of-borrowed (one σ t) f u (sym er ∙ q)))) (told-borrowed out (one σ t) r er f u q)
+module _ (σ : Settings) (t out after : List ℕ) (r : Read) (g : Reads (one σ t) out r after) where
+  -- what is read as one is read
+  pub first-reads : isUnicode quote t ≡ false → ((p : ℕ) → r ≡ Read′.Refused p → ⊥) → Reads (read σ t) out r after
+  first-reads none some = go (one σ t) refl
+    where
+      taken : (v : List ℕ) → alone σ t ≡ means v → Reads (read σ t) out r after
+      taken v k = rw (one-first σ t none v k) g
 
-  same : (n : ℕ) → r ≡ One′.Written n → read σ t ≡ one σ t
-  same n q = let m = of-written (one σ t) n (sym er ∙ q) in one-first σ t none (m .0) (ap (valueOf t) (m .1))
+      go : (a : Answer) → one σ t ≡ a → Reads (read σ t) out r after
+      go (borrowed f u) e = taken (part f u t) (ap (valueOf t) e)
+      go (written v) e = taken v (ap (valueOf t) e)
+      go (refused p) e = absurd (some p (g .answer ∙ ap (readOf (length out)) e))
 
-  pub first-short : (n : ℕ) → r ≡ One′.Written n → length out < n → Reads (read σ t) out (Read′.NoRoom n) out
-  first-short n q h = rw (same n q) (told-short out (one σ t) r er n q h)
+  -- a refusal leaves the buffer as it was lent
+  pub first-onward : (p : ℕ) → r ≡ Read′.Refused p → (r′ : Read) (last : List ℕ) → Reads (read σ t) after r′ last → Reads (read σ t) out r′ last
+  unfolding filled
+  first-onward p q r′ last z = subst (λ (o : List ℕ). Reads (read σ t) o r′ last) (go (one σ t) refl) z
+    where
+      room : (v : List ℕ) (x : Bool) → Read′.Refused p ≡ (if x then Read′.Written (length v) else Read′.NoRoom (length v))
+          → (if x then v ++ drop (length v) out else out) ≡ out
+      room v true k = let y : _≡_ {A = ℕ} 0 1 = cc in absurd (omega arith)
+      room v false k = refl
 
-  pub first-holds : (n : ℕ) → r ≡ One′.Written n → n ≤ length out → Holds (alone σ t) (length out)
-  first-holds n q h = told-holds out (one σ t) r er t n q h
-
-  pub first-written : (n : ℕ) → r ≡ One′.Written n → n ≤ length out → (w : ℕ) (after : List ℕ) → Put (alone σ t) out w after
-      → Reads (read σ t) out (Read′.Written n) after
-  first-written n q h w after p = rw (same n q) (told-written out (one σ t) r er t n q h w after p)
+      go : (a : Answer) → one σ t ≡ a → after ≡ out
+      go (borrowed f u) e = g .buffer ∙ ap (bufferOf out) e
+      go (written v) e = g .buffer ∙ ap (bufferOf out) e ∙ room v (leb (length v) (length out)) (sym q ∙ g .answer ∙ ap (readOf (length out)) e)
+      go (refused k) e = g .buffer ∙ ap (bufferOf out) e

@@ -125,7 +125,7 @@ within σ t {i} {n} {m} h j =
     let a : j .got ≡ p .0 = let y = p .2 in cc in
     omega (arith, j .count, ap length a, ap length (p .4), length-append (p .0) (p .1), h .fits)
 
-module _ {σ : Settings} {t d out : List ℕ} {i n : ℕ} (w : WritesAt σ t d out i n) (h : Holds (joined σ (cut σ t)) (length d)) (r : Next) (e : r ≡ nextOf σ t i) where
+module _ {σ : Settings} {t d out : List ℕ} {i n : ℕ} (w : WritesAt σ t d out i n) (r : Next) (e : r ≡ nextOf σ t i) where
   pub writes-end : r ≡ Next′.End → Put (joined σ (cut σ t)) d n out
   unfolding cut
   writes-end q =
@@ -133,6 +133,33 @@ module _ {σ : Settings} {t d out : List ℕ} {i n : ℕ} (w : WritesAt σ t d o
       rw (joins.joined-end (alone σ) j (at-end σ t i r e q))
       (record { answer = sym (j .count); buffer = w .put ∙ ap (λ (k : ℕ). j .got ++ drop k d) (sym (j .count)) })
 
+  -- a segment more, which means v
+  module _ (s o u : ℕ) (c : Cursor) (q : r ≡ Next′.Segment s o u c) (v : List ℕ) (x : alone σ (take (u - s) (drop s t)) ≡ means v) (lent : n + length v ≤ length d) where
+    pub writes-more : (k : ℕ) (last : List ℕ) → Put (alone σ (take (u - s) (drop s t))) (take (length out - n) (drop n out)) k last
+        → WritesAt σ t d (take n out ++ (last ++ drop (length out - n) (drop n out))) (c .at) (n + k)
+    unfolding joins.joined-more turn
+    writes-more k last p =
+        let g = w .joins .so-far .got in
+        let y : valueIn (alone σ (take (u - s) (drop s t))) ≡ v = ap valueIn x in
+        let len : length (drop n out) ≡ length out - n = length-drop n out in
+        let tail : take (length out - n) (drop n out) ≡ drop n out = take-all (length out - n) (drop n out) (le-of-eq len) in
+        let l : last ≡ v ++ drop (length v) (drop n out) = p .buffer ∙ ap₂ (λ (a b : List ℕ). a ++ drop (length a) b) y tail in
+        let ek : k ≡ length v = p .answer ∙ ap length y in
+        let put : take n out ++ (last ++ drop (length out - n) (drop n out)) ≡ (g ++ v) ++ drop (n + length v) d =
+        ap (take n out ++_) (ap (last ++_) (drop-of-length-le (drop n out) (le-of-eq len)) ∙ append-nil last ∙ l)
+        ∙ ap (λ (o : List ℕ). take n o ++ (v ++ drop (length v) (drop n o))) (w .put)
+        ∙ put-part g v d n (w .joins .so-far .count) in
+        subst (λ (m : ℕ). WritesAt σ t d (take n out ++ (last ++ drop (length out - n) (drop n out))) (c .at) (n + m)) (sym ek)
+        (record {
+          joins = record {
+            so-far = turn (w .joins) r e s o u c q v x;
+            short = omega (arith, brief (w .joins) r e s o u c q v x, w .joins .short);
+          };
+          put = put;
+          same = ap length put ∙ length-append (g ++ v) (drop (n + length v) d) ∙ omega (arith, length-append g v, w .joins .so-far .count, length-drop (n + length v) d, lent);
+        })
+
+module _ {σ : Settings} {t d out : List ℕ} {i n : ℕ} (w : WritesAt σ t d out i n) (h : Holds (joined σ (cut σ t)) (length d)) (r : Next) (e : r ≡ nextOf σ t i) where
   pub writes-remainder : r ≡ Next′.Remainder → Put (joined σ (cut σ t)) d n out
   unfolding cut
   writes-remainder q =
@@ -166,29 +193,7 @@ module _ {σ : Settings} {t d out : List ℕ} {i n : ℕ} (w : WritesAt σ t d o
 
     pub writes-turn : (k : ℕ) (last : List ℕ) → Put (alone σ (take (u - s) (drop s t))) (take (length out - n) (drop n out)) k last
         → WritesAt σ t d (take n out ++ (last ++ drop (length out - n) (drop n out))) (c .at) (n + k)
-    unfolding joins.joined-more turn
-    writes-turn k last p =
-        let v = segment-means .0 in
-        let x = segment-means .1 in
-        let g = w .joins .so-far .got in
-        let y : valueIn (alone σ (take (u - s) (drop s t))) ≡ v = ap valueIn x in
-        let len : length (drop n out) ≡ length out - n = length-drop n out in
-        let tail : take (length out - n) (drop n out) ≡ drop n out = take-all (length out - n) (drop n out) (le-of-eq len) in
-        let l : last ≡ v ++ drop (length v) (drop n out) = p .buffer ∙ ap₂ (λ (a b : List ℕ). a ++ drop (length a) b) y tail in
-        let ek : k ≡ length v = p .answer ∙ ap length y in
-        let put : take n out ++ (last ++ drop (length out - n) (drop n out)) ≡ (g ++ v) ++ drop (n + length v) d =
-        ap (take n out ++_) (ap (last ++_) (drop-of-length-le (drop n out) (le-of-eq len)) ∙ append-nil last ∙ l)
-        ∙ ap (λ (o : List ℕ). take n o ++ (v ++ drop (length v) (drop n o))) (w .put)
-        ∙ put-part g v d n (w .joins .so-far .count) in
-        subst (λ (m : ℕ). WritesAt σ t d (take n out ++ (last ++ drop (length out - n) (drop n out))) (c .at) (n + m)) (sym ek)
-        (record {
-          joins = record {
-            so-far = turn (w .joins) r e s o u c q v x;
-            short = omega (arith, brief (w .joins) r e s o u c q v x, w .joins .short);
-          };
-          put = put;
-          same = ap length put ∙ length-append (g ++ v) (drop (n + length v) d) ∙ omega (arith, length-append g v, w .joins .so-far .count, length-drop (n + length v) d, lent);
-        })
+    writes-turn k last p = writes-more w r e s o u c q (segment-means .0) (segment-means .1) lent k last p
 
     pub writes-fits : (k : ℕ) (last : List ℕ) → Put (alone σ (take (u - s) (drop s t))) (take (length out - n) (drop n out)) k last → n + k ≤ length out
     writes-fits k last p = omega (arith, lent, w .same, p .answer ∙ ap length (ap valueIn (segment-means .1)))

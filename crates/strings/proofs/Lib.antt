@@ -2,7 +2,9 @@
 pub mod WriteTurns
 pub mod Letters
 pub mod WritePairs
+pub mod Expansions
 pub mod Ones
+pub mod Shorts
 pub mod BySpelling
 pub mod Readings
 pub mod Lexemes
@@ -11,3 +13,4 @@ pub mod Joinings
 pub mod Wholes
 pub mod Plains
 pub mod Firsts
+pub mod Gatherings

@@ -133,7 +133,11 @@ module _ (σ : Settings) (t : List ℕ) (s : Spelled) (spells : Spells t s (spel
 pub body-inside : (n f u : ℕ) → Bounds n f u → Inside n f u
 body-inside n f u b = record { ordered = b .ordered; within = b .inside }
 
--- bytes that are put as they are
+-- bytes that are put as they are, where there is room
+pub puts-as : (v out : List ℕ) (r : ℕ) (after : List ℕ) → length v ≤ length out → Puts v out r after → after ≡ v ++ drop (length v) out
+unfolding filled
+puts-as v out r after l p = p .buffer ∙ rw (le-leb (length v) (length out) l)
+
 pub means-put : (v out after : List ℕ) (r : ℕ) → Holds (means v) (length out) → Puts v out r after → Put (means v) out r after
 unfolding filled
 means-put v out after r h p =

@@ -6,7 +6,7 @@ use Prim.Native.Nat.{ℕ, zero, suc, _+_, _-_, _≤_, _<_}
 use native.Mathlib.Omega.{arith}
 use lib.Dec.{eqb, ltb}
 use lib.ListN.{length, take, drop, getD, length-take, length-append, length-drop, take-append-drop, drop-of-length-le}
-use lib.Seq.{drop-cons, drop-drop, getD-drop, length-take-le}
+use lib.Seq.{drop-cons, drop-drop, getD-drop, length-take-le, take-at}
 use borrow.Author.Tests.{lt-ltb, ltb-true, eq-eqb, eqb-true, ne-eqb, not-true, not-false}
 use Rattle.meaning.specs.declared.Settings.{Settings}
 use Rattle.meaning.specs.declared.Read.the-variants as Read′
@@ -34,7 +34,7 @@ use Rattle.laws.proofs.Gaps.{gap-fits}
 use Rattle.laws.proofs.Openings.{inside}
 use Rattle.strings.specs.declared.joined.Joined.the-variants as Joined′
 use Rattle.strings.specs.Answers.{lengthOf, Holds, Put}
-use Rattle.strings.specs.Plain.{stopsOf, freeBody, isPlain, Plainly, PlainAt}
+use Rattle.strings.specs.Plain.{stopsOf, freeBody, isPlain, Plainly, PlainAt, SaysPlain, CutAt}
 use Rattle.strings.proofs.Ones.{means-put}
 
 -- WHAT A FREE BYTE is not
@@ -151,13 +151,16 @@ module _ (σ : Settings) (t : List ℕ) (x : Bool) (e : x ≡ encloses 0 quote t
   plain-by y k ek r er = er ∙ rw ek (sym (rw (sym e ∙ not-false x y)))
 
 -- A PLAIN SEGMENT, alone: its value is its body
-module _ (σ : Settings) (t : List ℕ) (x : Bool) (e : x ≡ isPlain σ t) (y : x ≡ true) where
-  body-long : suc (length t - 1 - 1) ≤ length t - 1
-  body-long = omega (arith, enclosed-long quote t (and-left (encloses 0 quote t) (freeBody σ (part 1 (length t - 1) t)) (both σ t x e y)))
+module _ (σ : Settings) (t : List ℕ) (x : Bool) (e : SaysPlain σ t x) (y : x ≡ true) where
+  halves : (encloses 0 quote t && freeBody σ (part 1 (length t - 1) t)) ≡ true
+  halves = both σ t true (sym (e y)) refl
 
-  plain-alone : alone σ t ≡ means (take (length t - 1 - 1) (drop 1 t))
+  body-long : suc (length t - 1 - 1) ≤ length t - 1
+  body-long = omega (arith, enclosed-long quote t (and-left (encloses 0 quote t) (freeBody σ (part 1 (length t - 1) t)) halves))
+
+  pub plain-alone : alone σ t ≡ means (take (length t - 1 - 1) (drop 1 t))
   plain-alone =
-      let b = both σ t x e y in
+      let b = halves in
       let s = enclosed-is quote t (and-left (encloses 0 quote t) (freeBody σ (part 1 (length t - 1) t)) b) in
       let v = part 1 (length t - 1) t in
       ap (valueOf t) (ap (one σ) s ∙ free-one σ v (and-right (encloses 0 quote t) (freeBody σ v) b) ∙ ap (λ (w : List ℕ). borrowed 1 (length w - 1)) (sym s))
@@ -217,7 +220,7 @@ module _ (σ : Settings) (t : List ℕ) (at n : ℕ) (q : PlainAt (drop at t) n)
   pub gap-inside : (g : ℕ) → g ≡ gap (drop (at + n) t) → at + n + g ≤ length t
   gap-inside g eg = omega (arith, segment-fits, gap-fits (drop (at + n) t), length-drop (at + n) t)
 
-  pub segment-next : (g : ℕ) → g ≡ gap (drop (at + n) t) → Next′.Segment at 1 (at + n) (record { at = at + n + g }) ≡ nextOf σ t at
+  segment-next : (g : ℕ) → g ≡ gap (drop (at + n) t) → Next′.Segment at 1 (at + n) (record { at = at + n + g }) ≡ nextOf σ t at
   unfolding nextOf isMark
   segment-next g eg =
       let o : opening (drop at t) ≡ 1 = ap opening (p .is) in
@@ -225,6 +228,25 @@ module _ (σ : Settings) (t : List ℕ) (at n : ℕ) (q : PlainAt (drop at t) n)
       ap (λ (x : ℕ). Next′.Segment at 1 (at + n) (record { at = at + n + x })) eg
       ∙ by-next n (suc (length (p .body))) (omega (arith, p .long))
       ∙ sym (rw (lt-ltb at (length t) h, o, segment-plain))
+
+  -- the segment's own text is plain
+  segment-free : isPlain σ (take (at + n - at) (drop at t)) ≡ true
+  unfolding isPlain
+  segment-free =
+      let w : List ℕ = quote ∷ (p .body ++ (quote ∷ [])) in
+      let l : length w ≡ at + n - at = omega (arith, length-append (p .body) (quote ∷ []), p .long) in
+      let d : drop at t ≡ w ++ p .rest = p .is ∙ ap (quote ∷_) (sym (append-assoc (p .body) (quote ∷ []) (p .rest))) in
+      let k : take (at + n - at) (drop at t) ≡ w = ap (take (at + n - at)) d ∙ take-at w (p .rest) (at + n - at) l in
+      ap (isPlain σ) k ∙ rw (encloses-body quote (p .body), part-body quote (p .body)) (on-free σ (p .body) (p .free))
+
+  pub cut-plain : (g : ℕ) → g ≡ gap (drop (at + n) t) → CutAt σ t at (record { next = Next′.Segment at 1 (at + n) (record { at = at + n + g }); plain = true })
+  cut-plain g eg = record {
+    is = segment-next g eg;
+    says = λ s o u c q y. let a : at ≡ s = cc in let b : at + n ≡ u = cc in rw (← a, ← b) segment-free;
+  }
+
+pub cut-other : (σ : Settings) (t : List ℕ) (i : ℕ) (r : Next) → r ≡ nextOf σ t i → CutAt σ t i (record { next = r; plain = false })
+cut-other σ t i r e = record { is = e; says = λ s o u c q y. absurd (false≢true y) }
 
 -- AS THE CODE FINDS IT: a mark, a run that is free, a mark, and no mark behind it
 passes-take : (f : ℕ → Bool) (n : ℕ) (t : List ℕ) → passes f n t ≡ true → passes f (length (take n t)) (take n t) ≡ true

@@ -6,62 +6,43 @@ use Prim.Native.Nat.{ℕ, _≤_, _<_}
 use native.Mathlib.Omega.{arith}
 use lib.ListN.{length, drop}
 use Rattle.meaning.specs.declared.Settings.{Settings}
+use Rattle.meaning.specs.declared.Read.{Read}
 use Rattle.meaning.specs.declared.Read.the-variants as Read′
 use Rattle.meaning.specs.Cutting.{cut, continues}
-use Rattle.meaning.specs.Reading.{Value, means, fails, one, alone, joined, asWritten, read}
+use Rattle.meaning.specs.Reading.{Answer, one, joined, asWritten, read}
 use Rattle.meaning.specs.Reads.{Reads}
-use Rattle.strings.specs.declared.one.One.{One}
-use Rattle.strings.specs.declared.one.One.the-variants as One′
 use Rattle.strings.specs.declared.joined.Joined.{Joined}
 use Rattle.strings.specs.declared.joined.Joined.the-variants as Joined′
-use Rattle.strings.specs.Answers.{oneOf, lengthOf, Holds, valueIn, Put}
+use Rattle.strings.specs.Answers.{lengthOf, Holds, valueIn, Put}
 use Rattle.laws.proofs.Owed.{reads-short, reads-written, reads-refused}
-use Rattle.strings.proofs.Readings.{told-borrowed, told-short, told-holds, told-written, told-refused}
 use Rattle.strings.proofs.Joinings.{length-means, length-fails}
 
-module _ (σ : Settings) (t out : List ℕ) (x : Bool) (ex : x ≡ continues σ t) where
-  -- JOINED TEXT
-  module _ (y : x ≡ true) (k : Joined) (ek : k ≡ lengthOf (joined σ (cut σ t))) where
-    as-joined : (j : Value) → joined σ (cut σ t) ≡ j → read σ t ≡ asWritten j
-    unfolding read
-    as-joined j q = rw (sym ex ∙ y, q)
+-- JOINED TEXT, by what measuring it said
+module _ (σ : Settings) (t out : List ℕ) (k : Joined) (ek : k ≡ lengthOf (joined σ (cut σ t))) where
+  abbrev whole : Answer
+  whole = asWritten (joined σ (cut σ t))
 
-    pub joined-short : (n : ℕ) → k ≡ Joined′.Length n → length out < n → Reads (read σ t) out (Read′.NoRoom n) out
-    joined-short n q h =
-        let m = length-means (joined σ (cut σ t)) n (sym ek ∙ q) in reads-short (read σ t) (m .0) out n (as-joined (means (m .0)) (m .1)) (m .2) h
+  pub joined-short : (n : ℕ) → k ≡ Joined′.Length n → length out < n → Reads whole out (Read′.NoRoom n) out
+  joined-short n q h = let m = length-means (joined σ (cut σ t)) n (sym ek ∙ q) in reads-short whole (m .0) out n (ap asWritten (m .1)) (m .2) h
 
-    pub joined-holds : (n : ℕ) → k ≡ Joined′.Length n → n ≤ length out → Holds (joined σ (cut σ t)) (length out)
-    joined-holds n q h =
-        let m = length-means (joined σ (cut σ t)) n (sym ek ∙ q) in record { all = m .0; reads = m .1; fits = omega (arith, m .2) }
+  pub joined-holds : (n : ℕ) → k ≡ Joined′.Length n → n ≤ length out → Holds (joined σ (cut σ t)) (length out)
+  joined-holds n q h = let m = length-means (joined σ (cut σ t)) n (sym ek ∙ q) in record { all = m .0; reads = m .1; fits = omega (arith, m .2) }
 
-    pub joined-written : (n : ℕ) → k ≡ Joined′.Length n → n ≤ length out → (w : ℕ) (after : List ℕ) → Put (joined σ (cut σ t)) out w after
-        → Reads (read σ t) out (Read′.Written n) after
-    joined-written n q h w after p =
-        let m = length-means (joined σ (cut σ t)) n (sym ek ∙ q) in
-        reads-written (read σ t) (m .0) out after n (as-joined (means (m .0)) (m .1)) (m .2) h
-        (p .buffer ∙ ap (λ (v : List ℕ). v ++ drop (length v) out) (ap valueIn (m .1)))
+  pub joined-written : (n : ℕ) → k ≡ Joined′.Length n → n ≤ length out → (w : ℕ) (after : List ℕ) → Put (joined σ (cut σ t)) out w after
+      → Reads whole out (Read′.Written n) after
+  joined-written n q h w after p =
+      let m = length-means (joined σ (cut σ t)) n (sym ek ∙ q) in
+      reads-written whole (m .0) out after n (ap asWritten (m .1)) (m .2) h (p .buffer ∙ ap (λ (v : List ℕ). v ++ drop (length v) out) (ap valueIn (m .1)))
 
-    pub joined-refused : (p : ℕ) → k ≡ Joined′.Refused p → Reads (read σ t) out (Read′.Refused p) out
-    joined-refused p q = reads-refused (read σ t) out p (as-joined (fails p) (length-fails (joined σ (cut σ t)) p (sym ek ∙ q)))
+  pub joined-refused : (p : ℕ) → k ≡ Joined′.Refused p → Reads whole out (Read′.Refused p) out
+  joined-refused p q = reads-refused whole out p (ap asWritten (length-fails (joined σ (cut σ t)) p (sym ek ∙ q)))
 
-  -- A TEXT READ AS ONE
-  module _ (y : x ≡ false) (r : One) (er : r ≡ oneOf (one σ t)) where
-    as-one : read σ t ≡ one σ t
-    unfolding read
-    as-one = rw (sym ex ∙ y)
+-- A TEXT read as it goes on or not
+module _ (σ : Settings) (t out after : List ℕ) (r : Read) (x : Bool) (ex : x ≡ continues σ t) where
+  pub joined-reads : x ≡ true → Reads (asWritten (joined σ (cut σ t))) out r after → Reads (read σ t) out r after
+  unfolding read
+  joined-reads y g = rw (sym ex ∙ y) g
 
-    pub one-borrowed : (f u : ℕ) → r ≡ One′.Borrowed f u → Reads (read σ t) out (Read′.Borrowed f u) out
-    one-borrowed f u q = rw as-one (told-borrowed out (one σ t) r er f u q)
-
-    pub one-short : (n : ℕ) → r ≡ One′.Written n → length out < n → Reads (read σ t) out (Read′.NoRoom n) out
-    one-short n q h = rw as-one (told-short out (one σ t) r er n q h)
-
-    pub one-holds : (n : ℕ) → r ≡ One′.Written n → n ≤ length out → Holds (alone σ t) (length out)
-    one-holds n q h = told-holds out (one σ t) r er t n q h
-
-    pub one-written : (n : ℕ) → r ≡ One′.Written n → n ≤ length out → (w : ℕ) (after : List ℕ) → Put (alone σ t) out w after
-        → Reads (read σ t) out (Read′.Written n) after
-    one-written n q h w after p = rw as-one (told-written out (one σ t) r er t n q h w after p)
-
-    pub one-refused : (p : ℕ) → r ≡ One′.Refused p → Reads (read σ t) out (Read′.Refused p) out
-    one-refused p q = rw as-one (told-refused out (one σ t) r er p q)
+  pub one-reads : x ≡ false → Reads (one σ t) out r after → Reads (read σ t) out r after
+  unfolding read
+  one-reads y g = rw (sym ex ∙ y) g

@@ -1,3 +1,5 @@
 pub mod Answers
 pub mod Rooms
 pub mod Plain
+pub mod Expanding
+pub mod Gathering

@@ -4,13 +4,17 @@ use mathlib.Core.Bool.{Bool, true, false, _&&_}
 use mathlib.Core.List.{List, _∷_, _++_}
 use Prim.Native.Nat.{ℕ, zero, suc, _+_, _-_}
 use lib.Dec.{eqb}
-use lib.ListN.{length}
+use lib.ListN.{length, take, drop}
 use Rattle.meaning.specs.declared.Settings.{Settings}
 use Rattle.meaning.specs.Cutting.{on}
 use Rattle.meaning.specs.Bytes.{if_then_else_, _!_, part, quote, backslash}
 use Rattle.meaning.specs.Spelling.{encloses}
 use Rattle.leaves.specs.declared.blocks.Stops.{Stops}
 use Rattle.leaves.specs.Blocks.{freeOf, passes}
+use Rattle.cutting.specs.declared.cursor.Cursor.{Cursor}
+use Rattle.cutting.specs.declared.cursor.Next.the-variants as Next′
+use Rattle.cutting.specs.Segments.{nextOf}
+use Rattle.strings.specs.declared.plain.Cut.{Cut}
 
 abbrev pub stopsOf : Settings → Stops
 stopsOf σ = record { first = quote; second = if σ .backslash then backslash else quote; third = 0 }
@@ -33,3 +37,12 @@ pub record Plainly (t : List ℕ) (n : ℕ) : Type 0 where
 abbrev pub PlainAt : List ℕ → ℕ → Type 0
 PlainAt t zero = Unit {0}
 PlainAt t (suc n) = Plainly t (suc n)
+
+-- who says that a text is plain is right
+abbrev pub SaysPlain : Settings → List ℕ → Bool → Type 0
+SaysPlain σ t x = x ≡ true → isPlain σ t ≡ true
+
+-- what stands at the place i of t; a segment that is called plain is one
+pub record CutAt (σ : Settings) (t : List ℕ) (i : ℕ) (r : Cut) : Type 0 where
+  pub is : r .next ≡ nextOf σ t i
+  pub says : (s o u : ℕ) (c : Cursor) → r .next ≡ Next′.Segment s o u c → SaysPlain σ (take (u - s) (drop s t)) (r .plain)

@@ -1,48 +1,12 @@
 // [01 One segment, U&] An identifier: U& with " as its mark, by the same rules, a raw NUL kept.
-use crate::one::One;
-use crate::one::measure_body;
-use crate::one::write_body;
+use crate::bodies::read_body;
 use cutting::marks::Mark;
 use escapes::units::Family;
 use meaning::Read;
 use spellings::spelling::Spelled;
 use spellings::spelling::unicode_lexeme;
-ghost use lib.ListN.{length};
 ghost use Rattle.meaning.specs.Helpers.{ident};
 ghost use Rattle.meaning.specs.Reads.{Reads};
-ghost use Rattle.strings.specs.Answers.{Inside, bodyOf};
-
-// Reads the body from a place up to another: measured first, and written if it is to be written and there is room.
-// Rules out: a made-up length (must-fail: first_segment_only).
-fn read_body(
-    text: &[u8],
-    from: usize,
-    until: usize,
-    family: Family,
-    escape: &[u8],
-    out: &mut [u8],
-) -> Read
-    requires { ⌜ Inside (length (now text)) from until ⌝ }
-    ensures { λ r. ⌜ Reads (bodyOf family (now (escape .entry)) from until (now (text .entry))) (now (out .entry)) r (now (out .exit)) ⌝ }
-{
-    match measure_body(text, from, until, family, escape) {
-        One::Borrowed {
-            from: start,
-            until: end,
-        } => Read::Borrowed {
-            from: start,
-            until: end,
-        },
-        One::Written { len } => {
-            if out.len() < len {
-                return Read::NoRoom { needed: len };
-            }
-            write_body(text, from, until, family, escape, out);
-            Read::Written { len }
-        }
-        One::Refused { place } => Read::Refused { place },
-    }
-}
 
 // Reads an identifier's text: a part of it, so many bytes at the buffer's start, the place where reading stops, or the length for which there is no room.
 // Rules out: a string read for an identifier; the backslash active beside a chosen escape character (must-fail: length_one_short, written_too_early).

@@ -1,10 +1,14 @@
 // [01 Cutting, String reading] Joined text, measured whole before the first byte is written; each segment is written into the room the earlier ones left.
 // The reading of a string's text.
+use crate::alone::read_alone;
+use crate::bodies::Short;
+use crate::gathering::join_short;
 use crate::one::One;
 use crate::one::measure_one;
 use crate::one::write_one;
 use crate::plain::is_plain;
 use crate::plain::next_segment;
+use crate::plain::plain_segment;
 use cutting::cursor::Cursor;
 use cutting::cursor::Next;
 use cutting::marks::Mark;
@@ -23,9 +27,10 @@ ghost use lib.ListN.{length};
 ghost use Rattle.meaning.specs.Bytes.{quote};
 ghost use Rattle.meaning.specs.Cutting.{cut, continues};
 ghost use Rattle.meaning.specs.Spelling.{isUnicode};
-ghost use Rattle.meaning.specs.Reading.{alone, joined, read};
+ghost use Rattle.meaning.specs.Reading.{alone, joined, asWritten, read};
 ghost use Rattle.meaning.specs.Reads.{Reads};
 ghost use Rattle.strings.specs.Answers.{lengthOf, Holds, Put};
+ghost use Rattle.strings.specs.Plain.{SaysPlain};
 
 // How long joined text's value is, or where reading stops.
 pub enum Joined {
@@ -44,11 +49,12 @@ fn is_joined(text: &[u8], settings: Settings) -> bool
     }
 }
 
-// The length of one segment's value, or where it is refused.
-fn segment_length(text: &[u8], settings: Settings) -> Joined
+// The length of one segment's value, or where it is refused; of a plain one no byte is looked at.
+fn segment_length(text: &[u8], plain: bool, settings: Settings) -> Joined
+    requires { ⌜ SaysPlain settings (now text) plain ⌝ }
     ensures { λ r. ⌜ r ≡ lengthOf (alone settings (now (text .entry))) ⌝ }
 {
-    if is_plain(text, settings) {
+    if plain {
         let len = text.len() - 2;
         return Joined::Length(len);
     }
@@ -67,14 +73,16 @@ fn measure_joined(text: &[u8], settings: Settings) -> Joined
     let mut cursor = Cursor::new();
     let mut n: usize = 0;
     loop {
-        match next_segment(cursor, text, settings) {
+        let cut = next_segment(cursor, text, settings);
+        let stands = cut.next;
+        match stands {
             Next::Segment {
                 start,
                 open: _,
                 end,
                 next,
             } => {
-                match segment_length(&text[start..end], settings) {
+                match segment_length(&text[start..end], cut.plain, settings) {
                     Joined::Length(k) => {
                         n += k;
                     }
@@ -95,11 +103,12 @@ fn measure_joined(text: &[u8], settings: Settings) -> Joined
 }
 
 // Writes what one segment means, for which there is room, and says how long it is; a plain one is copied.
-fn write_segment(text: &[u8], settings: Settings, out: &mut [u8]) -> usize
+fn write_segment(text: &[u8], plain: bool, settings: Settings, out: &mut [u8]) -> usize
+    requires { ⌜ SaysPlain settings (now text) plain ⌝ }
     requires { ⌜ Holds (alone settings (now text)) (length (now out)) ⌝ }
     ensures { λ r. ⌜ Put (alone settings (now (text .entry))) (now (out .entry)) r (now (out .exit)) ⌝ }
 {
-    if is_plain(text, settings) {
+    if plain {
         let end = text.len() - 1;
         return put_bytes(&text[1..end], out);
     }
@@ -114,14 +123,16 @@ fn write_joined(text: &[u8], settings: Settings, out: &mut [u8]) -> usize
     let mut cursor = Cursor::new();
     let mut n: usize = 0;
     loop {
-        match next_segment(cursor, text, settings) {
+        let cut = next_segment(cursor, text, settings);
+        let stands = cut.next;
+        match stands {
             Next::Segment {
                 start,
                 open: _,
                 end,
                 next,
             } => {
-                n += write_segment(&text[start..end], settings, &mut out[n..]);
+                n += write_segment(&text[start..end], cut.plain, settings, &mut out[n..]);
                 cursor = next;
             }
             Next::End => {
@@ -134,57 +145,61 @@ fn write_joined(text: &[u8], settings: Settings, out: &mut [u8]) -> usize
     }
 }
 
-// Reads any string's text: joined, or as one.
+// Reads joined text by two passes: measured whole before the first byte is written.
 // Rules out: writing before a later segment refuses; a made-up length (must-fail: length_one_short, written_too_early).
+fn join_long(text: &[u8], settings: Settings, out: &mut [u8]) -> Read
+    ensures { λ r. ⌜ Reads (asWritten (joined settings (cut settings (now (text .entry))))) (now (out .entry)) r (now (out .exit)) ⌝ }
+{
+    match measure_joined(text, settings) {
+        Joined::Length(n) => {
+            if out.len() < n {
+                return Read::NoRoom { needed: n };
+            }
+            write_joined(text, settings, out);
+            Read::Written { len: n }
+        }
+        Joined::Refused(place) => Read::Refused { place },
+    }
+}
+
+// Reads joined text: by one pass where it is short.
+fn read_joined(text: &[u8], settings: Settings, out: &mut [u8]) -> Read
+    ensures { λ r. ⌜ Reads (asWritten (joined settings (cut settings (now (text .entry))))) (now (out .entry)) r (now (out .exit)) ⌝ }
+{
+    if 256 < text.len() {
+        return join_long(text, settings, out);
+    }
+    let short = join_short(text, settings, out);
+    if let Short::Answer(answer) = short {
+        return answer;
+    }
+    join_long(text, settings, out)
+}
+
+// Reads any string's text: joined, or as one.
 fn read_any(text: &[u8], settings: Settings, out: &mut [u8]) -> Read
     ensures { λ r. ⌜ Reads (read settings (now (text .entry))) (now (out .entry)) r (now (out .exit)) ⌝ }
 {
     if is_joined(text, settings) {
-        match measure_joined(text, settings) {
-            Joined::Length(n) => {
-                if out.len() < n {
-                    return Read::NoRoom { needed: n };
-                }
-                write_joined(text, settings, out);
-                return Read::Written { len: n };
-            }
-            Joined::Refused(place) => {
-                return Read::Refused { place };
-            }
-        }
+        return read_joined(text, settings, out);
     }
-    match measure_one(text, settings) {
-        One::Borrowed { from, until } => Read::Borrowed { from, until },
-        One::Written { len } => {
-            if out.len() < len {
-                return Read::NoRoom { needed: len };
-            }
-            write_one(text, settings, out);
-            Read::Written { len }
-        }
-        One::Refused { place } => Read::Refused { place },
-    }
+    read_alone(text, settings, out)
 }
 
-// Reads a text that has no U&: what can be read as one is not joined, so it is measured as one first.
+// Reads a text that has no U&: what can be read as one is not joined, so it is read as one first.
 fn read_one(text: &[u8], settings: Settings, out: &mut [u8]) -> Read
     requires { ⌜ isUnicode quote (now text) ≡ false ⌝ }
     ensures { λ r. ⌜ Reads (read settings (now (text .entry))) (now (out .entry)) r (now (out .exit)) ⌝ }
 {
-    match measure_one(text, settings) {
-        One::Borrowed { from, until } => Read::Borrowed { from, until },
-        One::Written { len } => {
-            if out.len() < len {
-                return Read::NoRoom { needed: len };
-            }
-            write_one(text, settings, out);
-            Read::Written { len }
-        }
-        One::Refused { place: _ } => read_any(text, settings, out),
+    let alone = read_alone(text, settings, out);
+    if let Read::Refused { place: _ } = alone {
+        return read_any(text, settings, out);
     }
+    alone
 }
 
-// Reads a string's text: a part of it, so many bytes at the buffer's start, the place where reading stops, or the length for which there is no room.
+// Reads a string's text: a part of it, so many bytes at the buffer's start, the place where reading stops, or the length for which there is no room. A text
+// that begins with a plain segment and goes on is not read as one first.
 // Rules out: a plain body shown with its mark, or from its mark on (must-fail: plain_from_its_mark, plain_with_its_mark).
 pub fn read_string(text: &[u8], settings: Settings, out: &mut [u8]) -> Read
     ensures { λ r. ⌜ Reads (read settings (now (text .entry))) (now (out .entry)) r (now (out .exit)) ⌝ }
@@ -194,6 +209,10 @@ pub fn read_string(text: &[u8], settings: Settings, out: &mut [u8]) -> Read
         return Read::Borrowed { from: 1, until };
     }
     if is_unicode_lexeme(text, Mark::Quote) {
+        return read_any(text, settings, out);
+    }
+    let first = plain_segment(text, 0);
+    if (0 < first) & (first < text.len()) {
         return read_any(text, settings, out);
     }
     read_one(text, settings, out)

@@ -10,8 +10,13 @@ use meaning::Settings;
 use spaces::gap_at;
 ghost use mathlib.Core.Path.{_≡_};
 ghost use lib.ListN.{drop};
-ghost use Rattle.cutting.specs.Segments.{nextOf};
-ghost use Rattle.strings.specs.Plain.{stopsOf, isPlain, PlainAt};
+ghost use Rattle.strings.specs.Plain.{stopsOf, isPlain, PlainAt, CutAt};
+
+// What stands at a cursor, and whether it was found to be a plain segment: then nobody has to look at its body again.
+pub(crate) struct Cut {
+    pub next: Next,
+    pub plain: bool,
+}
 
 // The bytes that such a body may not hold: the mark, with the setting on the backslash, and NUL.
 fn plain_stops(settings: Settings) -> Stops
@@ -44,7 +49,7 @@ pub(crate) fn is_plain(text: &[u8], settings: Settings) -> bool
 }
 
 // How many bytes the plain segment at a place has, with its marks; 0 if none stands there. What is plain here is plain at either setting.
-fn plain_segment(text: &[u8], at: usize) -> usize
+pub(crate) fn plain_segment(text: &[u8], at: usize) -> usize
     ensures { λ r. ⌜ PlainAt (drop at (now (text .entry))) r ⌝ }
 {
     if text.len() <= at {
@@ -66,20 +71,23 @@ fn plain_segment(text: &[u8], at: usize) -> usize
 }
 
 // What stands at a cursor: a plain segment is found by one scan.
-pub(crate) fn next_segment(cursor: Cursor, text: &[u8], settings: Settings) -> Next
-    ensures { λ r. ⌜ r ≡ nextOf settings (now (text .entry)) (cursor .at) ⌝ }
+// Rules out: a segment called plain that is not.
+pub(crate) fn next_segment(cursor: Cursor, text: &[u8], settings: Settings) -> Cut
+    ensures { λ r. ⌜ CutAt settings (now (text .entry)) (cursor .at) r ⌝ }
 {
     let at = cursor.at;
     let len = plain_segment(text, at);
     if len == 0 {
-        return cursor.next(text, settings);
+        let next = cursor.next(text, settings);
+        return Cut { next, plain: false };
     }
     let end = at + len;
-    let next = end + gap_at(text, end);
-    Next::Segment {
+    let past = end + gap_at(text, end);
+    let next = Next::Segment {
         start: at,
         open: 1,
         end,
-        next: Cursor { at: next },
-    }
+        next: Cursor { at: past },
+    };
+    Cut { next, plain: true }
 }

@@ -16,7 +16,7 @@ ghost use Rattle.strings.specs.Rooms.{Room, Written};
 
 // Puts the bytes that a turn stands for at the buffer's start, and says how many; where there is no room it puts nothing and says 0. A run that stands for
 // itself is one copy.
-fn put_piece(piece: Piece, part: &[u8], escape: &[u8], out: &mut [u8]) -> usize
+pub(crate) fn put_piece(piece: Piece, part: &[u8], escape: &[u8], out: &mut [u8]) -> usize
     requires { ⌜ Sound piece ⌝ }
     ensures { λ r. ⌜ Puts (bytesOf piece (now (part .entry)) (now (escape .entry))) (now (out .entry)) r (now (out .exit)) ⌝ }
 {

@@ -24,8 +24,8 @@ loop-holds c = search joins-start
 next-segment-requires : tie.Need-next-segment-requires Inv-loop μ-loop
 next-segment-requires c κs = search needs
 
-enum-known-start : tie.Need-enum-known-start Inv-loop μ-loop
-enum-known-start c = search needs
+enum-known-stands : tie.Need-enum-known-stands Inv-loop μ-loop
+enum-known-stands c = search needs
 
 sub-segment-length : tie.Need-sub-segment-length Inv-loop μ-loop
 sub-segment-length c = search segment-ordered
@@ -37,7 +37,7 @@ part-segment-length-end : tie.Need-part-segment-length-end Inv-loop μ-loop
 part-segment-length-end c = search segment-inside
 
 segment-length-requires : tie.Need-segment-length-requires Inv-loop μ-loop
-segment-length-requires c κs = search needs
+segment-length-requires c κs = c .before .before .before .before .next-segment .ensures .says _ _ _ _ (c .before .before .stands .given .1)
 
 enum-known-k : tie.Need-enum-known-k Inv-loop μ-loop
 enum-known-k c = search needs
@@ -51,11 +51,11 @@ add-n c = let h = fits c in omega (arith, h)
 enum-known-p : tie.Need-enum-known-p Inv-loop μ-loop
 enum-known-p c = search needs
 
-placed : (c : tie.After-known-told3 Inv-loop μ-loop) → c .before .before .before .before .before .before .start .given .0 .0 + c .before .p .given .0 .0 ≤ length (now (c .before .before .before .before .before .before .before .before .before .before .before .before .args .text))
+placed : (c : tie.After-known-told3 Inv-loop μ-loop) → c .before .before .before .before .before .before .stands .given .0 .0 + c .before .p .given .0 .0 ≤ length (now (c .before .before .before .before .before .before .before .before .before .before .before .before .args .text))
 placed c = search refused-fits
 
-add-t16 : tie.Need-add-t16 Inv-loop μ-loop
-add-t16 c = let h = placed c in omega (arith, h)
+add-t17 : tie.Need-add-t17 Inv-loop μ-loop
+add-t17 c = let h = placed c in omega (arith, h)
 
 returns : tie.Need-returns Inv-loop μ-loop
 returns c = search joins-refused
@@ -87,7 +87,7 @@ measure-joined-spec =
     new-requires
     loop-holds
     next-segment-requires
-    enum-known-start
+    enum-known-stands
     sub-segment-length
     part-segment-length-start
     part-segment-length-end
@@ -95,7 +95,7 @@ measure-joined-spec =
     enum-known-k
     add-n
     enum-known-p
-    add-t16
+    add-t17
     returns
     loop-less
     loop-again

@@ -1,5 +1,5 @@
--- `strings::joined::read_any` meets its contract: nothing is written before all is measured. Assumes nothing.
-use Rattle.strings.proofs.Wholes.{joined-short, joined-holds, joined-written, joined-refused, one-borrowed, one-short, one-holds, one-written, one-refused}
+-- `strings::joined::read_any` meets its contract: a text that goes on behind its first segment is joined. Assumes nothing.
+use Rattle.strings.proofs.Wholes.{joined-reads, one-reads}
 use borrow.Author.Needs.{needs}
 use Rattle.strings.proofs.joined.read_any.Statement.{statement}
 use Rattle.strings.proofs.joined.read_any.Tie as tie
@@ -7,80 +7,32 @@ use Rattle.strings.proofs.joined.read_any.Tie as tie
 is-joined-requires : tie.Need-is-joined-requires
 is-joined-requires c κs = search needs
 
-measure-joined-requires : tie.Need-measure-joined-requires
-measure-joined-requires c κs = search needs
-
-enum-known-n : tie.Need-enum-known-n
-enum-known-n c = search needs
-
-returns : tie.Need-returns
-returns c = search joined-short
-
-write-joined-requires : tie.Need-write-joined-requires
-write-joined-requires c κs = search joined-holds
+read-joined-requires : tie.Need-read-joined-requires
+read-joined-requires c κs = search needs
 
 same-length : tie.Need-same-length
 same-length c = search needs
 
-returns-2 : tie.Need-returns-2
-returns-2 c = search joined-written
+returns : tie.Need-returns
+returns c = search joined-reads
 
-enum-known-place : tie.Need-enum-known-place
-enum-known-place c = search needs
-
-returns-3 : tie.Need-returns-3
-returns-3 c = search joined-refused
-
-measure-one-requires : tie.Need-measure-one-requires
-measure-one-requires c κs = search needs
-
-enum-known-from : tie.Need-enum-known-from
-enum-known-from c = search needs
-
-enum-known-len : tie.Need-enum-known-len
-enum-known-len c = search needs
-
-returns-4 : tie.Need-returns-4
-returns-4 c = search one-short
-
-write-one-requires : tie.Need-write-one-requires
-write-one-requires c κs = search one-holds
-
-enum-known-place-2 : tie.Need-enum-known-place-2
-enum-known-place-2 c = search needs
-
-returns-5 : tie.Need-returns-5
-returns-5 c = search one-borrowed
+read-alone-requires : tie.Need-read-alone-requires
+read-alone-requires c κs = search needs
 
 same-length-2 : tie.Need-same-length-2
 same-length-2 c = search needs
 
-returns-6 : tie.Need-returns-6
-returns-6 c = search one-written
-
-returns-7 : tie.Need-returns-7
-returns-7 c = search one-refused
+returns-2 : tie.Need-returns-2
+returns-2 c = search one-reads
 
 pub read-any-spec : {M : Type 1} → statement M
 read-any-spec =
     tie.close
     (tie.spec
     is-joined-requires
-    measure-joined-requires
-    enum-known-n
-    returns
-    write-joined-requires
+    read-joined-requires
     same-length
-    returns-2
-    enum-known-place
-    returns-3
-    measure-one-requires
-    enum-known-from
-    enum-known-len
-    returns-4
-    write-one-requires
-    enum-known-place-2
-    returns-5
+    returns
+    read-alone-requires
     same-length-2
-    returns-6
-    returns-7)
+    returns-2)

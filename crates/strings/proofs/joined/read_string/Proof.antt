@@ -27,14 +27,26 @@ same-length c = search needs
 returns-2 : tie.Need-returns-2
 returns-2 c = search needs
 
-read-one-requires : tie.Need-read-one-requires
-read-one-requires c κs = sym (c .before .before .is-unicode-lexeme .ensures) ∙ c .before .if2 .left
+plain-segment-requires : tie.Need-plain-segment-requires
+plain-segment-requires c κs = search needs
+
+read-any-requires-2 : tie.Need-read-any-requires-2
+read-any-requires-2 c κs = search needs
 
 same-length-2 : tie.Need-same-length-2
 same-length-2 c = search needs
 
 returns-3 : tie.Need-returns-3
 returns-3 c = search needs
+
+read-one-requires : tie.Need-read-one-requires
+read-one-requires c κs = sym (c .before .before .before .before .is-unicode-lexeme .ensures) ∙ c .before .before .before .if2 .left
+
+same-length-3 : tie.Need-same-length-3
+same-length-3 c = search needs
+
+returns-4 : tie.Need-returns-4
+returns-4 c = search needs
 
 pub read-string-spec : {M : Type 1} → statement M
 read-string-spec =
@@ -47,6 +59,10 @@ read-string-spec =
     read-any-requires
     same-length
     returns-2
-    read-one-requires
+    plain-segment-requires
+    read-any-requires-2
     same-length-2
-    returns-3)
+    returns-3
+    read-one-requires
+    same-length-3
+    returns-4)

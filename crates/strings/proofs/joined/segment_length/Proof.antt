@@ -6,11 +6,8 @@ use native.Mathlib.Omega.{arith}
 use Rattle.strings.proofs.joined.segment_length.Statement.{statement}
 use Rattle.strings.proofs.joined.segment_length.Tie as tie
 
-is-plain-requires : tie.Need-is-plain-requires
-is-plain-requires c κs = search needs
-
 sub-len : tie.Need-sub-len
-sub-len c = let f = plain-two _ _ _ (c .before .is-plain .ensures) (c .if1 .taken) in omega (arith, f)
+sub-len c = let f = plain-two _ _ _ (c .before .before .pre) (c .if1 .taken) in omega (arith, f)
 
 returns : tie.Need-returns
 returns c = search plain-length
@@ -21,8 +18,8 @@ measure-one-requires c κs = search needs
 enum-known-from : tie.Need-enum-known-from
 enum-known-from c = search needs
 
-sub-t12 : tie.Need-sub-t12
-sub-t12 c = search borrowed-ordered
+sub-t13 : tie.Need-sub-t13
+sub-t13 c = search borrowed-ordered
 
 enum-known-len : tie.Need-enum-known-len
 enum-known-len c = search needs
@@ -43,12 +40,11 @@ pub segment-length-spec : {M : Type 1} → statement M
 segment-length-spec =
     tie.close
     (tie.spec
-    is-plain-requires
     sub-len
     returns
     measure-one-requires
     enum-known-from
-    sub-t12
+    sub-t13
     enum-known-len
     enum-known-place
     returns-2

@@ -23,8 +23,8 @@ loop-holds c = search writes-start
 next-segment-requires : tie.Need-next-segment-requires Inv-loop μ-loop
 next-segment-requires c κs = search needs
 
-enum-known-start : tie.Need-enum-known-start Inv-loop μ-loop
-enum-known-start c = search needs
+enum-known-stands : tie.Need-enum-known-stands Inv-loop μ-loop
+enum-known-stands c = search needs
 
 sub-write-segment : tie.Need-sub-write-segment Inv-loop μ-loop
 sub-write-segment c = search segment-ordered
@@ -45,7 +45,7 @@ part-write-segment-end-2 : tie.Need-part-write-segment-end-2 Inv-loop μ-loop
 part-write-segment-end-2 c = search needs
 
 write-segment-requires : tie.Need-write-segment-requires Inv-loop μ-loop
-write-segment-requires c κs = search segment-holds
+write-segment-requires c κs = (c .before .before .before .before .before .next-segment .ensures .says _ _ _ _ (c .before .before .before .stands .given .1), search segment-holds)
 
 fits : (c : tie.After-slice-known2 Inv-loop μ-loop) → c .before .before .before .before .before .before .before .before .before .loop .n + c .before .before .write-segment .result ≤ length (c .before .before .before .before .before .before .before .before .before .loop .out)
 fits c = search writes-fits
@@ -86,7 +86,7 @@ write-joined-spec =
     new-requires
     loop-holds
     next-segment-requires
-    enum-known-start
+    enum-known-stands
     sub-write-segment
     part-write-segment-start
     part-write-segment-end

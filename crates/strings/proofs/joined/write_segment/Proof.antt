@@ -5,17 +5,14 @@ use native.Mathlib.Omega.{arith}
 use Rattle.strings.proofs.joined.write_segment.Statement.{statement}
 use Rattle.strings.proofs.joined.write_segment.Tie as tie
 
-is-plain-requires : tie.Need-is-plain-requires
-is-plain-requires c κs = search needs
-
 sub-end : tie.Need-sub-end
-sub-end c = let f = plain-two _ _ _ (c .before .is-plain .ensures) (c .if1 .taken) in omega (arith, f)
+sub-end c = let f = plain-two _ _ _ (c .before .before .before .pre .0) (c .if1 .taken) in omega (arith, f)
 
 sub-put-bytes : tie.Need-sub-put-bytes
-sub-put-bytes c = let f = plain-two _ _ _ (c .before .is-plain .ensures) (c .if1 .taken) in omega (arith, f)
+sub-put-bytes c = let f = plain-two _ _ _ (c .before .before .before .pre .0) (c .if1 .taken) in omega (arith, f)
 
 part-put-bytes-start : tie.Need-part-put-bytes-start
-part-put-bytes-start c = let f = plain-two _ _ _ (c .before .is-plain .ensures) (c .if1 .taken) in omega (arith, f)
+part-put-bytes-start c = let f = plain-two _ _ _ (c .before .before .before .pre .0) (c .if1 .taken) in omega (arith, f)
 
 part-put-bytes-end : tie.Need-part-put-bytes-end
 part-put-bytes-end c = search needs
@@ -42,7 +39,6 @@ pub write-segment-spec : {M : Type 1} → statement M
 write-segment-spec =
     tie.close
     (tie.spec
-    is-plain-requires
     sub-end
     sub-put-bytes
     part-put-bytes-start

@@ -1,8 +1,8 @@
--- `strings::ident::read_body` meets its contract: nothing is written before the body is measured. Assumes nothing.
+-- `strings::bodies::read_long` meets its contract: nothing is written before the body is measured. Assumes nothing.
 use Rattle.strings.proofs.Readings.{told-borrowed, told-short, told-holds, told-written, told-refused}
 use borrow.Author.Needs.{needs}
-use Rattle.strings.proofs.ident.read_body.Statement.{statement}
-use Rattle.strings.proofs.ident.read_body.Tie as tie
+use Rattle.strings.proofs.bodies.read_long.Statement.{statement}
+use Rattle.strings.proofs.bodies.read_long.Tie as tie
 
 measure-body-requires : tie.Need-measure-body-requires
 measure-body-requires c κs = search needs
@@ -34,8 +34,8 @@ returns-3 c = search told-written
 returns-4 : tie.Need-returns-4
 returns-4 c = search told-refused
 
-pub read-body-spec : {M : Type 1} → statement M
-read-body-spec =
+pub read-long-spec : {M : Type 1} → statement M
+read-long-spec =
     tie.close
     (tie.spec
     measure-body-requires
