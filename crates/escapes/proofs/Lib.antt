@@ -4,4 +4,5 @@ pub mod Breaking
 pub mod Encodings
 pub mod Running
 pub mod UnitLaws
+pub mod Hexes
 pub mod Turns
