@@ -33,7 +33,7 @@ add-t15 : tie.Need-add-t15
 add-t15 c = search needs
 
 returns : tie.Need-returns
-returns c = 
+returns c =
     let a = c .before .before .before .before .before .args in
     group-two (now (a .body)) (a .at) _ _ (c .before .before .before .before .before .pre) (c .before .before .hex-value .ensures) (c .hex-value2 .ensures)
 
