@@ -6,3 +6,4 @@ pub mod Running
 pub mod UnitLaws
 pub mod Hexes
 pub mod Turns
+pub mod QuickLaws

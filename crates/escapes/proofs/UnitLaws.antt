@@ -210,7 +210,7 @@ octal-first c t n h e =
     let p : 0 < n = omega arith in
     escaped-by c t 256 n (sym o) e ∙ rw (lt-ltb 0 n p)
 
-letter-last : (c : ℕ) (t : List ℕ) → 8 ≤ digit c → (c ≡ 120 → ⊥) → (c ≡ 117 → ⊥) → (c ≡ 85 → ⊥) → escaped (c ∷ t) ≡ oneByte 1 (letterOf c)
+pub letter-last : (c : ℕ) (t : List ℕ) → 8 ≤ digit c → (c ≡ 120 → ⊥) → (c ≡ 117 → ⊥) → (c ≡ 85 → ⊥) → escaped (c ∷ t) ≡ oneByte 1 (letterOf c)
 unfolding letterOf oneByte
 letter-last c t h x u w =
     rw (le-ltb (digit c) 8 h, ne-eqb c 120 x, ne-eqb c 117 u, ne-eqb c 85 w)

@@ -3,4 +3,5 @@
 mod digits;
 pub mod measuring;
 pub mod pieces;
+mod quick;
 pub mod units;

@@ -171,7 +171,7 @@ fn escape_letter(letter: u8) -> u8
 }
 
 // Whether a byte is an octal digit.
-fn is_octal(byte: u8) -> bool
+pub(crate) fn is_octal(byte: u8) -> bool
     ensures { λ r. ⌜ r ≡ ltb (digit byte) 8 ⌝ }
 {
     (48 <= byte) & (byte <= 55)
