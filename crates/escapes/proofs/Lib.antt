@@ -4,6 +4,8 @@ pub mod Breaking
 pub mod Encodings
 pub mod Running
 pub mod UnitLaws
+pub mod Hexes
 pub mod Turns
 pub mod Standards
 pub mod Pairs
+pub mod QuickLaws

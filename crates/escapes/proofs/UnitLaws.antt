@@ -1,28 +1,28 @@
 -- What each way out of the functions that read a unit says, over a body l and a place of it. Assumes nothing.
 use mathlib.Core.Path.{_≡_, refl, ap, ap₂, sym, _∙_}
-use mathlib.Core.Bool.{Bool, true, false, _&&_, _||_, and-false, or-false}
+use mathlib.Core.Bool.{Bool, true, false, _&&_, _||_, and-true, and-false, or-false}
 use mathlib.Core.List.{List, [], _∷_}
 use Prim.Native.Nat.{ℕ, suc, _+_, _-_, _*_, _%_, _≤_, _<_}
 use Prim.Native.Char.{code}
 use native.Mathlib.Nat.{add-zero, mod-eq-of-lt, lt-of-lt-of-le, pow-le-pow-right}
 use native.Mathlib.Numerals.{add-one}
 use native.Mathlib.Omega.{arith}
-use borrow.Author.Tests.{eq-eqb, ne-eqb, lt-ltb, le-ltb, eqb-true}
+use borrow.Author.Tests.{eq-eqb, ne-eqb, lt-ltb, le-ltb, eqb-true, ltb-true, ltb-false, le-leb, leb-true, leb-false}
 use lib.Dec.{eqb, ltb, leb}
 use lib.ListN.{length, drop, length-drop, drop-of-length-le}
 use lib.Seq.{drop-cons, drop-drop, getD-drop}
-use Rattle.meaning.specs.Bytes.{if_then_else_, _!_, ascii, has, starts, within, backslash, digits, number}
+use Rattle.meaning.specs.Bytes.{if_then_else_, _!_, ascii, has, starts, within, backslash, digit, digits, number}
 use Rattle.meaning.specs.Chars.{encode, isScalar}
 use Rattle.meaning.specs.Walk.{Step, keep, give, stop}
 use Rattle.meaning.specs.Steps.{byteOf, mysqlTable, escapeTable, doubled, mysql, oneByte, mayEscape, scalarBy, escaped, pair, lowHalf, uescaped, standardStep, escapeStep, unicodeStep}
-use Rattle.laws.proofs.Tests.{within-yes, within-below, within-above}
+use Rattle.laws.proofs.Tests.{and-left, and-right, eqb-sym, within-yes, within-below, within-above, within-bounds}
 use Rattle.laws.proofs.Encode.{isScalar-yes}
 use Rattle.laws.proofs.Digits.{digits-le, digits-length, number-digits-lt}
 use Rattle.escapes.specs.declared.digits.Digits.{Digits}
 use Rattle.escapes.specs.declared.pieces.Piece.{Piece}
 use Rattle.escapes.specs.declared.pieces.Piece.the-variants.{Keep, Byte, Two, Scalar, Escape, Refused}
-use Rattle.escapes.specs.Digits.{Run}
-use Rattle.escapes.specs.Pieces.{Is, IsBy}
+use Rattle.escapes.specs.Digits.{Run, hexBy}
+use Rattle.escapes.specs.Pieces.{Is, IsBy, scalarOf, letterOf}
 
 -- the front of what stands at a place
 pub front : (l : List ℕ) (at : ℕ) → drop at l ! 0 ≡ l ! at
@@ -93,31 +93,37 @@ pub run-there : (β w : ℕ) (l : List ℕ) (at : ℕ) (d : Digits) → Run β w
 run-there β w l at d r =
     omega (arith, r .count, digits-le β w (drop at l), digits-length β w (drop at l), length-drop at l)
 
-module _ (w k : ℕ) (t : List ℕ) (d : Digits) (r : Run 16 w t d) where
-  pub scalar-short : (d .count ≡ w → ⊥) → Is Refused (scalarBy w k t)
-  unfolding scalarBy
-  scalar-short h = record { means = λ e. rw (ne-eqb (digits 16 w t) w (λ n. h (r .count ∙ n))); sound = tt }
+-- a scalar by hex digits, of which the number is told
+pub scalar-by : (w n : ℕ) (t : List ℕ) → scalarBy w n t ≡ scalarOf n (hexBy w t)
+unfolding scalarBy scalarOf hexBy mayEscape
+scalar-by w n t = go (eqb (digits 16 w t) w)
+  where
+    go : (x : Bool) → (if x && mayEscape (number 16 w 0 t) then give n (encode (number 16 w 0 t)) else stop)
+        ≡ (if mayEscape (if x then number 16 w 0 t else 0) then give n (encode (if x then number 16 w 0 t else 0)) else stop)
+    go true = refl
+    go false = refl
 
-  module _ (full : d .count ≡ w) where
-    all : digits 16 w t ≡ w
-    all = sym (r .count) ∙ full
+module _ (n v : ℕ) where
+  pub scalar-zero : v ≡ 0 → Is Refused (scalarOf n v)
+  unfolding scalarOf mayEscape
+  scalar-zero h = record { means = λ e. rw h; sound = tt }
 
-    made : number 16 w 0 t ≡ d .value
-    made = ap (λ (n : ℕ). number 16 n 0 t) (sym all) ∙ sym (r .value)
+  pub scalar-none : isScalar v ≡ false → Is Refused (scalarOf n v)
+  unfolding scalarOf mayEscape
+  scalar-none h = record { means = λ e. rw (h, and-false); sound = tt }
 
-    pub scalar-zero : d .value ≡ 0 → Is Refused (scalarBy w k t)
-    unfolding scalarBy mayEscape
-    scalar-zero h = record { means = λ e. rw (eq-eqb (digits 16 w t) w all, made, h); sound = tt }
+  pub scalar-is : (v ≡ 0 → ⊥) → isScalar v ≡ true → Is (Scalar n v) (scalarOf n v)
+  unfolding scalarOf mayEscape
+  scalar-is z h = let p : 0 < v = omega arith in record { means = λ e. rw (lt-ltb 0 v p, h); sound = h }
 
-    pub scalar-none : isScalar (d .value) ≡ false → Is Refused (scalarBy w k t)
-    unfolding scalarBy mayEscape
-    scalar-none h = record { means = λ e. rw (eq-eqb (digits 16 w t) w all, made, h, and-false); sound = tt }
-
-    pub scalar-is : (d .value ≡ 0 → ⊥) → isScalar (d .value) ≡ true → Is (Scalar k (d .value)) (scalarBy w k t)
-    unfolding scalarBy mayEscape
-    scalar-is z h =
-        let p : 0 < d .value = omega arith in
-        record { means = λ e. rw (eq-eqb (digits 16 w t) w all, made, lt-ltb 0 (d .value) p, h); sound = h }
+-- hex digits that make a number are inside the body
+pub hex-there : (w : ℕ) (l : List ℕ) (at v : ℕ) → v ≡ hexBy w (drop at l) → (v ≡ 0 → ⊥) → w ≤ length l - at
+unfolding hexBy
+hex-there w l at v e n = go (eqb (digits 16 w (drop at l)) w) refl e
+  where
+    go : (x : Bool) → eqb (digits 16 w (drop at l)) w ≡ x → v ≡ (if x then number 16 w 0 (drop at l) else 0) → w ≤ length l - at
+    go true q h = omega (arith, eqb-true (digits 16 w (drop at l)) w q, digits-length 16 w (drop at l), length-drop at l)
+    go false q h = absurd (n h)
 
 -- two hex digits make a byte
 two-hex : (t : List ℕ) → number 16 (digits 16 2 t) 0 t < 256
@@ -125,10 +131,59 @@ two-hex t =
     let o : 0 < 16 = omega arith in
     lt-of-lt-of-le (number-digits-lt 16 2 (digits 16 2 t) t (omega arith)) (pow-le-pow-right o (digits-le 16 2 t))
 
-pub no-digits : (x : Bool) (t : List ℕ) {n : ℕ} → n ≡ digits 16 2 t → n ≤ 0 → (x && ltb 0 (digits 16 2 t)) ≡ false
-no-digits x t e h = rw (← e, le-ltb 0 _ h, and-false)
+-- AN OCTAL DIGIT
+module _ (b : ℕ) where
+  octal-bound : digit b < 8 → (48 ≤ b) × (b ≤ 55)
+  unfolding digit
+  octal-bound h = go (within 48 57 b) (within 65 70 b) (within 97 102 b) refl refl refl h
+    where
+      go : (x y z : Bool) → within 48 57 b ≡ x → within 65 70 b ≡ y → within 97 102 b ≡ z
+          → (if x then b - 48 else if y then b - 55 else if z then b - 87 else 16) < 8 → (48 ≤ b) × (b ≤ 55)
+      go true y z e f g h = let k = within-bounds 48 57 b e in omega arith
+      go false true z e f g h = let k = within-bounds 65 70 b f in absurd (omega arith)
+      go false false true e f g h = let k = within-bounds 97 102 b g in absurd (omega arith)
+      go false false false e f g h = absurd (omega arith)
 
--- what follows E's backslash, by the letter's byte v and its octal digits n
+  octal-small : 48 ≤ b → b ≤ 55 → digit b < 8
+  unfolding digit
+  octal-small h k = rw (within-yes 48 57 b h (omega arith)) (omega arith)
+
+  octal-not : 8 ≤ digit b → (w : Bool) → (leb 48 b && leb b 55) ≡ w → w ≡ false
+  octal-not h false e = refl
+  octal-not h true e =
+      let d = octal-small (leb-true 48 b (and-left (leb 48 b) (leb b 55) e)) (leb-true b 55 (and-right (leb 48 b) (leb b 55) e)) in
+      absurd (omega arith)
+
+  pub octal-test : (leb 48 b && leb b 55) ≡ ltb (digit b) 8
+  octal-test = go (ltb (digit b) 8) refl
+    where
+      go : (z : Bool) → ltb (digit b) 8 ≡ z → (leb 48 b && leb b 55) ≡ z
+      go true e = let k = octal-bound (ltb-true (digit b) 8 e) in rw (le-leb 48 b (k .0), le-leb b 55 (k .1))
+      go false e = octal-not (ltb-false (digit b) 8 e) (leb 48 b && leb b 55) refl
+
+-- LETTERS
+-- the byte by E's table, by which letter it is
+abbrev toldBy : Bool → Bool → Bool → Bool → Bool → ℕ
+toldBy x y z w u = if x then 8 else if y then 12 else if z then 10 else if w then 13 else if u then 9 else 256
+
+pub letter-of : (c : ℕ)
+    → (if eqb c 98 then 8 else if eqb c 102 then 12 else if eqb c 110 then 10 else if eqb c 114 then 13 else if eqb c 116 then 9 else c) ≡ letterOf c
+unfolding letterOf
+letter-of c =
+    rw (eqb-sym c 98, eqb-sym c 102, eqb-sym c 110, eqb-sym c 114, eqb-sym c 116)
+    (go (eqb 98 c) (eqb 102 c) (eqb 110 c) (eqb 114 c) (eqb 116 c))
+  where
+    go : (x y z w u : Bool)
+        → (if x then 8 else if y then 12 else if z then 10 else if w then 13 else if u then 9 else c)
+        ≡ (if ltb (toldBy x y z w u) 256 then toldBy x y z w u else c)
+    go true y z w u = refl
+    go false true z w u = refl
+    go false false true w u = refl
+    go false false false true u = refl
+    go false false false false true = refl
+    go false false false false false = refl
+
+-- what follows E's backslash, by the letter c
 escaped-by : (c : ℕ) (t : List ℕ) (v n : ℕ) → byteOf escapeTable c ≡ v → digits 8 3 (c ∷ t) ≡ n
     → escaped (c ∷ t)
     ≡ (if ltb v 256 then give 1 (v ∷ [])
@@ -146,98 +201,115 @@ escaped-by c t v n e f =
     else if eqb c (code "U") then scalarBy 8 9 t
     else oneByte 1 c) e f
 
+octal-first : (c : ℕ) (t : List ℕ) (n : ℕ) → digit c < 8 → digits 8 3 (c ∷ t) ≡ n → escaped (c ∷ t) ≡ oneByte n (number 8 n 0 (c ∷ t) % 256)
+octal-first c t n h e =
+    let k = octal-bound c h in
+    let o : 256 ≡ byteOf escapeTable c =
+    other-none escapeTable c ((λ e. omega arith), ((λ e. omega arith), ((λ e. omega arith), ((λ e. omega arith), ((λ e. omega arith), tt))))) in
+    let z : suc (digits 8 2 t) ≡ n = rw (lt-ltb (digit c) 8 h) at e in
+    let p : 0 < n = omega arith in
+    escaped-by c t 256 n (sym o) e ∙ rw (lt-ltb 0 n p)
+
+pub letter-last : (c : ℕ) (t : List ℕ) → 8 ≤ digit c → (c ≡ 120 → ⊥) → (c ≡ 117 → ⊥) → (c ≡ 85 → ⊥) → escaped (c ∷ t) ≡ oneByte 1 (letterOf c)
+unfolding letterOf oneByte
+letter-last c t h x u w =
+    rw (le-ltb (digit c) 8 h, ne-eqb c 120 x, ne-eqb c 117 u, ne-eqb c 85 w)
+    (go (eqb 98 c) (eqb 102 c) (eqb 110 c) (eqb 114 c) (eqb 116 c))
+  where
+    go : (x y z w u : Bool)
+        → (if ltb (toldBy x y z w u) 256 then give 1 (toldBy x y z w u ∷ []) else if eqb c 0 then stop else give 1 (c ∷ []))
+        ≡ (if eqb (if ltb (toldBy x y z w u) 256 then toldBy x y z w u else c) 0 then stop else give 1 ((if ltb (toldBy x y z w u) 256 then toldBy x y z w u else c) ∷ []))
+    go true y z w u = refl
+    go false true z w u = refl
+    go false false true w u = refl
+    go false false false true u = refl
+    go false false false false true = refl
+    go false false false false false = refl
+
 pub escaped-end : (l : List ℕ) (at : ℕ) → length l ≤ at → Is Refused (escaped (drop at l))
 escaped-end l at h = record { means = λ e. rw (drop-of-length-le l h); sound = tt }
 
-module _ (l : List ℕ) (at : ℕ) (h : at < length l) (v : ℕ) (e : v ≡ byteOf escapeTable (l ! at)) (d : Digits) (r : Run 8 3 (drop at l) d) where
-  escaped-here : escaped (drop at l)
-      ≡ (if ltb v 256 then give 1 (v ∷ [])
-      else if ltb 0 (d .count) then oneByte (d .count) (d .value % 256)
-      else if eqb (l ! at) (code "x") && ltb 0 (digits 16 2 (drop (at + 1) l))
-      then oneByte (suc (digits 16 2 (drop (at + 1) l))) (number 16 (digits 16 2 (drop (at + 1) l)) 0 (drop (at + 1) l))
-      else if eqb (l ! at) (code "u") then scalarBy 4 5 (drop (at + 1) l)
-      else if eqb (l ! at) (code "U") then scalarBy 8 9 (drop (at + 1) l)
-      else oneByte 1 (l ! at))
-  escaped-here =
+module _ (l : List ℕ) (at : ℕ) (h : at < length l) where
+  here : {s : Step} → escaped (l ! at ∷ drop (at + 1) l) ≡ s → (p : Piece) → Is p s → Is p (escaped (drop at l))
+  here e p i = is-at i (sym (ap escaped (cut l at h) ∙ e))
+
+  pub escaped-octal : digit (l ! at) < 8 → (d : Digits) → Run 8 3 (drop at l) d → (p : Piece) → Is p (oneByte (d .count) (d .value % 256))
+      → Is p (escaped (drop at l))
+  escaped-octal o d r p i =
       let c = cut l at h in
       let n : digits 8 3 (l ! at ∷ drop (at + 1) l) ≡ d .count = ap (digits 8 3) (sym c) ∙ sym (r .count) in
       let m : number 8 (d .count) 0 (l ! at ∷ drop (at + 1) l) ≡ d .value =
       ap₂ (λ (n : ℕ) (t : List ℕ). number 8 n 0 t) (r .count) (sym c) ∙ sym (r .value) in
-      ap escaped c ∙ escaped-by (l ! at) (drop (at + 1) l) v (d .count) (sym e) n ∙ rw m refl
+      here (octal-first (l ! at) (drop (at + 1) l) (d .count) o n ∙ rw m) p i
 
-  pub escaped-octal : 256 ≤ v → 0 < d .count → (p : Piece) → Is p (oneByte (d .count) (d .value % 256)) → Is p (escaped (drop at l))
-  escaped-octal k n p i = is-at i (sym (escaped-here ∙ rw (le-ltb v 256 k, lt-ltb 0 (d .count) n)))
+  module _ (c : l ! at ≡ 120) (x : Digits) (s : Run 16 2 (drop (at + 1) l) x) where
+    x-here : escaped (l ! at ∷ drop (at + 1) l)
+        ≡ (if ltb 0 (digits 16 2 (drop (at + 1) l)) then oneByte (suc (digits 16 2 (drop (at + 1) l))) (number 16 (digits 16 2 (drop (at + 1) l)) 0 (drop (at + 1) l))
+        else oneByte 1 120)
+    unfolding digit within
+    x-here = rw c
 
-  module _ (k : 256 ≤ v) (z : d .count ≤ 0) where
-    pub escaped-hex : l ! at ≡ 120 → (x : Digits) → Run 16 2 (drop (at + 1) l) x → 0 < x .count
-        → (p : Piece) → Is p (oneByte (x .count + 1) (x .value % 256)) → Is p (escaped (drop at l))
-    escaped-hex c x s n p i =
+    pub escaped-hex : 0 < x .count → (p : Piece) → Is p (oneByte (x .count + 1) (x .value % 256)) → Is p (escaped (drop at l))
+    escaped-hex n p i =
         let t = drop (at + 1) l in
         let lt : x .value < 256 = rw (s .value) (two-hex t) in
-        let f : (if eqb (l ! at) (code "x") && ltb 0 (digits 16 2 t) then oneByte (suc (digits 16 2 t)) (number 16 (digits 16 2 t) 0 t)
-        else if eqb (l ! at) (code "u") then scalarBy 4 5 t
-        else if eqb (l ! at) (code "U") then scalarBy 8 9 t
-        else oneByte 1 (l ! at)) ≡ oneByte (x .count + 1) (x .value % 256) =
-        rw (eq-eqb (l ! at) 120 c, ← s .count, lt-ltb 0 (x .count) n) (ap₂ oneByte (sym (add-one (x .count))) (rw (s .count) (sym (s .value)) ∙ sym (mod-eq-of-lt lt))) in
-        is-at i (sym (escaped-here ∙ rw (le-ltb v 256 k, le-ltb 0 (d .count) z) f))
+        here (x-here
+        ∙ rw (← s .count, lt-ltb 0 (x .count) n) (ap₂ oneByte (sym (add-one (x .count))) (rw (s .count) (sym (s .value)) ∙ sym (mod-eq-of-lt lt)))) p i
 
-    -- no x with digits
-    module _ (o : (eqb (l ! at) (code "x") && ltb 0 (digits 16 2 (drop (at + 1) l))) ≡ false) where
-      pub escaped-four : l ! at ≡ 117 → (p : Piece) → (n : ℕ) → n ≡ 5 → Is p (scalarBy 4 n (drop (at + 1) l)) → Is p (escaped (drop at l))
-      escaped-four c p n f i =
-          is-at i (sym (escaped-here ∙ rw (f, le-ltb v 256 k, le-ltb 0 (d .count) z, o, eq-eqb (l ! at) 117 c)))
+    pub escaped-x : x .count ≤ 0 → (p : Piece) → Is p (oneByte 1 (l ! at)) → Is p (escaped (drop at l))
+    escaped-x n p i = here (x-here ∙ rw (← s .count, le-ltb 0 (x .count) n, c)) p i
 
-      pub escaped-eight : (l ! at ≡ 117 → ⊥) → l ! at ≡ 85 → (p : Piece) → (n : ℕ) → n ≡ 9 → Is p (scalarBy 8 n (drop (at + 1) l)) → Is p (escaped (drop at l))
-      escaped-eight n c p m f i =
-          is-at i (sym (escaped-here ∙ rw (f, le-ltb v 256 k, le-ltb 0 (d .count) z, o, ne-eqb (l ! at) 117 n, eq-eqb (l ! at) 85 c)))
+  pub escaped-four : l ! at ≡ 117 → (v : ℕ) → v ≡ hexBy 4 (drop (at + 1) l) → (p : Piece) → Is p (scalarOf 5 v) → Is p (escaped (drop at l))
+  unfolding digit within
+  escaped-four c v e p i = here (rw c (scalar-by 4 5 (drop (at + 1) l) ∙ ap (scalarOf 5) (sym e))) p i
 
-      pub escaped-self : (l ! at ≡ 117 → ⊥) → (l ! at ≡ 85 → ⊥) → (p : Piece) → Is p (oneByte 1 (l ! at)) → Is p (escaped (drop at l))
-      escaped-self n c p i =
-          is-at i (sym (escaped-here ∙ rw (le-ltb v 256 k, le-ltb 0 (d .count) z, o, ne-eqb (l ! at) 117 n, ne-eqb (l ! at) 85 c)))
+  pub escaped-eight : l ! at ≡ 85 → (v : ℕ) → v ≡ hexBy 8 (drop (at + 1) l) → (p : Piece) → Is p (scalarOf 9 v) → Is p (escaped (drop at l))
+  unfolding digit within
+  escaped-eight c v e p i = here (rw c (scalar-by 8 9 (drop (at + 1) l) ∙ ap (scalarOf 9) (sym e))) p i
 
-pub escaped-letter : (l : List ℕ) (at : ℕ) → at < length l → (v : ℕ) → v ≡ byteOf escapeTable (l ! at) → v < 256 → Is (Byte 1 v) (escaped (drop at l))
-escaped-letter l at h v e k = record {
-  means = λ _. sym (ap escaped (cut l at h) ∙ escaped-by (l ! at) (drop (at + 1) l) v (digits 8 3 (l ! at ∷ drop (at + 1) l)) (sym e) refl ∙ rw (lt-ltb v 256 k));
-  sound = tt;
-}
+  pub escaped-letter : 8 ≤ digit (l ! at) → (l ! at ≡ 120 → ⊥) → (l ! at ≡ 117 → ⊥) → (l ! at ≡ 85 → ⊥)
+      → (v : ℕ) → v ≡ letterOf (l ! at) → (p : Piece) → Is p (oneByte 1 v) → Is p (escaped (drop at l))
+  escaped-letter o x u w v e p i = here (letter-last (l ! at) (drop (at + 1) l) o x u w ∙ ap (oneByte 1) (sym e)) p i
 
--- U&. The low half that a high half h needs next
+-- U&. An escape character of one byte
+pub stands-past : (e l : List ℕ) (at : ℕ) → length e ≡ 1 → length l ≤ at → false ≡ starts e (drop at l)
+stands-past [] l at n h = absurd (omega arith)
+stands-past (b ∷ e) l at n h = rw (drop-of-length-le l h)
+
+pub stands-byte : (e l : List ℕ) (at : ℕ) → length e ≡ 1 → at < length l → eqb (l ! at) (e ! 0) ≡ starts e (drop at l)
+stands-byte [] l at n h = absurd (omega arith)
+stands-byte (b ∷ []) l at n h = rw (cut l at h) (eqb-sym (l ! at) b ∙ sym (and-true (eqb b (l ! at))))
+stands-byte (b ∷ c ∷ e) l at n h = absurd (omega arith)
+
+-- the low half that a high half h needs next
 module _ (e l : List ℕ) (at h : ℕ) where
   pub low-absent : starts e (drop at l) ≡ false → Is Refused (lowHalf e h (drop at l))
   unfolding lowHalf
   low-absent s = record { means = λ _. rw s; sound = tt }
 
-  module _ (s : starts e (drop at l) ≡ true) (d : Digits) (r : Run 16 4 (drop (at + length e) l) d) where
-    low-here : lowHalf e h (drop at l)
-        ≡ (if eqb (d .count) 4 && within 0xDC00 0xDFFF (number 16 4 0 (drop (at + length e) l))
-        then give (length e + length e + 7) (encode (pair h (number 16 4 0 (drop (at + length e) l)))) else stop)
-    unfolding lowHalf
-    low-here = rw (s, drop-drop, ← r .count)
+  module _ (s : starts e (drop at l) ≡ true) (v : ℕ) (r : v ≡ hexBy 4 (drop (at + length e) l)) where
+    low-here : lowHalf e h (drop at l) ≡ (if within 0xDC00 0xDFFF v then give (length e + length e + 7) (encode (pair h v)) else stop)
+    unfolding lowHalf hexBy within
+    low-here = rw (s, drop-drop, r) (go (eqb (digits 16 4 (drop (at + length e) l)) 4) (number 16 4 0 (drop (at + length e) l)))
+      where
+        go : (x : Bool) (k : ℕ) → (if x && within 0xDC00 0xDFFF k then give (length e + length e + 7) (encode (pair h k)) else stop)
+            ≡ (if within 0xDC00 0xDFFF (if x then k else 0) then give (length e + length e + 7) (encode (pair h (if x then k else 0))) else stop)
+        go true k = refl
+        go false k = refl
 
-    pub low-short : (d .count ≡ 4 → ⊥) → Is Refused (lowHalf e h (drop at l))
-    low-short n = record { means = λ _. sym (low-here ∙ rw (ne-eqb (d .count) 4 n)); sound = tt }
+    pub low-below : v < 0xDC00 → Is Refused (lowHalf e h (drop at l))
+    low-below b = record { means = λ _. sym (low-here ∙ rw (within-below 0xDC00 0xDFFF v b)); sound = tt }
 
-    module _ (four : d .count ≡ 4) where
-      low-by : (k : ℕ) → d .value ≡ k
-          → lowHalf e h (drop at l) ≡ (if within 0xDC00 0xDFFF k then give (length e + length e + 7) (encode (pair h k)) else stop)
-      low-by k v =
-          let m : number 16 4 0 (drop (at + length e) l) ≡ k =
-          ap (λ (n : ℕ). number 16 n 0 (drop (at + length e) l)) (sym four ∙ r .count) ∙ sym (r .value) ∙ v in
-          low-here ∙ rw (eq-eqb (d .count) 4 four, m)
+    pub low-above : 0xDFFF < v → Is Refused (lowHalf e h (drop at l))
+    low-above b = record { means = λ _. sym (low-here ∙ rw (within-above 0xDC00 0xDFFF v b)); sound = tt }
 
-      pub low-below : d .value < 0xDC00 → Is Refused (lowHalf e h (drop at l))
-      low-below b = record { means = λ _. sym (low-by (d .value) refl ∙ rw (within-below 0xDC00 0xDFFF (d .value) b)); sound = tt }
-
-      pub low-above : 0xDFFF < d .value → Is Refused (lowHalf e h (drop at l))
-      low-above b = record { means = λ _. sym (low-by (d .value) refl ∙ rw (within-above 0xDC00 0xDFFF (d .value) b)); sound = tt }
-
-      pub low-is : 0xD800 ≤ h → h ≤ 0xDBFF → 0xDC00 ≤ d .value → d .value ≤ 0xDFFF → (k : ℕ) → k ≡ length e + length e + 7
-          → Is (Scalar k (0x10000 + (h - 0xD800) * 0x400 + (d .value - 0xDC00))) (lowHalf e h (drop at l))
-      unfolding pair
-      low-is p q a b k n = record {
-        means = λ _. sym (low-by (d .value) refl ∙ rw (within-yes 0xDC00 0xDFFF (d .value) a b, n));
-        sound = isScalar-yes (0x10000 + (h - 0xD800) * 0x400 + (d .value - 0xDC00)) (omega arith) (λ _. omega arith);
-      }
+    pub low-is : 0xD800 ≤ h → h ≤ 0xDBFF → 0xDC00 ≤ v → v ≤ 0xDFFF → (k : ℕ) → k ≡ length e + length e + 7
+        → Is (Scalar k (0x10000 + (h - 0xD800) * 0x400 + (v - 0xDC00))) (lowHalf e h (drop at l))
+    unfolding pair
+    low-is p q a b k n = record {
+      means = λ _. sym (low-here ∙ rw (within-yes 0xDC00 0xDFFF v a b, n));
+      sound = isScalar-yes (0x10000 + (h - 0xD800) * 0x400 + (v - 0xDC00)) (omega arith) (λ _. omega arith);
+    }
 
 -- what follows the escape character
 module _ (e l : List ℕ) (at : ℕ) where
@@ -246,35 +318,37 @@ module _ (e l : List ℕ) (at : ℕ) where
   uescaped-again s k n = record { means = rw (s, n); sound = tt }
 
   module _ (s : starts e (drop at l) ≡ false) where
-    pub uescaped-plus : l ! at ≡ 43 → (p : Piece) (n : ℕ) → n ≡ length e + 6 → Is p (scalarBy 6 n (drop (at + 1) l))
-        → IsBy e p (uescaped e (drop at l))
-    unfolding uescaped
-    uescaped-plus c p n f i = is-by e i (rw (f, s, front l at, eq-eqb (l ! at) 43 c, drop-drop))
-
-    module _ (c : l ! at ≡ 43 → ⊥) (d : Digits) (r : Run 16 4 (drop at l) d) where
-      high-here : uescaped e (drop at l)
-          ≡ (if eqb (d .count) 4 && within 0xD800 0xDBFF (number 16 4 0 (drop at l)) then lowHalf e (number 16 4 0 (drop at l)) (drop (at + 4) l)
-          else scalarBy 4 (length e + 3) (drop at l))
+    module _ (c : l ! at ≡ 43) (v : ℕ) (r : v ≡ hexBy 6 (drop (at + 1) l)) where
+      pub uescaped-plus : (p : Piece) (n : ℕ) → n ≡ length e + 6 → Is p (scalarOf n v) → IsBy e p (uescaped e (drop at l))
       unfolding uescaped
-      high-here = rw (s, front l at, ne-eqb (l ! at) 43 c, drop-drop, ← r .count)
+      uescaped-plus p n f i =
+          is-by e i (rw (f, s, front l at, eq-eqb (l ! at) 43 c, drop-drop) (sym (scalar-by 6 (length e + 6) (drop (at + 1) l) ∙ ap (scalarOf (length e + 6)) (sym r))))
 
-      value-four : d .count ≡ 4 → number 16 4 0 (drop at l) ≡ d .value
-      value-four n = ap (λ (n : ℕ). number 16 n 0 (drop at l)) (sym n ∙ r .count) ∙ sym (r .value)
+      pub uescaped-no-plus : v ≡ 0 → IsBy e Refused (uescaped e (drop at l))
+      uescaped-no-plus z = uescaped-plus Refused (length e + 6) refl (scalar-zero (length e + 6) v z)
 
-      pub uescaped-high : d .count ≡ 4 → 0xD800 ≤ d .value → d .value ≤ 0xDBFF → (p : Piece) → Is p (lowHalf e (d .value) (drop (at + 4) l))
-          → IsBy e p (uescaped e (drop at l))
-      uescaped-high n a b p i = is-by e i (sym (high-here ∙ rw (eq-eqb (d .count) 4 n, value-four n, within-yes 0xD800 0xDBFF (d .value) a b)))
-
-      pub uescaped-four : (eqb (d .count) 4 && leb 0xD800 (d .value) && leb (d .value) 0xDBFF) ≡ false → (p : Piece)
-          → (m : ℕ) → m ≡ length e + 3 → Is p (scalarBy 4 m (drop at l)) → IsBy e p (uescaped e (drop at l))
-      unfolding within
-      uescaped-four n p m f i = is-by e i (rw f (sym (high-here ∙ go (eqb (d .count) 4) refl n)))
+    module _ (c : l ! at ≡ 43 → ⊥) (v : ℕ) (r : v ≡ hexBy 4 (drop at l)) where
+      four-here : uescaped e (drop at l) ≡ (if within 0xD800 0xDBFF v then lowHalf e v (drop (at + 4) l) else scalarOf (length e + 3) v)
+      unfolding uescaped hexBy within
+      four-here =
+          rw (s, front l at, ne-eqb (l ! at) 43 c, drop-drop, scalar-by 4 (length e + 3) (drop at l), r) (go (eqb (digits 16 4 (drop at l)) 4) (number 16 4 0 (drop at l)))
         where
-          go : (x : Bool) → eqb (d .count) 4 ≡ x → (x && leb 0xD800 (d .value) && leb (d .value) 0xDBFF) ≡ false
-              → (if x && within 0xD800 0xDBFF (number 16 4 0 (drop at l)) then lowHalf e (number 16 4 0 (drop at l)) (drop (at + 4) l)
-              else scalarBy 4 (length e + 3) (drop at l)) ≡ scalarBy 4 (length e + 3) (drop at l)
-          go true q n = rw (value-four (eqb-true (d .count) 4 q), n)
-          go false q n = refl
+          go : (x : Bool) (k : ℕ) → (if x && within 0xD800 0xDBFF k then lowHalf e k (drop (at + 4) l) else scalarOf (length e + 3) (if x then k else 0))
+              ≡ (if within 0xD800 0xDBFF (if x then k else 0) then lowHalf e (if x then k else 0) (drop (at + 4) l) else scalarOf (length e + 3) (if x then k else 0))
+          go true k = refl
+          go false k = refl
+
+      pub uescaped-high : (leb 0xD800 v && leb v 0xDBFF) ≡ true → (p : Piece) → Is p (lowHalf e v (drop (at + 4) l)) → IsBy e p (uescaped e (drop at l))
+      unfolding within
+      uescaped-high w p i = is-by e i (sym (four-here ∙ rw w))
+
+      pub uescaped-four : (leb 0xD800 v && leb v 0xDBFF) ≡ false → (p : Piece) (m : ℕ) → m ≡ length e + 3 → Is p (scalarOf m v) → IsBy e p (uescaped e (drop at l))
+      unfolding within
+      uescaped-four w p m f i = is-by e i (rw f (sym (four-here ∙ rw w)))
+
+      pub uescaped-none : v ≡ 0 → IsBy e Refused (uescaped e (drop at l))
+      unfolding within
+      uescaped-none z = uescaped-four (rw z) Refused (length e + 3) refl (scalar-zero (length e + 3) v z)
 
 -- THE UNIT at a place, by its first byte
 module _ (e l : List ℕ) (at : ℕ) (h : at < length l) where

@@ -2,3 +2,4 @@ pub mod Digits
 pub mod Pieces
 pub mod Families
 pub mod Standard
+pub mod Quick

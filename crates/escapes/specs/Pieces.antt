@@ -3,9 +3,12 @@ use mathlib.Core.Bool.{Bool, true, false}
 use mathlib.Core.Path.{_≡_}
 use mathlib.Core.List.{List, [], _∷_}
 use Prim.Native.Nat.{ℕ, _<_}
+use lib.Dec.{ltb}
 use lib.ListN.{length, take, getD}
+use Rattle.meaning.specs.Bytes.{if_then_else_}
 use Rattle.meaning.specs.Chars.{Due, due, broken, push, pushes, encode, isScalar}
 use Rattle.meaning.specs.Walk.{Step, keep, give, stop}
+use Rattle.meaning.specs.Steps.{byteOf, escapeTable, mayEscape}
 use Rattle.escapes.specs.declared.pieces.Piece.{Piece}
 use Rattle.escapes.specs.declared.pieces.Piece.the-variants.{Keep, Byte, Two, Scalar, Escape, Refused}
 
@@ -25,6 +28,13 @@ Sound (Two m b c) = Unit {0}
 Sound (Scalar m c) = isScalar c ≡ true
 Sound (Escape m) = Unit {0}
 Sound Refused = Unit {0}
+
+-- a unit of n bytes more than one by a number, 0 for none; E's letter by its table, or itself
+unfoldable pub scalarOf : ℕ → ℕ → Step
+scalarOf n v = if mayEscape v then give n (encode v) else stop
+
+unfoldable pub letterOf : ℕ → ℕ
+letterOf c = if ltb (byteOf escapeTable c) 256 then byteOf escapeTable c else c
 
 -- the piece is that step by the escape character's bytes e; and whatever these are
 pub record IsBy (e : List ℕ) (r : Piece) (s : Step) : Type 0 where

@@ -4,4 +4,5 @@ mod digits;
 pub mod measuring;
 pub mod pieces;
 pub mod standard;
+mod quick;
 pub mod units;

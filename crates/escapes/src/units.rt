@@ -1,5 +1,8 @@
 // One unit of a body, for each of the three families.
 use crate::digits::digits_at;
+use crate::digits::eight_at;
+use crate::digits::four_at;
+use crate::digits::six_at;
 use crate::pieces::Piece;
 use cutting::marks::Mark;
 use cutting::marks::mark_byte;
@@ -10,9 +13,11 @@ use scalars::encoding::is_scalar;
 ghost use mathlib.Core.Path.{_≡_};
 ghost use Prim.Native.Nat.{_+_, _-_, _≤_, _<_};
 ghost use lib.ListN.{length, drop};
-ghost use Rattle.meaning.specs.Steps.{byteOf, mysqlTable, escapeTable, doubled, mysql, oneByte, scalarBy, escaped, lowHalf, uescaped};
+ghost use lib.Dec.{ltb};
+ghost use Rattle.meaning.specs.Bytes.{if_then_else_, starts, digit};
+ghost use Rattle.meaning.specs.Steps.{byteOf, mysqlTable, doubled, mysql, oneByte, escaped, lowHalf, uescaped};
 ghost use Rattle.cutting.specs.Marks.{markOf};
-ghost use Rattle.escapes.specs.Pieces.{Is, IsBy};
+ghost use Rattle.escapes.specs.Pieces.{Is, IsBy, scalarOf, letterOf};
 ghost use Rattle.escapes.specs.Families.{stepOf, stopsOf};
 
 // How a body is read: with MySQL's escapes or without them, by E's rules, or by U&'s.
@@ -126,17 +131,11 @@ fn byte_unit(more: usize, byte: u8) -> Piece
     Piece::Byte { more, byte }
 }
 
-// A scalar by `width` hex digits at a place, in a unit that begins at `start`.
-fn scalar_unit(body: &[u8], start: usize, at: usize, width: usize) -> Piece
-    requires { ⌜ (start ≤ at) × (0 < width) × (width ≤ 8) ⌝ }
-    ensures { λ r. ⌜ Is r (scalarBy width (at + width - start - 1) (drop at (now (body .entry)))) ⌝ }
+// A scalar that hex digits make, 0 where they are not there; the unit takes `more` bytes behind its first.
+// Rules out: a zero, or a lone half, accepted (must-fail: wrong_scalars).
+fn scalar_unit(more: usize, value: u32) -> Piece
+    ensures { λ r. ⌜ Is r (scalarOf more value) ⌝ }
 {
-    let digits = digits_at(body, at, 16, width);
-    let count = digits.count;
-    let value = digits.value;
-    if count != width {
-        return Piece::Refused;
-    }
     if value == 0 {
         return Piece::Refused;
     }
@@ -144,44 +143,51 @@ fn scalar_unit(body: &[u8], start: usize, at: usize, width: usize) -> Piece
         return Piece::Refused;
     }
     Piece::Scalar {
-        more: at + width - start - 1,
+        more,
         scalar: value,
     }
 }
 
-// The byte that a letter behind E's backslash stands for; 256 for none.
-fn escape_letter(letter: u8) -> u16
-    ensures { λ r. ⌜ r ≡ byteOf escapeTable letter ⌝ }
+// One of two bytes. A choice, and no jump, so that letters in any order are read at one pace.
+fn choose(test: bool, yes: u8, no: u8) -> u8
+    ensures { λ r. ⌜ r ≡ (if test then yes else no) ⌝ }
 {
-    match letter {
-        98 => 0x08,
-        102 => 0x0C,
-        110 => 0x0A,
-        114 => 0x0D,
-        116 => 0x09,
-        _ => 256,
+    if test {
+        return yes;
     }
+    no
 }
 
-// What follows E's backslash, at a place behind it.
+// The byte that a letter behind E's backslash stands for: by the table, or the letter itself.
+// Rules out: \t read as \n (must-fail: wrong_scalars).
+fn escape_letter(letter: u8) -> u8
+    ensures { λ r. ⌜ r ≡ letterOf letter ⌝ }
+{
+    let t = choose(letter == 116, 0x09, letter);
+    let r = choose(letter == 114, 0x0D, t);
+    let n = choose(letter == 110, 0x0A, r);
+    let f = choose(letter == 102, 0x0C, n);
+    choose(letter == 98, 0x08, f)
+}
+
+// Whether a byte is an octal digit.
+pub(crate) fn is_octal(byte: u8) -> bool
+    ensures { λ r. ⌜ r ≡ ltb (digit byte) 8 ⌝ }
+{
+    (48 <= byte) & (byte <= 55)
+}
+
+// What follows E's backslash, at a place behind it. Most letters leave by the last line, behind tests that are seldom true.
 fn escaped_unit(body: &[u8], at: usize) -> Piece
-    requires { ⌜ 0 < at ⌝ }
     ensures { λ r. ⌜ Is r (escaped (drop at (now (body .entry)))) ⌝ }
 {
     if body.len() <= at {
         return Piece::Refused;
     }
     let letter = body[at];
-    let value = escape_letter(letter);
-    if value < 256 {
-        return Piece::Byte {
-            more: 1,
-            byte: value as u8,
-        };
-    }
-    let octal = digits_at(body, at, 8, 3);
-    let octals = octal.count;
-    if 0 < octals {
+    if is_octal(letter) {
+        let octal = digits_at(body, at, 8, 3);
+        let octals = octal.count;
         return byte_unit(octals, (octal.value % 256) as u8);
     }
     if letter == 120 {
@@ -190,14 +196,29 @@ fn escaped_unit(body: &[u8], at: usize) -> Piece
         if 0 < hexes {
             return byte_unit(hexes + 1, (hex.value % 256) as u8);
         }
+        return byte_unit(1, letter);
     }
     if letter == 117 {
-        return scalar_unit(body, at - 1, at + 1, 4);
+        return scalar_unit(5, four_at(body, at + 1));
     }
     if letter == 85 {
-        return scalar_unit(body, at - 1, at + 1, 8);
+        return scalar_unit(9, eight_at(body, at + 1));
     }
-    byte_unit(1, letter)
+    byte_unit(1, escape_letter(letter))
+}
+
+// Whether the U& escape character stands at a place: nearly always it is one byte.
+// Rules out: the first byte of a longer one taken for it; a byte past the end read (must-fail: wrong_scalars).
+fn stands_at(body: &[u8], at: usize, escape: &[u8]) -> bool
+    ensures { λ r. ⌜ r ≡ starts (now (escape .entry)) (drop at (now (body .entry))) ⌝ }
+{
+    if escape.len() == 1 {
+        if body.len() <= at {
+            return false;
+        }
+        return body[at] == escape[0];
+    }
+    starts_at(body, at, escape)
 }
 
 // The low half that a high half needs next, at a place, in a unit that begins at `start`.
@@ -205,16 +226,11 @@ fn low_half_unit(body: &[u8], start: usize, at: usize, escape: &[u8], high: u32)
     requires { ⌜ (start + length (now escape) + 4 ≡ at) × (at ≤ length (now body)) × (55296 ≤ high) × (high ≤ 56319) ⌝ }
     ensures { λ r. ⌜ Is r (lowHalf (now (escape .entry)) high (drop at (now (body .entry)))) ⌝ }
 {
-    if !starts_at(body, at, escape) {
+    if !stands_at(body, at, escape) {
         return Piece::Refused;
     }
     let next = at + escape.len();
-    let digits = digits_at(body, next, 16, 4);
-    let count = digits.count;
-    let low = digits.value;
-    if count != 4 {
-        return Piece::Refused;
-    }
+    let low = four_at(body, next);
     if low < 0xDC00 {
         return Piece::Refused;
     }
@@ -233,7 +249,7 @@ fn uescaped_unit(body: &[u8], start: usize, at: usize, escape: &[u8]) -> Piece
     ensures { λ r. ⌜ IsBy (now (escape .entry)) r (uescaped (now (escape .entry)) (drop at (now (body .entry)))) ⌝ }
 {
     let len = escape.len();
-    if starts_at(body, at, escape) {
+    if stands_at(body, at, escape) {
         if len == 0 {
             return Piece::Escape { more: 0 };
         }
@@ -242,15 +258,20 @@ fn uescaped_unit(body: &[u8], start: usize, at: usize, escape: &[u8]) -> Piece
         };
     }
     if byte_at(body, at) == 43 {
-        return scalar_unit(body, start, at + 1, 6);
+        let wide = six_at(body, at + 1);
+        if wide == 0 {
+            return Piece::Refused;
+        }
+        return scalar_unit(at + 6 - start, wide);
     }
-    let digits = digits_at(body, at, 16, 4);
-    let count = digits.count;
-    let value = digits.value;
-    if (count == 4) & (0xD800 <= value) & (value <= 0xDBFF) {
+    let value = four_at(body, at);
+    if value == 0 {
+        return Piece::Refused;
+    }
+    if (0xD800 <= value) & (value <= 0xDBFF) {
         return low_half_unit(body, start, at + 4, escape, value);
     }
-    scalar_unit(body, start, at, 4)
+    scalar_unit(at + 3 - start, value)
 }
 
 // The unit at a place inside a body.
@@ -282,7 +303,7 @@ fn unit_inside(body: &[u8], at: usize, family: Family, escape: &[u8]) -> Piece
             if byte == mark_byte(mark) {
                 return doubled_unit(body, at + 1, mark);
             }
-            if starts_at(body, at, escape) {
+            if stands_at(body, at, escape) {
                 return uescaped_unit(body, at, at + escape.len(), escape);
             }
             Piece::Keep

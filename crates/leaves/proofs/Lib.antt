@@ -2,3 +2,4 @@ pub mod Scans
 pub mod RunSteps
 pub mod Shown
 pub mod Putting
+pub mod Sums

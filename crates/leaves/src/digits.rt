@@ -2,20 +2,28 @@
 ghost use mathlib.Core.Path.{_≡_};
 ghost use lib.Dec.{ltb};
 ghost use Rattle.meaning.specs.Bytes.{digit};
+ghost use Rattle.leaves.specs.Digits.{capped};
+
+// The digit that a byte is, 0 to 15; 16 or more if it is none. One choice between two sums, so that digits and letters in any order are read at one pace.
+// Rules out: a to f read in one case only; A to F off by one (must-fail: no_digit_in_tag, only_digits_in_tag).
+fn loose_digit(byte: u8) -> u8
+    ensures { λ r. ⌜ capped r ≡ digit byte ⌝ }
+{
+    if byte <= 57 {
+        return std::num::wrapping_sub_u8(byte, 48);
+    }
+    let past = std::num::wrapping_sub_u8(byte, 65);
+    past / 64 * 64 + past % 32 + 10
+}
 
 // The digit that a byte is, 0 to 15; 16 if it is none.
-// Rules out: a to f read in one case only; `:` taken for a digit; a to f off by one (must-fail: first_of_each, second_of_each).
+// Rules out: f taken for none; another number told for none (must-fail: first_of_each, second_of_each).
 pub fn hex_value(byte: u8) -> u8
     ensures { λ r. ⌜ r ≡ digit byte ⌝ }
 {
-    if (48 <= byte) & (byte <= 57) {
-        return byte - 48;
-    }
-    if (65 <= byte) & (byte <= 70) {
-        return byte - 55;
-    }
-    if (97 <= byte) & (byte <= 102) {
-        return byte - 87;
+    let digit = loose_digit(byte);
+    if digit < 16 {
+        return digit;
     }
     16
 }

@@ -1,29 +1,37 @@
--- `escapes::units::escape_letter` meets its contract: at each arm the table computes, and at the last it has no such letter. Assumes nothing.
-use mathlib.Core.Path.{ap, sym}
-use Rattle.meaning.specs.Steps.{byteOf, escapeTable}
-use Rattle.escapes.proofs.UnitLaws.{other-none}
+-- `escapes::units::escape_letter` meets its contract: five choices, as the table has them. Assumes nothing.
+use mathlib.Core.Path.{_∙_}
+use Rattle.escapes.proofs.UnitLaws.{letter-of}
+use borrow.Author.Needs.{needs}
 use Rattle.escapes.proofs.units.escape_letter.Statement.{statement}
 use Rattle.escapes.proofs.units.escape_letter.Tie as tie
 
+choose-requires : tie.Need-choose-requires
+choose-requires c κs = search needs
+
+choose-requires-2 : tie.Need-choose-requires-2
+choose-requires-2 c κs = search needs
+
+choose-requires-3 : tie.Need-choose-requires-3
+choose-requires-3 c κs = search needs
+
+choose-requires-4 : tie.Need-choose-requires-4
+choose-requires-4 c κs = search needs
+
+choose-requires-5 : tie.Need-choose-requires-5
+choose-requires-5 c κs = search needs
+
 returns : tie.Need-returns
-returns c = sym (ap (byteOf escapeTable) (c .match .keys1))
-
-returns-2 : tie.Need-returns-2
-returns-2 c = sym (ap (byteOf escapeTable) (c .match .keys2))
-
-returns-3 : tie.Need-returns-3
-returns-3 c = sym (ap (byteOf escapeTable) (c .match .keys3))
-
-returns-4 : tie.Need-returns-4
-returns-4 c = sym (ap (byteOf escapeTable) (c .match .keys4))
-
-returns-5 : tie.Need-returns-5
-returns-5 c = sym (ap (byteOf escapeTable) (c .match .keys5))
-
-returns-6 : tie.Need-returns-6
-returns-6 c =
-    let r = c .match .rest in
-    other-none escapeTable (c .before .args .letter) (r .0 .0 .0 .0 .1, (r .0 .0 .0 .1, (r .0 .0 .1, (r .0 .1, (r .1, tt)))))
+returns c =
+    rw (c .choose5 .ensures, c .before .choose4 .ensures, c .before .before .choose3 .ensures, c .before .before .before .choose2 .ensures, c .before .before .before .before .choose .ensures)
+    (letter-of (c .before .before .before .before .before .args .letter))
 
 pub escape-letter-spec : {M : Type 1} → statement M
-escape-letter-spec = tie.close (tie.spec returns returns-2 returns-3 returns-4 returns-5 returns-6)
+escape-letter-spec =
+    tie.close
+    (tie.spec
+    choose-requires
+    choose-requires-2
+    choose-requires-3
+    choose-requires-4
+    choose-requires-5
+    returns)

@@ -85,8 +85,8 @@ returns-5 c =
     rw (c .before .before .before .before .family2 .given .1)
     (unicode-mark (now (a .escape)) (now (a .body)) (a .at) (c .before .before .before .before .before .before .before .before .before .pre) _ (c .before .if5 .taken ∙ c .before .before .mark-byte2 .ensures) _ (c .doubled-unit3 .ensures))
 
-starts-at-requires : tie.Need-starts-at-requires
-starts-at-requires c κs = search needs
+stands-at-requires : tie.Need-stands-at-requires
+stands-at-requires c κs = search needs
 
 add-uescaped-unit : tie.Need-add-uescaped-unit
 add-uescaped-unit c = search needs
@@ -94,13 +94,13 @@ add-uescaped-unit c = search needs
 uescaped-unit-requires : tie.Need-uescaped-unit-requires
 uescaped-unit-requires c κs =
     let a = c .before .before .before .before .before .before .before .before .before .before .args in
-    (refl, starts-inside (now (a .escape)) (now (a .body)) (a .at) (c .before .before .before .before .before .before .before .before .before .before .pre) (sym (c .before .starts-at .ensures) ∙ c .if6 .taken))
+    (refl, starts-inside (now (a .escape)) (now (a .body)) (a .at) (c .before .before .before .before .before .before .before .before .before .before .pre) (sym (c .before .stands-at .ensures) ∙ c .if6 .taken))
 
 returns-6 : tie.Need-returns-6
 returns-6 c =
     let a = c .before .before .before .before .before .before .before .before .before .before .before .args in
     rw (c .before .before .before .before .before .before .family2 .given .1)
-    (unicode-escape (now (a .escape)) (now (a .body)) (a .at) (c .before .before .before .before .before .before .before .before .before .before .before .pre) _ (λ e. c .before .before .before .if5 .left (e ∙ sym (c .before .before .before .before .mark-byte2 .ensures))) (sym (c .before .before .starts-at .ensures) ∙ c .before .if6 .taken) _ (c .uescaped-unit .ensures))
+    (unicode-escape (now (a .escape)) (now (a .body)) (a .at) (c .before .before .before .before .before .before .before .before .before .before .before .pre) _ (λ e. c .before .before .before .if5 .left (e ∙ sym (c .before .before .before .before .mark-byte2 .ensures))) (sym (c .before .before .stands-at .ensures) ∙ c .before .if6 .taken) _ (c .uescaped-unit .ensures))
 
 returns-7 : tie.Need-returns-7
 returns-7 c =
@@ -118,7 +118,7 @@ returns-9 : tie.Need-returns-9
 returns-9 c =
     let a = c .before .before .before .before .before .before .before .before .before .before .args in
     rw (c .before .before .before .before .before .family2 .given .1)
-    (unicode-keep (now (a .escape)) (now (a .body)) (a .at) (c .before .before .before .before .before .before .before .before .before .before .pre) _ (λ e. c .before .before .if5 .left (e ∙ sym (c .before .before .before .mark-byte2 .ensures))) (sym (c .before .starts-at .ensures) ∙ c .if6 .left))
+    (unicode-keep (now (a .escape)) (now (a .body)) (a .at) (c .before .before .before .before .before .before .before .before .before .before .pre) _ (λ e. c .before .before .if5 .left (e ∙ sym (c .before .before .before .mark-byte2 .ensures))) (sym (c .before .stands-at .ensures) ∙ c .if6 .left))
 
 pub unit-inside-spec : {M : Type 1} → statement M
 unit-inside-spec =
@@ -145,7 +145,7 @@ unit-inside-spec =
     add-doubled-unit-3
     doubled-unit-requires-3
     returns-5
-    starts-at-requires
+    stands-at-requires
     add-uescaped-unit
     uescaped-unit-requires
     returns-6
