@@ -3,6 +3,6 @@
 mod digits;
 pub mod measuring;
 pub mod pieces;
-pub mod standard;
 mod quick;
+pub mod standard;
 pub mod units;
