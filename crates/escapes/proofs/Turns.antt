@@ -30,10 +30,12 @@ use Rattle.escapes.specs.declared.pieces.Piece.{Piece}
 use Rattle.escapes.specs.declared.pieces.Piece.the-variants as Piece′
 use Rattle.escapes.specs.declared.units.Family.{Family}
 use Rattle.escapes.specs.declared.units.Family.the-variants.{Standard, Escape, Unicode}
+use Rattle.escapes.specs.declared.quick.Passed.{Passed}
 use Rattle.escapes.specs.declared.measuring.Measured.the-variants.{Plain, Length, Refused}
 use Rattle.escapes.proofs.Breaking.{unbroken-by, unbroken-not}
 use Rattle.escapes.specs.Pieces.{meaningOf, moreBy, isKeep, bytesOf, IsBy, BreaksAt, BrokenAt, Breaks}
 use Rattle.escapes.specs.Families.{stepOf, checks, dueBy, courseOf, measuredOf, stopsOf}
+use Rattle.escapes.specs.Quick.{Passes}
 
 -- EVERY FAMILY's step is steady, since no mark is zero
 mark-not-zero : (m : Mark) → eqb 0 (markOf m) ≡ false
@@ -218,6 +220,13 @@ module _ (f : Family) (e l : List ℕ) (x : Bool) (ex : x ≡ checks f) where
         measured-turn b y ey c ec =
             measuring-turn m (bytesOf p part e) (isKeep p) (at + 1 + k) (n + c) (pl && y) (dueOf tail′) (took (at + 1 + k) refl)
             (ap (n +_) (sym ec)) (ap (pl &&_) (sym ey)) d (unbroken-by tail′ b)
+
+  -- the units behind a turn that are passed over at once
+  pub measured-passed : {at n : ℕ} {pl : Bool} {d : Due} (r : Passed) → Passes f e l d at r → Measuring (stepOf f e) x l at n pl d
+      → Measuring (stepOf f e) x l (r .at) (n + r .n) (pl && r .plain) d
+  measured-passed {at} {n} {pl} {d} r p m =
+      subst (λ (y : Bool). Measuring (stepOf f e) y l (r .at) (n + r .n) (pl && r .plain) d) (sym ex)
+      (p .goes n pl (subst (λ (y : Bool). Measuring (stepOf f e) y l at n pl d) ex m))
 
 -- a byte that breaks a text is one of the turn's
 pub broken-inside : (p : Piece) (d : Due) (v : List ℕ) (q : ℕ) → BrokenAt p d v q → q ≤ length v

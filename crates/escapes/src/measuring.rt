@@ -5,6 +5,7 @@ use crate::pieces::is_keep;
 use crate::pieces::piece_len;
 use crate::pieces::piece_tail;
 use crate::pieces::turn_more;
+use crate::quick::pass_from;
 use crate::standard::measure_front;
 use crate::units::Family;
 use crate::units::run_stops;
@@ -72,10 +73,13 @@ pub fn measure(body: &[u8], family: Family, escape: &[u8]) -> Measured
             let place = at + broken_at(tail, piece, part);
             return Measured::Refused(place);
         }
-        tail = next;
         plain = plain & is_keep(piece);
         n += piece_len(piece, part, escape);
-        at = end;
+        let quick = pass_from(body, end, family, escape, next);
+        plain = plain & quick.plain;
+        n += quick.n;
+        tail = next;
+        at = quick.at;
     }
     if !is_whole(tail) {
         return Measured::Refused(at);

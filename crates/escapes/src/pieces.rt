@@ -109,6 +109,9 @@ fn scalar_tail(tail: Utf8Tail, scalar: u32) -> Utf8Tail
     requires { ⌜ isScalar scalar ≡ true ⌝ }
     ensures { λ r. ⌜ dueOf r ≡ pushes (dueOf tail) (encode scalar) ⌝ }
 {
+    if let Utf8Tail::Start = tail {
+        return Utf8Tail::Start;
+    }
     let mut bytes = [0u8; 4];
     let n = encode_utf8(scalar, &mut bytes);
     utf8_from(tail, &bytes[..n])

@@ -31,7 +31,7 @@ fn is_quick_letter(letter: u8) -> bool
 }
 
 // How many bytes such a unit takes at a place, 1 or 2; 0 where none stands there. All is computed before the one choice.
-// Rules out: \x taken for a letter; a mark alone passed over (must-fail: wrong_quick).
+// Rules out: \x taken for a letter; a mark alone passed over (must-fail: wrong_quick, wrong_digits).
 fn quick_len(body: &[u8], at: usize) -> usize
     requires { ⌜ at < length (now body) ⌝ }
     ensures { λ r. ⌜ Quick (drop at (now (body .entry))) r ⌝ }
@@ -54,6 +54,7 @@ fn quick_len(body: &[u8], at: usize) -> usize
 }
 
 // Passes over such units from a place on, 32 at the most: a longer run is taken by blocks.
+// Rules out: a unit counted twice (must-fail: counted_twice).
 fn pass_quick(body: &[u8], from: usize, escape: &[u8]) -> Passed
     requires { ⌜ from ≤ length (now body) ⌝ }
     ensures { λ r. ⌜ Passes Family.Escape (now (escape .entry)) (now (body .entry)) (dueOf Utf8Tail.Start) from r ⌝ }

@@ -132,7 +132,7 @@ fn byte_unit(more: usize, byte: u8) -> Piece
 }
 
 // A scalar that hex digits make, 0 where they are not there; the unit takes `more` bytes behind its first.
-// Rules out: a zero, or a lone half, accepted (must-fail: wrong_scalars).
+// Rules out: a lone half accepted (must-fail: wrong_digits).
 fn scalar_unit(more: usize, value: u32) -> Piece
     ensures { λ r. ⌜ Is r (scalarOf more value) ⌝ }
 {
@@ -159,7 +159,7 @@ fn choose(test: bool, yes: u8, no: u8) -> u8
 }
 
 // The byte that a letter behind E's backslash stands for: by the table, or the letter itself.
-// Rules out: \t read as \n (must-fail: wrong_scalars).
+// Rules out: \t read as \n (must-fail: wrong_digits).
 fn escape_letter(letter: u8) -> u8
     ensures { λ r. ⌜ r ≡ letterOf letter ⌝ }
 {
@@ -208,7 +208,7 @@ fn escaped_unit(body: &[u8], at: usize) -> Piece
 }
 
 // Whether the U& escape character stands at a place: nearly always it is one byte.
-// Rules out: the first byte of a longer one taken for it; a byte past the end read (must-fail: wrong_scalars).
+// Rules out: the first byte of a longer one taken for it (must-fail: wrong_digits).
 fn stands_at(body: &[u8], at: usize, escape: &[u8]) -> bool
     ensures { λ r. ⌜ r ≡ starts (now (escape .entry)) (drop at (now (body .entry))) ⌝ }
 {

@@ -1,6 +1,7 @@
 -- `escapes::measuring::measure` meets its contract. The loop's invariant, `Measuring`: the turns so far stand for n bytes, each of them a byte that stands for
 -- itself or not, and of E's their bytes lead to the UTF-8 state. The measure is what is left of the body. Assumes nothing.
 use mathlib.Core.Path.{_≡_, sym, _∙_}
+use mathlib.Core.Bool.{_&&_}
 use mathlib.Core.List.{[], _∷_}
 use Prim.Native.Nat.{_+_, _-_, _≤_}
 use borrow.Author.Needs.{needs}
@@ -17,7 +18,7 @@ use Rattle.utf8.specs.Tails.{dueOf}
 use Rattle.escapes.specs.declared.pieces.Piece.the-variants.{Refused}
 use Rattle.escapes.specs.Pieces.{moreBy}
 use Rattle.escapes.specs.Families.{stepOf, stopsOf}
-use Rattle.escapes.proofs.Turns.{more-by, broken-inside, measured-plain, measured-length, measured-stop, measured-refused, measured-fits, measured-room, measured-breaks, measured-broken, measured-turn}
+use Rattle.escapes.proofs.Turns.{more-by, broken-inside, measured-plain, measured-length, measured-stop, measured-refused, measured-fits, measured-room, measured-breaks, measured-broken, measured-turn, measured-passed}
 use Rattle.escapes.proofs.measuring.measure.Statement.{statement}
 use Rattle.escapes.proofs.measuring.measure.Tie as tie
 
@@ -127,13 +128,29 @@ add-n c =
     let f = measured-room (s .family) (now (s .escape)) (now (s .body)) _ (c .before .before .before .before .before .before .before .before .before .before .before .before .is-checked .ensures) (c .before .before .before .before .before .before .before .before .before .loop .tail) (c .before .before .before .before .before .before .before .before .before .loop .inv) (c .before .before .before .before .before .before .before .before .loop-test .taken) _ (c .before .before .before .before .before .before .before .unit-at .ensures) (not-refused (c .before .before .before .before .before .before)) _ (more (c .before .before .before .before .before)) in
     omega (arith, f, c .piece-len .ensures, c .before .before .before .before .before .before .before .before .before .before .before .before .before .before .before .good .0 .0)
 
-loop-less : tie.Need-loop-less Inv-loop μ-loop
-loop-less c = omega (arith, fits (c .before .before .before .before .before))
-
-loop-again : tie.Need-loop-again Inv-loop μ-loop
-loop-again c =
+turned : (c : tie.After-piece-len Inv-loop μ-loop) → let s = c .before .before .before .before .before .before .before .before .before .before .before .before .before .before .before .args in let o = c .before .before .before .before .before .before .before .before .before .loop in
+    Measuring (stepOf (s .family) (now (s .escape))) (c .before .before .before .before .before .before .before .before .before .before .before .before .is-checked .result) (now (s .body)) (o .at + 1 + c .before .before .before .before .before .turn-more .result) (o .n + c .piece-len .result) (o .plain && c .before .is-keep .result) (dueOf (c .before .before .before .next-tail .result))
+turned c =
     let s = c .before .before .before .before .before .before .before .before .before .before .before .before .before .before .before .args in
     measured-turn (s .family) (now (s .escape)) (now (s .body)) _ (c .before .before .before .before .before .before .before .before .before .before .before .before .is-checked .ensures) (c .before .before .before .before .before .before .before .before .before .loop .tail) (c .before .before .before .before .before .before .before .before .before .loop .inv) (c .before .before .before .before .before .before .before .before .loop-test .taken) _ (c .before .before .before .before .before .before .before .unit-at .ensures) (not-refused (c .before .before .before .before .before .before)) _ (more (c .before .before .before .before .before)) _ (c .before .before .before .next-tail .ensures) (not-broken (c .before .before)) _ (c .before .is-keep .ensures) _ (c .piece-len .ensures)
+
+pass-from-requires : tie.Need-pass-from-requires Inv-loop μ-loop
+pass-from-requires c κs = fits (c .before .before .before .before .before)
+
+passed : (c : tie.After-pass-from Inv-loop μ-loop) → let s = c .before .before .before .before .before .before .before .before .before .before .before .before .before .before .before .before .args in let o = c .before .before .before .before .before .before .before .before .before .before .loop in let r = c .pass-from .result in
+    Measuring (stepOf (s .family) (now (s .escape))) (c .before .before .before .before .before .before .before .before .before .before .before .before .before .is-checked .result) (now (s .body)) (r .at) (o .n + c .before .piece-len .result + r .n) (o .plain && c .before .before .is-keep .result && r .plain) (dueOf (c .before .before .before .before .next-tail .result))
+passed c =
+    let s = c .before .before .before .before .before .before .before .before .before .before .before .before .before .before .before .before .args in
+    measured-passed (s .family) (now (s .escape)) (now (s .body)) _ (c .before .before .before .before .before .before .before .before .before .before .before .before .before .is-checked .ensures) (c .pass-from .result) (c .pass-from .ensures) (turned (c .before))
+
+add-n-2 : tie.Need-add-n-2 Inv-loop μ-loop
+add-n-2 c = omega (arith, passed (c .before .before) .short, c .before .before .pass-from .ensures .inside)
+
+loop-less : tie.Need-loop-less Inv-loop μ-loop
+loop-less c = omega (arith, c .before .before .pass-from .ensures .onward, c .before .before .pass-from .ensures .inside)
+
+loop-again : tie.Need-loop-again Inv-loop μ-loop
+loop-again c = passed (c .before .before)
 
 is-whole-requires : tie.Need-is-whole-requires Inv-loop μ-loop
 is-whole-requires c κs = search needs
@@ -184,6 +201,8 @@ measure-spec =
     is-keep-requires
     piece-len-requires
     add-n
+    pass-from-requires
+    add-n-2
     loop-less
     loop-again
     is-whole-requires
