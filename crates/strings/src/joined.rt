@@ -191,11 +191,12 @@ fn read_one(text: &[u8], settings: Settings, out: &mut [u8]) -> Read
     requires { ⌜ isUnicode quote (now text) ≡ false ⌝ }
     ensures { λ r. ⌜ Reads (read settings (now (text .entry))) (now (out .entry)) r (now (out .exit)) ⌝ }
 {
-    let alone = read_alone(text, settings, out);
-    if let Read::Refused { place: _ } = alone {
-        return read_any(text, settings, out);
+    match read_alone(text, settings, out) {
+        Read::Borrowed { from, until } => Read::Borrowed { from, until },
+        Read::Written { len } => Read::Written { len },
+        Read::Refused { place: _ } => read_any(text, settings, out),
+        Read::NoRoom { needed } => Read::NoRoom { needed },
     }
-    alone
 }
 
 // Reads a string's text: a part of it, so many bytes at the buffer's start, the place where reading stops, or the length for which there is no room. A text

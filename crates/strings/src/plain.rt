@@ -72,6 +72,7 @@ fn plain_segment(text: &[u8], at: usize) -> usize
 }
 
 // Whether a text begins with a plain segment and goes on, past white space, with a mark: then it is joined.
+// Rules out: a text called joined that is not (must-fail: short_refused_unit).
 pub(crate) fn goes_on(text: &[u8]) -> bool
     ensures { λ r. ⌜ GoesOn (now (text .entry)) r ⌝ }
 {
@@ -83,7 +84,7 @@ pub(crate) fn goes_on(text: &[u8]) -> bool
 }
 
 // What stands at a cursor: a plain segment is found by one scan.
-// Rules out: a segment called plain that is not.
+// Rules out: a segment called plain that is not (must-fail: short_plain_written).
 pub(crate) fn next_segment(cursor: Cursor, text: &[u8], settings: Settings) -> Cut
     ensures { λ r. ⌜ CutAt settings (now (text .entry)) (cursor .at) r ⌝ }
 {
