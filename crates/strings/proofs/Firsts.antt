@@ -35,7 +35,7 @@ one-first σ (b ∷ t) u v h = go (segment σ (b ∷ t)) refl
 
 module _ (σ : Settings) (t out after : List ℕ) (r : Read) (g : Reads (one σ t) out r after) where
   -- what is read as one is read
-  pub first-reads : isUnicode quote t ≡ false → ((p : ℕ) → r ≡ Read′.Refused p → ⊥) → Reads (read σ t) out r after
+  first-reads : isUnicode quote t ≡ false → ((p : ℕ) → r ≡ Read′.Refused p → ⊥) → Reads (read σ t) out r after
   first-reads none some = go (one σ t) refl
     where
       taken : (v : List ℕ) → alone σ t ≡ means v → Reads (read σ t) out r after
@@ -45,6 +45,16 @@ module _ (σ : Settings) (t out after : List ℕ) (r : Read) (g : Reads (one σ 
       go (borrowed f u) e = taken (part f u t) (ap (valueOf t) e)
       go (written v) e = taken v (ap (valueOf t) e)
       go (refused p) e = absurd (some p (g .answer ∙ ap (readOf (length out)) e))
+
+  module _ (none : isUnicode quote t ≡ false) where
+    pub first-borrowed : (f u : ℕ) → r ≡ Read′.Borrowed f u → Reads (read σ t) out (Read′.Borrowed f u) after
+    first-borrowed f u q = rw q at (first-reads none (λ p k. let y : _≡_ {A = ℕ} 0 1 = cc in omega arith))
+
+    pub first-written : (n : ℕ) → r ≡ Read′.Written n → Reads (read σ t) out (Read′.Written n) after
+    first-written n q = rw q at (first-reads none (λ p k. let y : _≡_ {A = ℕ} 0 1 = cc in omega arith))
+
+    pub first-lacks : (n : ℕ) → r ≡ Read′.NoRoom n → Reads (read σ t) out (Read′.NoRoom n) after
+    first-lacks n q = rw q at (first-reads none (λ p k. let y : _≡_ {A = ℕ} 0 1 = cc in omega arith))
 
   -- a refusal leaves the buffer as it was lent
   pub first-onward : (p : ℕ) → r ≡ Read′.Refused p → (r′ : Read) (last : List ℕ) → Reads (read σ t) after r′ last → Reads (read σ t) out r′ last

@@ -29,13 +29,15 @@ use Rattle.leaves.proofs.Scans.{span-passes}
 use Rattle.leaves.proofs.RunSteps.{span-length}
 use Rattle.cutting.specs.declared.cursor.Next.{Next}
 use Rattle.cutting.specs.declared.cursor.Next.the-variants as Next′
-use Rattle.cutting.specs.Segments.{nextBy, nextOf}
+use Rattle.cutting.specs.declared.segments.Segment.the-variants.{Found}
+use Rattle.cutting.specs.Segments.{foundBy, segmentOf, nextBy, nextOf}
 use Rattle.laws.proofs.Gaps.{gap-fits}
 use Rattle.laws.proofs.Openings.{inside}
 use Rattle.strings.specs.declared.joined.Joined.the-variants as Joined′
 use Rattle.strings.specs.Answers.{lengthOf, Holds, Put}
-use Rattle.strings.specs.Plain.{stopsOf, freeBody, isPlain, Plainly, PlainAt, SaysPlain, CutAt}
+use Rattle.strings.specs.Plain.{stopsOf, freeBody, isPlain, Plainly, PlainAt, SaysPlain, CutAt, GoesOn}
 use Rattle.strings.proofs.Ones.{means-put}
+use Rattle.strings.proofs.Cuts.{goes-on}
 
 -- WHAT A FREE BYTE is not
 module _ (σ : Settings) (b : ℕ) (f : freeOf (stopsOf σ) b ≡ true) where
@@ -247,6 +249,21 @@ module _ (σ : Settings) (t : List ℕ) (at n : ℕ) (q : PlainAt (drop at t) n)
 
 pub cut-other : (σ : Settings) (t : List ℕ) (i : ℕ) (r : Next) → r ≡ nextOf σ t i → CutAt σ t i (record { next = r; plain = false })
 cut-other σ t i r e = record { is = e; says = λ s o u c q y. absurd (false≢true y) }
+
+-- A TEXT that begins with one and goes on with a mark
+first-found : (σ : Settings) (t : List ℕ) (k : ℕ) → segment σ t ≡ suc k → Found (opening t) (suc k) ≡ segmentOf σ t
+unfolding segmentOf
+first-found σ t k e = ap (foundBy (opening t)) (sym e)
+
+pub first-goes-on : (t : List ℕ) (n : ℕ) → PlainAt (drop 0 t) n → (n ≡ 0 → ⊥) → (g : ℕ) → g ≡ gap (drop n t)
+    → (b : ℕ) (x : Bool) → b ≡ getD t (n + g) 0 → x ≡ isMark b → GoesOn t x
+first-goes-on t zero q some g eg b x eb ex y σ = absurd (some refl)
+first-goes-on t (suc k) q some g eg b x eb ex y σ =
+    let e = first-found σ t k (segment-plain σ t 0 (suc k) q some) in
+    sym (goes-on σ t (Found (opening t) (suc k)) e (opening t) (suc k) refl g eg b x eb ex) ∙ y
+
+pub first-inside : (t : List ℕ) (n : ℕ) → PlainAt (drop 0 t) n → (n ≡ 0 → ⊥) → (g : ℕ) → g ≡ gap (drop n t) → n + g ≤ length t
+first-inside t n q some g eg = omega (arith, segment-fits on t 0 n q some, gap-fits (drop n t), length-drop n t)
 
 -- AS THE CODE FINDS IT: a mark, a run that is free, a mark, and no mark behind it
 passes-take : (f : ℕ → Bool) (n : ℕ) (t : List ℕ) → passes f n t ≡ true → passes f (length (take n t)) (take n t) ≡ true

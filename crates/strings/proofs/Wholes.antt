@@ -1,5 +1,5 @@
 -- The reading of a text, by what each of its passes said. Assumes nothing.
-use mathlib.Core.Path.{_≡_, ap, sym, _∙_}
+use mathlib.Core.Path.{_≡_, refl, ap, sym, _∙_}
 use mathlib.Core.Bool.{Bool, true, false}
 use mathlib.Core.List.{List, _++_}
 use Prim.Native.Nat.{ℕ, _≤_, _<_}
@@ -14,6 +14,7 @@ use Rattle.meaning.specs.Reads.{Reads}
 use Rattle.strings.specs.declared.joined.Joined.{Joined}
 use Rattle.strings.specs.declared.joined.Joined.the-variants as Joined′
 use Rattle.strings.specs.Answers.{lengthOf, Holds, valueIn, Put}
+use Rattle.strings.specs.Plain.{GoesOn}
 use Rattle.laws.proofs.Owed.{reads-short, reads-written, reads-refused}
 use Rattle.strings.proofs.Joinings.{length-means, length-fails}
 
@@ -46,3 +47,7 @@ module _ (σ : Settings) (t out after : List ℕ) (r : Read) (x : Bool) (ex : x 
   pub one-reads : x ≡ false → Reads (one σ t) out r after → Reads (read σ t) out r after
   unfolding read
   one-reads y g = rw (sym ex ∙ y) g
+
+pub gone-reads : (σ : Settings) (t out after : List ℕ) (r : Read) (x : Bool) → GoesOn t x → x ≡ true
+    → Reads (asWritten (joined σ (cut σ t))) out r after → Reads (read σ t) out r after
+gone-reads σ t out after r x e y g = joined-reads σ t out after r true (sym (e y σ)) refl g

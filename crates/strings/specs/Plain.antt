@@ -6,7 +6,7 @@ use Prim.Native.Nat.{ℕ, zero, suc, _+_, _-_}
 use lib.Dec.{eqb}
 use lib.ListN.{length, take, drop}
 use Rattle.meaning.specs.declared.Settings.{Settings}
-use Rattle.meaning.specs.Cutting.{on}
+use Rattle.meaning.specs.Cutting.{on, continues}
 use Rattle.meaning.specs.Bytes.{if_then_else_, _!_, part, quote, backslash}
 use Rattle.meaning.specs.Spelling.{encloses}
 use Rattle.leaves.specs.declared.blocks.Stops.{Stops}
@@ -46,3 +46,7 @@ SaysPlain σ t x = x ≡ true → isPlain σ t ≡ true
 pub record CutAt (σ : Settings) (t : List ℕ) (i : ℕ) (r : Cut) : Type 0 where
   pub is : r .next ≡ nextOf σ t i
   pub says : (s o u : ℕ) (c : Cursor) → r .next ≡ Next′.Segment s o u c → SaysPlain σ (take (u - s) (drop s t)) (r .plain)
+
+-- who says that a text goes on behind its first segment is right, at either setting
+abbrev pub GoesOn : List ℕ → Bool → Type 0
+GoesOn t x = x ≡ true → (σ : Settings) → continues σ t ≡ true

@@ -35,7 +35,7 @@ fn is_sound(family: Family, bytes: &[u8]) -> bool
 }
 
 // Reads a short body by one pass. Its value is copied out of the function's own buffer once all of it is known, so that the caller's is not touched before.
-// Rules out: a part of the value shown; a plain body written (must-fail: short_plain_written, short_refused_unit).
+// Rules out: a part of the value shown; a plain body written (must-fail: short_plain_written).
 fn read_short(
     text: &[u8],
     from: usize,

@@ -28,7 +28,7 @@ fn is_run(piece: Piece) -> bool
 }
 
 // Puts a body's value at the buffer's start. A unit that is refused, one that stands for nothing and one for which there is no room all end it.
-// Rules out: a refused unit passed over; an escaped body called plain (must-fail: short_plain_written, short_refused_unit).
+// Rules out: a refused unit passed over; an escaped body called plain (must-fail: short_escape_is_plain, short_refused_unit).
 pub(crate) fn expand(body: &[u8], family: Family, escape: &[u8], out: &mut [u8]) -> Expanded
     ensures { λ r. ⌜ Expands (walk (stepOf family (now (escape .entry))) 0 (now (body .entry))) (now (out .entry)) r (now (out .exit)) ⌝ }
 {

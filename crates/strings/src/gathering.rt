@@ -83,7 +83,7 @@ fn gather(text: &[u8], settings: Settings, out: &mut [u8]) -> Gathered
 }
 
 // Reads joined text by one pass. Its value is copied out of the function's own buffer once all of it is known.
-// Rules out: a made-up length (must-fail: short_join_first_only).
+// Rules out: a made-up length; a part of the value shown.
 pub(crate) fn join_short(text: &[u8], settings: Settings, out: &mut [u8]) -> Short
     ensures { λ r. ⌜ ShortReads (asWritten (joined settings (cut settings (now (text .entry))))) (now (out .entry)) r (now (out .exit)) ⌝ }
 {

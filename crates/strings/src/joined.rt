@@ -6,9 +6,9 @@ use crate::gathering::join_short;
 use crate::one::One;
 use crate::one::measure_one;
 use crate::one::write_one;
+use crate::plain::goes_on;
 use crate::plain::is_plain;
 use crate::plain::next_segment;
-use crate::plain::plain_segment;
 use cutting::cursor::Cursor;
 use cutting::cursor::Next;
 use cutting::marks::Mark;
@@ -191,15 +191,16 @@ fn read_one(text: &[u8], settings: Settings, out: &mut [u8]) -> Read
     requires { ⌜ isUnicode quote (now text) ≡ false ⌝ }
     ensures { λ r. ⌜ Reads (read settings (now (text .entry))) (now (out .entry)) r (now (out .exit)) ⌝ }
 {
-    let alone = read_alone(text, settings, out);
-    if let Read::Refused { place: _ } = alone {
-        return read_any(text, settings, out);
+    match read_alone(text, settings, out) {
+        Read::Borrowed { from, until } => Read::Borrowed { from, until },
+        Read::Written { len } => Read::Written { len },
+        Read::Refused { place: _ } => read_any(text, settings, out),
+        Read::NoRoom { needed } => Read::NoRoom { needed },
     }
-    alone
 }
 
 // Reads a string's text: a part of it, so many bytes at the buffer's start, the place where reading stops, or the length for which there is no room. A text
-// that begins with a plain segment and goes on is not read as one first.
+// that begins with a plain segment and goes on with another is not tried as one first.
 // Rules out: a plain body shown with its mark, or from its mark on (must-fail: plain_from_its_mark, plain_with_its_mark).
 pub fn read_string(text: &[u8], settings: Settings, out: &mut [u8]) -> Read
     ensures { λ r. ⌜ Reads (read settings (now (text .entry))) (now (out .entry)) r (now (out .exit)) ⌝ }
@@ -208,11 +209,10 @@ pub fn read_string(text: &[u8], settings: Settings, out: &mut [u8]) -> Read
         let until = text.len() - 1;
         return Read::Borrowed { from: 1, until };
     }
-    if is_unicode_lexeme(text, Mark::Quote) {
-        return read_any(text, settings, out);
+    if goes_on(text) {
+        return read_joined(text, settings, out);
     }
-    let first = plain_segment(text, 0);
-    if (0 < first) & (first < text.len()) {
+    if is_unicode_lexeme(text, Mark::Quote) {
         return read_any(text, settings, out);
     }
     read_one(text, settings, out)

@@ -5,12 +5,13 @@ use leaves::blocks::Stops;
 use leaves::blocks::is_free;
 use leaves::blocks::plain_run;
 use leaves::bytes::byte_at;
+use leaves::names::is_mark;
 use leaves::texts::is_enclosed;
 use meaning::Settings;
 use spaces::gap_at;
 ghost use mathlib.Core.Path.{_≡_};
 ghost use lib.ListN.{drop};
-ghost use Rattle.strings.specs.Plain.{stopsOf, isPlain, PlainAt, CutAt};
+ghost use Rattle.strings.specs.Plain.{stopsOf, isPlain, PlainAt, CutAt, GoesOn};
 
 // What stands at a cursor, and whether it was found to be a plain segment: then nobody has to look at its body again.
 pub(crate) struct Cut {
@@ -49,7 +50,7 @@ pub(crate) fn is_plain(text: &[u8], settings: Settings) -> bool
 }
 
 // How many bytes the plain segment at a place has, with its marks; 0 if none stands there. What is plain here is plain at either setting.
-pub(crate) fn plain_segment(text: &[u8], at: usize) -> usize
+fn plain_segment(text: &[u8], at: usize) -> usize
     ensures { λ r. ⌜ PlainAt (drop at (now (text .entry))) r ⌝ }
 {
     if text.len() <= at {
@@ -70,8 +71,20 @@ pub(crate) fn plain_segment(text: &[u8], at: usize) -> usize
     run + 2
 }
 
+// Whether a text begins with a plain segment and goes on, past white space, with a mark: then it is joined.
+// Rules out: a text called joined that is not (must-fail: short_refused_unit).
+pub(crate) fn goes_on(text: &[u8]) -> bool
+    ensures { λ r. ⌜ GoesOn (now (text .entry)) r ⌝ }
+{
+    let len = plain_segment(text, 0);
+    if len == 0 {
+        return false;
+    }
+    is_mark(byte_at(text, len + gap_at(text, len)))
+}
+
 // What stands at a cursor: a plain segment is found by one scan.
-// Rules out: a segment called plain that is not.
+// Rules out: a segment called plain that is not (must-fail: short_plain_written).
 pub(crate) fn next_segment(cursor: Cursor, text: &[u8], settings: Settings) -> Cut
     ensures { λ r. ⌜ CutAt settings (now (text .entry)) (cursor .at) r ⌝ }
 {

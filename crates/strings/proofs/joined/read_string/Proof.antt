@@ -1,6 +1,7 @@
 -- `strings::joined::read_string` meets its contract: a plain body is borrowed, and any other text is read. Assumes nothing.
 use mathlib.Core.Path.{sym, _∙_}
 use Rattle.strings.proofs.Plains.{plain-long, plain-borrowed}
+use Rattle.strings.proofs.Wholes.{gone-reads}
 use borrow.Author.Needs.{needs}
 use native.Mathlib.Omega.{arith}
 use Rattle.strings.proofs.joined.read_string.Statement.{statement}
@@ -15,23 +16,23 @@ sub-until c = let h = plain-long _ _ _ (c .before .is-plain .ensures) (c .if1 .t
 returns : tie.Need-returns
 returns c = search plain-borrowed
 
-is-unicode-lexeme-requires : tie.Need-is-unicode-lexeme-requires
-is-unicode-lexeme-requires c κs = search needs
+goes-on-requires : tie.Need-goes-on-requires
+goes-on-requires c κs = search needs
 
-read-any-requires : tie.Need-read-any-requires
-read-any-requires c κs = search needs
+read-joined-requires : tie.Need-read-joined-requires
+read-joined-requires c κs = search needs
 
 same-length : tie.Need-same-length
 same-length c = search needs
 
 returns-2 : tie.Need-returns-2
-returns-2 c = search needs
+returns-2 c = search gone-reads
 
-plain-segment-requires : tie.Need-plain-segment-requires
-plain-segment-requires c κs = search needs
+is-unicode-lexeme-requires : tie.Need-is-unicode-lexeme-requires
+is-unicode-lexeme-requires c κs = search needs
 
-read-any-requires-2 : tie.Need-read-any-requires-2
-read-any-requires-2 c κs = search needs
+read-any-requires : tie.Need-read-any-requires
+read-any-requires c κs = search needs
 
 same-length-2 : tie.Need-same-length-2
 same-length-2 c = search needs
@@ -40,7 +41,7 @@ returns-3 : tie.Need-returns-3
 returns-3 c = search needs
 
 read-one-requires : tie.Need-read-one-requires
-read-one-requires c κs = sym (c .before .before .before .before .is-unicode-lexeme .ensures) ∙ c .before .before .before .if2 .left
+read-one-requires c κs = sym (c .before .before .is-unicode-lexeme .ensures) ∙ c .before .if3 .left
 
 same-length-3 : tie.Need-same-length-3
 same-length-3 c = search needs
@@ -55,12 +56,12 @@ read-string-spec =
     is-plain-requires
     sub-until
     returns
-    is-unicode-lexeme-requires
-    read-any-requires
+    goes-on-requires
+    read-joined-requires
     same-length
     returns-2
-    plain-segment-requires
-    read-any-requires-2
+    is-unicode-lexeme-requires
+    read-any-requires
     same-length-2
     returns-3
     read-one-requires
