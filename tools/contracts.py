@@ -61,7 +61,7 @@ def clause(text):
 
 
 def functions(crate):
-    """(name, ensures, requires) of each public function"""
+    """(name, ensures, requires) of each public function; a clause may go on in lines that stand further in"""
     for path in sorted(glob.glob(f'crates/{crate}/src/*.rt')):
         module = os.path.basename(path)[:-len('.rt')]
         with open(path) as f:
@@ -75,9 +75,12 @@ def functions(crate):
             found = re.match(r'\s*pub (?:extern "C" )?fn (\w+)', line)
             if not found:
                 continue
-            body, j = '', i
+            body, j, depth = '', i, None
             while lines[j].strip() != '{' and j < i + 40:
-                body += lines[j] + '\n'
+                indent = len(lines[j]) - len(lines[j].lstrip())
+                body += ' ' + lines[j].strip() if depth is not None and indent > depth else '\n' + lines[j]
+                if re.match(r'\s*(ensures|requires) ', lines[j]):
+                    depth = indent
                 j += 1
             name = [crate] + ([] if module in ('lib', 'main') else [module]) + ([owner] if owner and line.startswith(' ') else []) + [found[1]]
             yield '::'.join(name), re.findall(r'ensures \{(.*)\}', body), re.findall(r'requires \{(.*)\}', body)

@@ -1,8 +1,8 @@
 -- What is borrowed of a bit string lies in its text: a lone segment has a prefix, a mark and, behind them, its closing mark. Assumes nothing.
-use mathlib.Core.Path.{_≡_, refl, sym, _∙_}
+use mathlib.Core.Path.{_≡_, refl}
 use mathlib.Core.Bool.{Bool, true, false}
 use mathlib.Core.List.{List, [], _∷_}
-use Prim.Native.Nat.{ℕ, zero, suc, _-_, _≤_, _<_}
+use Prim.Native.Nat.{ℕ, zero, suc, _-_, _<_}
 use native.Mathlib.Omega.{arith}
 use borrow.Author.Tests.{eqb-true}
 use lib.Dec.{eqb}
@@ -11,8 +11,8 @@ use lib.Seq.{length-take-le}
 use Rattle.meaning.specs.Bytes.{if_then_else_, _!_, ascii, has}
 use Rattle.meaning.specs.Walk.{after, walk}
 use Rattle.meaning.specs.Cutting.{off, opening, segment, segmentBy, segmentStep, cut}
-use Rattle.meaning.specs.Reading.{Value, means, fails, onward, both, each, asWritten}
-use Rattle.meaning.specs.Kinds.{bitBody, firstBits, laterBits, borrowedAs, bitsBy, bits}
+use Rattle.meaning.specs.Reading.{Value, means, fails, both, asWritten}
+use Rattle.meaning.specs.Kinds.{bitBody, firstBits, borrowedAs, bitsBy, bits}
 use Rattle.laws.proofs.Openings.{segment-fits}
 use Rattle.laws.proofs.Ranges.{AnswerIn}
 use Rattle.cutting.proofs.Cursors.{opening-own}

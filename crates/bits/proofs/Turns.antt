@@ -6,7 +6,7 @@ use mathlib.Core.List.{List, _++_}
 use Prim.Native.Nat.{ℕ, suc, _+_, _-_, _≤_, _<_}
 use native.Mathlib.Omega.{arith}
 use lib.Dec.{eqb}
-use lib.ListN.{length, take, drop, getD, length-take, length-drop}
+use lib.ListN.{length, take, drop, getD}
 use borrow.Author.Tests.{not-true, not-false, le-leb}
 use Rattle.meaning.specs.Bytes.{if_then_else_, part, allDigits}
 use Rattle.meaning.specs.Walk.{give, walk}
@@ -23,7 +23,7 @@ use Rattle.cutting.specs.declared.cursor.Next.{Next}
 use Rattle.cutting.specs.declared.cursor.Next.the-variants as Next′
 use Rattle.cutting.proofs.Cursors.{Unit-at, at-end, at-remainder, at-segment}
 use Rattle.bits.specs.declared.later.Later.the-variants.{Length, Refused}
-use Rattle.bits.specs.Bodies.{Measures, bodyBy, bodyStep, bodies, Room}
+use Rattle.bits.specs.Bodies.{Measures, bodyBy, bodyStep, bodies, BodiesFit}
 use Rattle.bits.proofs.Bodies.{body-steady, own-body, body-length, later-by}
 
 -- A SEGMENT AT A CURSOR: its bounds
@@ -111,7 +111,7 @@ module _ {β : ℕ} {t : List ℕ} {i n : ℕ} (v : LaterAt β t i n) (r : Next)
 pub put-start : (t d : List ℕ) (i : ℕ) → i ≡ 0 → Writing bodyStep t d d i 0
 put-start t d i e = subst (λ (j : ℕ). Writing bodyStep t d d j 0) (sym e) (writing-none bodyStep t d)
 
-module _ {t d out : List ℕ} {i n : ℕ} (w : Writing bodyStep t d out i n) (h : Room t (length d)) (r : Next) (e : r ≡ nextOf off t i) where
+module _ {t d out : List ℕ} {i n : ℕ} (w : Writing bodyStep t d out i n) (h : BodiesFit t (length d)) (r : Next) (e : r ≡ nextOf off t i) where
   roomy : Roomy (walk bodyStep 0 t) (length d)
   roomy = record { goes = h .goes; fits = h .fits }
 

@@ -31,7 +31,7 @@ use Rattle.laws.proofs.Lists.{part-tail}
 use Rattle.cutting.proofs.Cursors.{Unit-at, at-end, at-remainder, at-segment}
 use Rattle.bits.specs.declared.later.Later.{Later}
 use Rattle.bits.specs.declared.later.Later.the-variants as Later′
-use Rattle.bits.specs.Bodies.{laterOf, numberIn, Measures, bodies, bodyStep, Room, joinedBits, Ordered}
+use Rattle.bits.specs.Bodies.{laterOf, numberIn, Measures, bodies, bodyStep, BodiesFit, joinedBits, Ordered}
 use Rattle.bits.proofs.Bodies.{each-bodies, own-length, first-by, letter-two}
 
 -- what a measure says of a value
@@ -105,7 +105,7 @@ module _ (β : ℕ) (t : List ℕ) (f l i : ℕ) (b : Ordered f l i (length t)) 
         unfolding cut
         bodies-rest = each-bodies β 0 (drop i t) (rest .0) (rest .1)
 
-        pub rest-room : Room (take (length t - i) (drop i t)) (length (take (length o - (l - f)) (drop (l - f) o)))
+        pub rest-room : BodiesFit (take (length t - i) (drop i t)) (length (take (length o - (l - f)) (drop (l - f) o)))
         rest-room =
             rw (part-tail t i, lent)
             record { goes = bodies-rest .0; fits = omega (arith, ap length (bodies-rest .1), rest .2, same, length-drop (l - f) o) }

@@ -38,7 +38,7 @@ abbrev pub bodies : List ℕ → List ℕ
 bodies t = value (walk bodyStep 0 t)
 
 -- segments to the end of a text, and n bytes that hold their bodies
-pub record Room (t : List ℕ) (n : ℕ) : Type 0 where
+pub record BodiesFit (t : List ℕ) (n : ℕ) : Type 0 where
   pub goes : stops (walk bodyStep 0 t) ≡ false
   pub fits : length (bodies t) ≤ n
 

@@ -11,10 +11,10 @@ ghost use Rattle.meaning.specs.Cutting.{off, cut};
 ghost use Rattle.meaning.specs.Reading.{each};
 ghost use Rattle.meaning.specs.Kinds.{laterBits};
 ghost use Rattle.meaning.specs.Answers.{filled};
-ghost use Rattle.bits.specs.Bodies.{Measures, bodies, Room};
+ghost use Rattle.bits.specs.Bodies.{Measures, bodies, BodiesFit};
 
 // How many digits the later segments have, or the place of the first that is refused.
-pub enum Later {
+pub(crate) enum Later {
     Length(usize),
     Refused(usize),
 }
@@ -54,7 +54,7 @@ pub(crate) fn measure_later(text: &[u8], base: u8) -> Later
 
 // Writes the bodies of all segments, for which there is room: the tail of the buffer is lent on to the copy of each.
 pub(crate) fn write_later(text: &[u8], out: &mut [u8])
-    requires { ⌜ Room (now text) (length (now out)) ⌝ }
+    requires { ⌜ BodiesFit (now text) (length (now out)) ⌝ }
     ensures { λ r. ⌜ now (out .exit) ≡ filled (bodies (now (text .entry))) (now (out .entry)) ⌝ }
 {
     let mut cursor = Cursor::new();

@@ -9,11 +9,11 @@ use mir.Syntax.{w64}
 use mir.Val.{Fits}
 use lib.Arith.{mod-mul}
 use lib.Dec.{lit≤}
-use lib.ListN.{length, drop, set, length-append, length-set}
-use lib.Seq.{drop-cons, drop-set-lt, getD-set-same}
+use lib.ListN.{length, drop, set, length-set}
 use Rattle.meaning.specs.Numbers.{digitsOf}
 use Rattle.meaning.specs.Halves.{joinedHalves}
-use Rattle.laws.proofs.Halves.{joinedHalves-lt, small-or, digitsOf-small, digitsOf-step, digitsOf-length}
+use Rattle.laws.proofs.Halves.{joinedHalves-lt, small-or, digitsOf-small, digitsOf-step, digitsOf-more, digitsOf-length}
+use Rattle.laws.proofs.Lists.{drop-set-here}
 use Rattle.decimals.specs.Printing.{Parts, lastOf}
 use Rattle.decimals.specs.declared.printing.Parted.{Parted}
 
@@ -25,9 +25,6 @@ ten-pos (suc k) = rw (pow-suc 10 k) (let h = ten-pos k in omega arith)
 size-small : (n : ℕ) → n < 10 → length (digitsOf n) ≡ 1
 size-small n h = ap length (digitsOf-small n h)
 
-size-step : (n : ℕ) → 10 ≤ n → length (digitsOf n) ≡ length (digitsOf (n / 10)) + 1
-size-step n h = ap length (digitsOf-step n h) ∙ length-append (digitsOf (n / 10)) ((48 + n % 10) ∷ [])
-
 -- k digits fewer
 size-by : (k n : ℕ) → 10 ^ k ≤ n → length (digitsOf n) ≡ length (digitsOf (n / 10 ^ k)) + k
 size-by zero n h = rw (div-one n) (sym (add-zero (length (digitsOf n))))
@@ -37,7 +34,7 @@ size-by (suc k) n h =
     let q : 10 ^ k ≤ n / 10 = le-div-iff-mul-le {k = 10} {x = 10 ^ k} {y = n} (omega arith) .1 g in
     let e : n / 10 / 10 ^ k ≡ n / 10 ^ suc k = div-div-eq-div-mul n 10 (10 ^ k) ∙ ap (λ (x : ℕ). n / x) (sym (pow-succ' 10 k)) in
     let s : length (digitsOf (n / 10)) ≡ length (digitsOf (n / 10 ^ suc k)) + k = size-by k (n / 10) q ∙ ap (λ (x : ℕ). length (digitsOf x) + k) e in
-    let t = size-step n (omega arith) in
+    let t = digitsOf-more n (omega arith) in
     omega arith
 
 -- the loops that count: m digits are passed, and those of cur are left
@@ -116,7 +113,7 @@ all-last n = go n n (omega arith)
     more : (n : ℕ) → 10 ≤ n → digitsOf (n / 10) ≡ lastOf (length (digitsOf (n / 10))) (n / 10) → digitsOf n ≡ lastOf (length (digitsOf n)) n
     more n h e =
         digitsOf-step n h ∙ ap (_++ ((48 + n % 10) ∷ [])) e
-        ∙ ap (λ (k : ℕ). lastOf k n) (sym (add-one (length (digitsOf (n / 10)))) ∙ sym (size-step n h))
+        ∙ ap (λ (k : ℕ). lastOf k n) (sym (add-one (length (digitsOf (n / 10)))) ∙ sym (digitsOf-more n h))
 
     go : (f n : ℕ) → n ≤ f → digitsOf n ≡ lastOf (length (digitsOf n)) n
     go zero n h = few n (omega arith)
@@ -133,10 +130,6 @@ pub fill-start : (from until v : ℕ) (out : List ℕ) → from ≤ until → un
     → Filling (lastOf (until - from) v ++ drop until out) (length out) from until v out
 fill-start from until v out h k = record { after = h; inside = k; long = refl; same = refl }
 
-put-back : (out : List ℕ) (j d : ℕ) → j < length out → drop j (set out j d) ≡ d ∷ drop (suc j) out
-put-back out j d h =
-    drop-cons (set out j d) j 0 (rw (length-set out j d) h) ∙ rw (getD-set-same out j d 0 h, drop-set-lt (suc j) out j d (omega arith))
-
 module _ {w : List ℕ} {size from i cur : ℕ} {out : List ℕ} (f : Filling w size from i cur out) where
   -- one digit
   pub fill-on : from < i → (d next : ℕ) → d ≡ 48 + cur % 10 → next ≡ cur / 10 → Filling w size from (i - 1) next (set out (i - 1) d)
@@ -151,7 +144,7 @@ module _ {w : List ℕ} {size from i cur : ℕ} {out : List ℕ} (f : Filling w 
         inside = rw (length-set out (i - 1) d) (omega (arith, f .inside));
         long = length-set out (i - 1) d ∙ f .long;
         same =
-            rw (q, put-back out (i - 1) d (omega (arith, f .inside)), g)
+            rw (q, drop-set-here out (i - 1) d (omega (arith, f .inside)), g)
             (sym (append-assoc (lastOf (i - 1 - from) (cur / 10)) ((48 + cur % 10) ∷ []) (drop (suc (i - 1)) out)) ∙ t);
       }
 

@@ -13,7 +13,7 @@ use crate::halves::negated_low;
 use meaning::Read;
 
 // A billionth of a number, and what is left of it.
-pub struct Parted {
+pub(crate) struct Parted {
     pub hi: u64,
     pub lo: u64,
     pub rest: u64,

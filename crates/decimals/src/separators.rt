@@ -7,7 +7,7 @@ ghost use Rattle.meaning.specs.Numbers.{strip};
 ghost use Rattle.decimals.specs.Separating.{isBetween, separatorsOf};
 
 // How many separators a text has, or that one is misplaced.
-pub enum Separators {
+pub(crate) enum Separators {
     Count(usize),
     Misplaced,
 }

@@ -45,7 +45,8 @@ fn is_readable(body: &[u8], family: Family, escape: &[u8]) -> bool
     }
 }
 
-// Whether an E string's body, from the first quote mark to the last, has only good escapes and no lone mark. Yes for text outside this spelling. It can differ from reading.
+// Whether an E string's body, from the first quote mark to the last, has only good escapes and no lone mark. Yes for text outside this spelling. It can
+// differ from reading.
 // Rules out: " taken for its mark; a body whose expansion alone is UTF-8 (must-fail: bytes_pass, wrong_texts).
 pub fn postgres_escape_string_is_valid(text: &[u8]) -> bool
     ensures { λ r. ⌜ r ≡ escapeValid (now (text .entry)) ⌝ }

@@ -18,27 +18,22 @@ use Rattle.meaning.specs.Steps.{gap}
 use Rattle.meaning.specs.Cutting.{segment, segmentBy, segmentStep, cut, continues}
 use Rattle.meaning.specs.Spelling.{delimiter}
 use Rattle.meaning.specs.Reading.{Answer, borrowed, written, refused, Value, means, fails, valueOf, onward, both, each, one, alone, joined, asWritten, read}
-use Rattle.meaning.specs.Kinds.{firstOf, lastBy, pastLast, foundBy, found}
+use Rattle.meaning.specs.Kinds.{firstOf, lastBy, pastLast, placeBy, found}
 use Rattle.meaning.specs.Kinds.{Token, token, noToken, closedToken, dollarToken, tokenStart, quoteToken, temporalToken}
 use Rattle.meaning.specs.Reads.{readOf}
-use Rattle.laws.proofs.Tests.{and-right}
+use Rattle.laws.proofs.StepBounds.{starts-length}
 use Rattle.laws.proofs.Ranges.{Bounds, AnswerIn, one-inside}
 use Rattle.laws.proofs.Short.{Bound, alone-bound}
 use Rattle.spellings.proofs.Dollars.{delimiter-length}
 
 -- WHAT IS FOUND lies inside
-starts-fits : (p u : List ℕ) → starts p u ≡ true → length p ≤ length u
-starts-fits [] u h = omega arith
-starts-fits (b ∷ p) [] h = absurd (let z : _≡_ {A = ℕ} 0 1 = cc in omega arith)
-starts-fits (b ∷ p) (c ∷ u) h = let r = starts-fits p u (and-right (eqb b c) (starts p u) h) in omega arith
-
 found-fits : (p t : List ℕ) (k : ℕ) → found p t ≡ suc k → k + length p ≤ length t
 found-fits p [] k e = absurd (omega arith)
 found-fits p (b ∷ t) k e = go (starts p (b ∷ t)) refl (found p t) (found-fits p t) e
   where
-    go : (x : Bool) → starts p (b ∷ t) ≡ x → (n : ℕ) → ((k : ℕ) → n ≡ suc k → k + length p ≤ length t) → foundBy x n ≡ suc k
+    go : (x : Bool) → starts p (b ∷ t) ≡ x → (n : ℕ) → ((k : ℕ) → n ≡ suc k → k + length p ≤ length t) → placeBy x n ≡ suc k
         → k + length p ≤ suc (length t)
-    go true s n ih f = omega (arith, starts-fits p (b ∷ t) s)
+    go true s n ih f = omega (arith, starts-length p (b ∷ t) s)
     go false s zero ih f = absurd (omega arith)
     go false s (suc m) ih f = omega (arith, ih m refl)
 

@@ -10,7 +10,7 @@ use lib.ListN.{length, drop, drop-of-length-le}
 use lib.Seq.{drop-cons, drop-length}
 use borrow.Author.Tests.{eq-eqb, ne-eqb}
 use Rattle.meaning.specs.Bytes.{_!_, starts}
-use Rattle.meaning.specs.Kinds.{firstOf, lastBy, pastLast, foundBy, found}
+use Rattle.meaning.specs.Kinds.{firstOf, lastBy, pastLast, placeBy, found}
 use Rattle.leaves.proofs.RunSteps.{RunSoFar, run-more, run-stop, run-end}
 
 -- THE FIRST q: a run of other bytes, i of them so far
@@ -73,7 +73,7 @@ further-none : (n : ℕ) → further 0 n ≡ n
 further-none zero = refl
 further-none (suc k) = ap suc (zero-add k)
 
-further-next : (d n : ℕ) → further d (foundBy false n) ≡ further (suc d) n
+further-next : (d n : ℕ) → further d (placeBy false n) ≡ further (suc d) n
 further-next d zero = refl
 further-next d (suc k) = omega arith
 
@@ -90,10 +90,10 @@ module _ (p l : List ℕ) (at i : ℕ) (s : FoundBehind p l at i) where
   found-none h = sym (s .rest ∙ rw (drop-of-length-le l h))
 
   module _ (h : i < length l) (x : Bool) (ex : x ≡ starts p (drop i l)) where
-    found-at : found p (drop i l) ≡ foundBy x (found p (drop (suc i) l))
+    found-at : found p (drop i l) ≡ placeBy x (found p (drop (suc i) l))
     found-at =
         ap (found p) (drop-cons l i 0 h)
-        ∙ ap (λ (y : Bool). foundBy y (found p (drop (suc i) l))) (sym (ex ∙ ap (starts p) (drop-cons l i 0 h)))
+        ∙ ap (λ (y : Bool). placeBy y (found p (drop (suc i) l))) (sym (ex ∙ ap (starts p) (drop-cons l i 0 h)))
 
     pub found-here : x ≡ true → i - at + 1 ≡ found p (drop at l)
     found-here t = let z : suc (i - at + 0) ≡ i - at + 1 = omega arith in sym (s .rest ∙ rw (found-at, t) z)

@@ -14,7 +14,7 @@ ghost use Rattle.meaning.specs.Spelling.{delimiter};
 ghost use Rattle.kinds.specs.Tokens.{tokenOf};
 
 // The string token of a temporal text, from a place up to another; or that there is none.
-pub enum Token {
+pub(crate) enum Token {
     Found { from: usize, until: usize },
     Nothing,
 }

@@ -3,19 +3,18 @@ use mathlib.Core.Path.{_≡_, refl, ap, sym, subst}
 use mathlib.Core.Bool.{Bool, true, false, _&&_}
 use mathlib.Core.List.{List, [], _∷_, _++_}
 use Prim.Native.Nat.{ℕ, zero, suc, _+_, _<_}
-use Prim.Native.Char.{code}
 use native.Mathlib.Omega.{arith}
-use lib.Dec.{T, eqb, ltb}
+use lib.Dec.{T, eqb}
 use lib.ListN.{length, take, drop, length-drop, take-append-drop, List·getD-append}
 use lib.Seq.{drop-append-le, length-take-le}
 use Rattle.meaning.specs.declared.Settings.{Settings}
-use Rattle.meaning.specs.Bytes.{if_then_else_, _!_, has, ascii, isMark, quote, backslash, inName, span}
+use Rattle.meaning.specs.Bytes.{if_then_else_, _!_, backslash, inName, span}
 use Rattle.meaning.specs.Walk.{Step, keep, give, stop, kept, gave, after, walk, size, stops}
 use Rattle.meaning.specs.Steps.{closingStep, doubled}
 use Rattle.meaning.specs.Cutting.{opening, named, hides, segment}
-use Rattle.laws.proofs.Tests.{true→T, if-suc}
+use Rattle.laws.proofs.Tests.{true→T}
 use Rattle.laws.proofs.Walks.{FitsIn}
-use Rattle.laws.proofs.Openings.{opening-mark, apart-of-mark, mark-0, segment-of, segment-fits}
+use Rattle.laws.proofs.Openings.{Opens, by-mark, by-letter, by-unicode, by-name, opens, opening-mark, apart-of-mark, mark-0, segment-of, segment-fits}
 
 -- the other way round than LocalIn: what stands inside the text stands there without what follows
 abbrev pub Back : (List ℕ → Step) → List ℕ → Type 0
@@ -65,28 +64,15 @@ span-back p (b ∷ t) r h = go (p b) refl h (span-back p t r)
 pub opening-back : (t r : List ℕ) (n : ℕ) → opening (t ++ r) ≡ suc n → n < length t → opening t ≡ suc n
 unfolding named
 opening-back [] r n e i = absurd (omega arith)
-opening-back (b ∷ t) r n e i = go (isMark b) (has b (ascii "EeNnBbXx")) (has b (ascii "Uu")) (eqb b (code "_")) refl refl refl refl e
+opening-back (b ∷ t) r n e i = go i (opens b (t ++ r) n e)
   where
-    go : (x y z u : Bool) → isMark b ≡ x → has b (ascii "EeNnBbXx") ≡ y → has b (ascii "Uu") ≡ z → eqb b (code "_") ≡ u
-        → (if x then 1
-        else if y then (if eqb ((t ++ r) ! 0) quote then 2 else 0)
-        else if z then (if eqb ((t ++ r) ! 0) (code "&") && eqb ((t ++ r) ! 1) quote then 3 else 0)
-        else if u then named (t ++ r) else 0) ≡ suc n
-        → opening (b ∷ t) ≡ suc n
-    go true y z u ex ey ez eu g = rw ex g
-    go false true z u ex ey ez eu g =
-        let c = if-suc (eqb ((t ++ r) ! 0) quote) 2 n g in
-        let k : 0 < length t = let d = c .1 in omega arith in
-        rw (ex, ey, ← byte-back t r 0 k) g
-    go false false true u ex ey ez eu g =
-        let c = if-suc (eqb ((t ++ r) ! 0) (code "&") && eqb ((t ++ r) ! 1) quote) 3 n g in
-        let k : 1 < length t = let d = c .1 in omega arith in
-        rw (ex, ey, ez, ← byte-back t r 0 (omega arith), ← byte-back t r 1 k) g
-    go false false false true ex ey ez eu g =
-        let c = if-suc (ltb 0 (span inName (t ++ r)) && isMark ((t ++ r) ! span inName (t ++ r))) (suc (suc (span inName (t ++ r)))) n g in
-        let k : span inName (t ++ r) < length t = let d = c .1 in omega arith in
-        rw (ex, ey, ez, eu, span-back inName t r k, ← byte-back t r (span inName (t ++ r)) k) g
-    go false false false false ex ey ez eu g = absurd (omega arith)
+    go : {n : ℕ} → n < suc (length t) → Opens b (t ++ r) n → opening (b ∷ t) ≡ suc n
+    go i (by-mark m) = rw m
+    go i (by-letter m l q) = rw (m, l, ← byte-back t r 0 (omega arith), q)
+    go i (by-unicode m l u a q) = rw (m, l, u, ← byte-back t r 0 (omega arith), a, ← byte-back t r 1 (omega arith), q)
+    go i (by-name m l u s f k) =
+        let h : span inName (t ++ r) < length t = omega arith in
+        rw (m, l, u, s, span-back inName t r h, ← byte-back t r (span inName (t ++ r)) h, f, k)
 
 hides-back : (σ : Settings) (t r : List ℕ) → 0 < length t → hides σ (t ++ r) ≡ hides σ t
 hides-back σ [] r h = absurd (omega arith)
@@ -104,7 +90,8 @@ segment-back σ t r e h l =
     let w = walk-restrict (closingStep (hides σ (t ++ r)) ((t ++ r) ! n)) r
     (closing-back (hides σ (t ++ r)) ((t ++ r) ! n) r (apart-of-mark ((t ++ r) ! n) 0 m mark-0)) 0 (drop (suc n) t)
     (subst (λ (x : List ℕ). T (stops (walk (closingStep (hides σ (t ++ r)) ((t ++ r) ! n)) 0 x))) (drop-append-le (suc n) t r i) (true→T _ (s .2)))
-    (subst (λ (x : List ℕ). 0 + size (walk (closingStep (hides σ (t ++ r)) ((t ++ r) ! n)) 0 x) < length (drop (suc n) t)) (drop-append-le (suc n) t r i) (omega (arith, length-drop (suc n) t))) in
+    (subst (λ (x : List ℕ). 0 + size (walk (closingStep (hides σ (t ++ r)) ((t ++ r) ! n)) 0 x) < length (drop (suc n) t)) (drop-append-le (suc n) t r i)
+    (omega (arith, length-drop (suc n) t))) in
     rw (opening-back t r n (s .1) i, ← hides-back σ t r (omega arith), ← b, w, ← drop-append-le (suc n) t r i, s .2)
     (s .3)
 

@@ -2,33 +2,24 @@
 use mathlib.Core.Logic.{_⊎_, inl, inr}
 use mathlib.Core.Path.{_≡_, refl, ap, sym, _∙_, subst}
 use mathlib.Core.Bool.{Bool, true, false, _&&_, _||_, not, false≢true, and-false}
-use mathlib.Core.List.{List, [], _∷_, _++_}
+use mathlib.Core.List.{List, [], _∷_}
 use Prim.Native.Nat.{ℕ, zero, suc, _+_, _-_}
 use native.Mathlib.Omega.{arith}
 use lib.Dec.{eqb, leb, ltb}
 use lib.ListN.{length}
-use borrow.Author.Tests.{leb-true, eqb-true, ne-eqb, eqb-false}
+use borrow.Author.Tests.{leb-true, eqb-true, ne-eqb}
 use Rattle.meaning.specs.Bytes.{if_then_else_, _!_, part, ascii, has, quote, digit}
 use Rattle.meaning.specs.Chars.{Due, due, broken, lead, laters, space}
-use Rattle.meaning.specs.Walk.{Step, keep, give, stop, Trace, ended, stopped, kept, gave, after, walk, size, stops, plain, value}
+use Rattle.meaning.specs.Walk.{walk, stops, value}
 use Rattle.meaning.specs.Steps.{standardStep, doubled}
-use Rattle.meaning.specs.Spelling.{isOne, legalEscape, argumentOf, encloses, argument}
-use Rattle.laws.proofs.Tests.{and-left, and-right, eqb-sym}
-use Rattle.laws.proofs.Enclosed.{has-append}
+use Rattle.meaning.specs.Spelling.{isOne, legalEscape, argumentBy, encloses, argument}
+use Rattle.laws.proofs.Tests.{and-left, and-right, or-left, or-right, eqb-sym}
 
 -- without a quote mark the text is its own value
 quoteless : (t : List ℕ) → has quote t ≡ false → (value (walk (standardStep false quote) 0 t) ≡ t) × (stops (walk (standardStep false quote) 0 t) ≡ false)
 quoteless [] h = (refl, refl)
 quoteless (b ∷ t) h = go (eqb b quote) refl (or-left (eqb quote b) (has quote t) h) (quoteless t (or-right (eqb quote b) (has quote t) h))
   where
-    or-left : (x y : Bool) → (x || y) ≡ false → x ≡ false
-    or-left true y e = e
-    or-left false y e = refl
-
-    or-right : (x y : Bool) → (x || y) ≡ false → y ≡ false
-    or-right true y e = absurd (false≢true (sym e))
-    or-right false y e = e
-
     go : (x : Bool) → eqb b quote ≡ x → eqb quote b ≡ false
         → (value (walk (standardStep false quote) 0 t) ≡ t) × (stops (walk (standardStep false quote) 0 t) ≡ false)
         → (value (walk (standardStep false quote) 0 (b ∷ t)) ≡ b ∷ t) × (stops (walk (standardStep false quote) 0 (b ∷ t)) ≡ false)
@@ -91,15 +82,15 @@ illegal t h = go (legalEscape t) refl
     go false e = refl
 
 -- what stands between the marks
-pub argumentOf-inner : (t : List ℕ) → argumentOf (walk (standardStep false quote) 0 t) ≡ (if legalEscape t then t else [])
-argumentOf-inner t = go (has quote t) refl
+pub argumentBy-inner : (t : List ℕ) → argumentBy (walk (standardStep false quote) 0 t) ≡ (if legalEscape t then t else [])
+argumentBy-inner t = go (has quote t) refl
   where
-    go : (x : Bool) → has quote t ≡ x → argumentOf (walk (standardStep false quote) 0 t) ≡ (if legalEscape t then t else [])
+    go : (x : Bool) → has quote t ≡ x → argumentBy (walk (standardStep false quote) 0 t) ≡ (if legalEscape t then t else [])
     go false h = let p = quoteless t h in rw (p .0, p .1)
     go true h = rw (illegal t h) (none (quoted t h))
       where
         none : (stops (walk (standardStep false quote) 0 t) ≡ true) ⊎ (has quote (value (walk (standardStep false quote) 0 t)) ≡ true)
-            → argumentOf (walk (standardStep false quote) 0 t) ≡ []
+            → argumentBy (walk (standardStep false quote) 0 t) ≡ []
         none (inl s) = rw s
         none (inr v) = rw (illegal (value (walk (standardStep false quote) 0 t)) v, and-false (not (stops (walk (standardStep false quote) 0 t))))
 
@@ -107,7 +98,7 @@ pub argument-inner : (a : List ℕ) → argument a ≡ (if encloses 0 quote a &&
 unfolding argument
 argument-inner a = go (encloses 0 quote a)
   where
-    go : (x : Bool) → (if x then argumentOf (walk (standardStep false quote) 0 (part 1 (length a - 1) a)) else [])
+    go : (x : Bool) → (if x then argumentBy (walk (standardStep false quote) 0 (part 1 (length a - 1) a)) else [])
         ≡ (if x && legalEscape (part 1 (length a - 1) a) then part 1 (length a - 1) a else [])
-    go true = argumentOf-inner (part 1 (length a - 1) a)
+    go true = argumentBy-inner (part 1 (length a - 1) a)
     go false = refl

@@ -30,7 +30,8 @@ standard-stops bs q (suc k) [] h = absurd h
 standard-stops bs q (suc k) (b ∷ u) h = standard-stops bs q k u h
 standard-stops bs q zero (b ∷ u) h = go (bs && eqb b backslash) (eqb b q) (eqb (u ! 0) q) refl h (λ n. standard-stops bs q n u)
   where
-    hidden : (w : List ℕ) (f g : ℕ → Trace) → (T (stops (f 1)) → T (stops (g 1))) → (w ≡ [] → T (stops (f 1)) → ⊥) → T (stops (f 1)) → T (stops (after (mysql w) b g))
+    hidden : (w : List ℕ) (f g : ℕ → Trace) → (T (stops (f 1)) → T (stops (g 1))) → (w ≡ [] → T (stops (f 1)) → ⊥) → T (stops (f 1))
+        → T (stops (after (mysql w) b g))
     hidden [] f g i z j = absurd (z refl j)
     hidden (c ∷ w) f g i z j = mysql-take c w b g (i j)
 
@@ -38,7 +39,8 @@ standard-stops bs q zero (b ∷ u) h = go (bs && eqb b backslash) (eqb b q) (eqb
         → T (stops (after (if x then give 1 [] else if y then (if z then give 1 (q ∷ []) else stop) else keep) b (λ n. walk (closingStep bs q) n u)))
         → ((n : ℕ) → T (stops (walk (closingStep bs q) n u)) → T (stops (walk (standardStep bs q) n u)))
         → T (stops (after (if x then mysql u else if y then (if z then give 1 (q ∷ []) else stop) else keep) b (λ n. walk (standardStep bs q) n u)))
-    go true y z ez g ih = hidden u (λ n. walk (closingStep bs q) n u) (λ n. walk (standardStep bs q) n u) (ih 1) (λ e j. subst (λ (w : List ℕ). T (stops (walk (closingStep bs q) 1 w))) e j) g
+    go true y z ez g ih = hidden u (λ n. walk (closingStep bs q) n u) (λ n. walk (standardStep bs q) n u) (ih 1)
+        (λ e j. subst (λ (w : List ℕ). T (stops (walk (closingStep bs q) 1 w))) e j) g
     go false true true ez g ih = ih 1 g
     go false true false ez g ih = tt
     go false false z ez g ih = ih 0 g
@@ -54,7 +56,8 @@ stops-fails t f u r v h e = go (plain r) refl (not-plain r h) (rw (T→true (sto
     not-plain (kept b r) h = not-plain r h
     not-plain (gave n out r) h = refl
 
-    go : (x : Bool) → plain r ≡ x → plain r ≡ false → valueOf t (if plain r then borrowed f u else (if true then refused (f + size r) else written (Rattle.meaning.specs.Walk.value r))) ≡ means v → ⊥
+    go : (x : Bool) → plain r ≡ x → plain r ≡ false
+        → valueOf t (if plain r then borrowed f u else (if true then refused (f + size r) else written (Rattle.meaning.specs.Walk.value r))) ≡ means v → ⊥
     go x p q g = let z : fails (f + size r) ≡ means v = rw q at g in let y : _≡_ {A = ℕ} 0 1 = cc in omega arith
 
 -- the body from place n + 1 to the last byte: the search stops in it, if it stops before the last byte

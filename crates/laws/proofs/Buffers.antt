@@ -26,7 +26,8 @@ use Rattle.meaning.specs.Reading.{Answer, borrowed, written, refused, read}
 use Rattle.meaning.specs.Numbers.{decimalOf}
 use Rattle.meaning.specs.Kinds.{bits, temporal}
 use Rattle.meaning.specs.Answers.{Outcome, filled}
-use Rattle.meaning.specs.Questions.{Tested, passes, barred, tested, isString, isNumber, isTemporal, bitBase, toldAs, told, stringQuestion, decimalQuestion, bitsQuestion, temporalQuestion, identifierAs, identifierQuestion}
+use Rattle.meaning.specs.Questions.{Tested, passes, barred, tested, isString, isNumber, isTemporal, bitBase, toldAs, told, stringQuestion, decimalQuestion}
+use Rattle.meaning.specs.Questions.{bitsQuestion, temporalQuestion, identifierAs, identifierQuestion}
 use Rattle.meaning.specs.Helpers.{ident}
 use Rattle.meaning.specs.Writer.{overLimit, unwritableNul, writtenText, writes, writeQuestion}
 use Rattle.laws.proofs.Tests.{true→T}
@@ -77,7 +78,8 @@ module _ (v out : List ℕ) where
 pub toldAs-leaves : (bad : Refusal) (s : ℕ) (out : List ℕ) (a : Answer) → TextLeaves out (toldAs bad s out a .answer) (toldAs bad s out a .buffer)
 toldAs-leaves bad s out (borrowed f u) = refl
 toldAs-leaves bad s out (written v) =
-    leaves-by v out (λ (r : Text). TextLeaves out r) (Text′.Written (length v)) (Text′.Refused (NoRoom (length v))) (λ d h. h) refl (leb (length v) (length out)) refl
+    leaves-by v out (λ (r : Text). TextLeaves out r) (Text′.Written (length v)) (Text′.Refused (NoRoom (length v))) (λ d h. h) refl
+    (leb (length v) (length out)) refl
 toldAs-leaves bad s out (refused p) = refl
 
 -- every question that answers a text
@@ -108,7 +110,8 @@ module _ (l : Literal) (S out : List ℕ) where
 identifierAs-leaves : (out : List ℕ) (a : Answer) → IdentifierLeaves out (identifierAs out a .answer) (identifierAs out a .buffer)
 identifierAs-leaves out (borrowed f u) = refl
 identifierAs-leaves out (written v) =
-    leaves-by v out (λ (r : Identifier). IdentifierLeaves out r) (Identifier′.Written (length v)) (Identifier′.NoRoom (length v)) (λ d h. h) refl (leb (length v) (length out)) refl
+    leaves-by v out (λ (r : Identifier). IdentifierLeaves out r) (Identifier′.Written (length v)) (Identifier′.NoRoom (length v)) (λ d h. h) refl
+    (leb (length v) (length out)) refl
 identifierAs-leaves out (refused p) = refl
 
 pub identifier-leaves : (t out : List ℕ) → IdentifierLeaves out (identifierQuestion t out .answer) (identifierQuestion t out .buffer)

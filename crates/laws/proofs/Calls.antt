@@ -1,8 +1,8 @@
--- The demands, of what calls return. A call's result and final buffer are whatever its contract permits (`Meets`), so each law holds of the string question and of
--- the writer as a user calls them, whatever the rest of the buffers held. Assumes nothing.
+-- The demands, of what calls return. A call's result and final buffer are whatever its contract permits (`Meets`), so each law holds of the string question
+-- and of the writer as a user calls them, whatever the rest of the buffers held. Assumes nothing.
 use mathlib.Core.Path.{_≡_, sym, _∙_}
 use mathlib.Core.Bool.{true}
-use mathlib.Core.List.{List, _++_}
+use mathlib.Core.List.{List, [], _∷_, _++_}
 use Prim.Native.Nat.{ℕ, _≤_}
 use lib.ListN.{length, take}
 use Rattle.meaning.specs.declared.Settings.{Settings}
@@ -14,9 +14,9 @@ use Rattle.meaning.specs.declared.Writing.{Writing}
 use Rattle.meaning.specs.declared.Writing.the-variants.{Written}
 use Rattle.meaning.specs.Bytes.{_!_, isMark}
 use Rattle.meaning.specs.Cutting.{complete}
-use Rattle.meaning.specs.Answers.{Outcome, Meets, textNumber, shown}
+use Rattle.meaning.specs.Answers.{Meets, textNumber, shown}
 use Rattle.meaning.specs.Questions.{isString, stringQuestion}
-use Rattle.meaning.specs.Writer.{writeQuestion}
+use Rattle.meaning.specs.Writer.{literal, writtenText, writeQuestion}
 use Rattle.laws.proofs.Asked.{Spans}
 use Rattle.laws.proofs.Sources.{Agree, stringQuestion-same}
 use Rattle.laws.proofs.Determined.{Same, meets-unique}
@@ -27,8 +27,8 @@ use Rattle.laws.proofs.Answered.{answered-accepts}
 use Rattle.laws.proofs.Ranges.{Answered, string-answered}
 use Rattle.laws.proofs.Parts.{Next, chain}
 use Rattle.laws.proofs.WriterParts.{Accepted}
-use Rattle.laws.proofs.WrittenParts.{CutInto, parts-law}
-use Rattle.laws.proofs.RoundTrip.{writer-round-trip}
+use Rattle.laws.proofs.WrittenParts.{Each, each-of, CutInto, parts-accepted, parts-law}
+use Rattle.laws.proofs.RoundTrip.{writer-answers, written-wrote, writer-round-trip}
 
 -- A CALL of the string question on the text t: what went in, and what came out
 pub record StringCall (σ : Settings) (t : List ℕ) : Type 0 where
@@ -86,10 +86,41 @@ round-trip-calls σ size v w n e c r =
     (writer-round-trip σ size v (w .lent) n (sym (w .contract .answer) ∙ e) (c .literal) (c .source) (c .lent) (c .kind)
     (rw (w .contract .buffer) at (c .spans)) r)
 
--- PARTS of a value, each written by itself, with white space between
+-- PARTS of a value, each by a call of the writer that wrote it
+pub record PartWritten (σ : Settings) (q : List ℕ) : Type 0 where
+  pub call : WriterCall σ Whole q
+  pub size : ℕ
+  pub wrote : call .result ≡ Written size
+
+-- such a call wrote the part's literal
+part-literal : (σ : Settings) (q : List ℕ) (w : PartWritten σ q) → take (w .size) (w .call .after) ≡ literal (σ .backslash) q
+unfolding writtenText
+part-literal σ q w = rw (w .call .contract .buffer) (written-wrote σ Whole q (w .call .lent) (w .size) (sym (w .call .contract .answer) ∙ w .wrote) .text)
+
+-- the bytes that the calls wrote, with white space between
+abbrev pub calls-chain : (σ : Settings) (p : List ℕ) (xs : List Next) → Each (PartWritten σ) p xs → List ℕ
+calls-chain σ p [] w = take (w .size) (w .call .after)
+calls-chain σ p (x ∷ xs) w = take (w .0 .size) (w .0 .call .after) ++ ((x .first ∷ x .rest) ++ calls-chain σ (x .value) xs (w .1))
+
+calls-chain-is : (σ : Settings) (p : List ℕ) (xs : List Next) (w : Each (PartWritten σ) p xs) → calls-chain σ p xs w ≡ chain σ p xs
+calls-chain-is σ p [] w = part-literal σ p w
+calls-chain-is σ p (x ∷ xs) w = rw (part-literal σ p (w .0), calls-chain-is σ (x .value) xs (w .1))
+
+-- asked in a span of any source, they show the value
 pub parts-calls : (σ : Settings) (v p : List ℕ) (xs : List Next) → Accepted σ Whole v → CutInto v p xs
-    → (c : StringCall σ (chain σ p xs)) → length v ≤ length (c .lent) → Shows c v
-parts-calls σ v p xs a i c r = shows-by c v (parts-law σ v p xs a i (c .literal) (c .source) (c .lent) (c .kind) (c .spans) r)
+    → (w : Each (PartWritten σ) p xs) (c : StringCall σ (calls-chain σ p xs w)) → length v ≤ length (c .lent) → Shows c v
+parts-calls σ v p xs a i w c r =
+    shows-by c v (parts-law σ v p xs a i (c .literal) (c .source) (c .lent) (c .kind) (rw (calls-chain-is σ p xs w) at (c .spans)) r)
+
+-- and such calls are to be had: each call of the writer on a part, with room for its literal, wrote it
+abbrev pub Writes : Settings → List ℕ → Type 0
+Writes σ q = (w : WriterCall σ Whole q) → length (literal (σ .backslash) q) ≤ length (w .lent) → w .result ≡ Written (length (literal (σ .backslash) q))
+
+pub parts-calls-write : (σ : Settings) (v p : List ℕ) (xs : List Next) → Accepted σ Whole v → CutInto v p xs
+    → Each (Writes σ) p xs
+unfolding writtenText
+parts-calls-write σ v p xs a i =
+    each-of (Accepted σ Whole) (Writes σ) (λ q b w r. w .contract .answer ∙ writer-answers σ Whole q (w .lent) b r) p xs (parts-accepted σ v p xs a i)
 
 -- AGREEMENT: one literal in two sources that agree inside its span, with one buffer
 pub agreement-calls : (l : Literal) (S S′ : List ℕ) → Agree l S S′ → (σ : Settings) (out : List ℕ) (r r′ : Text) (d d′ : List ℕ)

@@ -7,17 +7,16 @@ use Prim.Native.Nat.{ℕ, zero, suc, _+_, _-_, _*_, _≤_, _<_}
 use Prim.Native.Char.{code}
 use native.Mathlib.Omega.{arith}
 use native.Mathlib.Decide.{decLt}
-use lib.Dec.{eqb, eqb→eq, leb, leb→le}
-use borrow.Author.Tests.{lt-leb, leb-false}
+use lib.Dec.{eqb, leb, leb→le}
+use borrow.Author.Tests.{lt-leb, leb-false, eqb-true}
 use lib.ListN.{length, take}
 use Rattle.meaning.specs.Bytes.{if_then_else_, _!_, isMark, isLetter, isDecimal, within, quote, dquote, backslash, inName}
 use Rattle.meaning.specs.Chars.{Due, due, broken, lead, gather, base, isSpace, space, spaceAt}
-use Rattle.meaning.specs.Walk.{after, walk, size, stops}
-use Rattle.meaning.specs.Steps.{closingStep, spaceStep, spaceBy}
+use Rattle.meaning.specs.Walk.{after, walk, size}
+use Rattle.meaning.specs.Steps.{spaceStep, spaceBy}
 use Rattle.laws.proofs.Utf8.{low-lead}
 use Rattle.laws.proofs.Tests.{true→T, if-suc}
 use Rattle.laws.proofs.Gaps.{due-high, lead-low, no-space}
-use Rattle.laws.proofs.Openings.{apart-of-mark}
 use Rattle.laws.proofs.ClauseStops.{Ok, Last}
 
 -- a byte that a search for a mark keeps, and that ends no prefix
@@ -32,7 +31,7 @@ low-eq : (b c : ℕ) → leb 0x80 b ≡ true → leb 0x80 c ≡ false → eqb b 
 low-eq b c h l = go (eqb b c) refl
   where
     go : (x : Bool) → eqb b c ≡ x → x ≡ false
-    go true e = sym h ∙ ap (leb 0x80) (eqb→eq b c (true→T (eqb b c) e)) ∙ l
+    go true e = sym h ∙ ap (leb 0x80) (eqb-true b c e) ∙ l
     go false e = refl
 
 above : (b lo hi : ℕ) → leb 0x80 b ≡ true → hi < 0x80 → leb b hi ≡ false
@@ -50,7 +49,15 @@ high-quiet b h = (
   (low-eq b backslash h refl, rw (low-eq b quote h refl, low-eq b dquote h refl)),
   (
     low-eq b backslash h refl,
-    rw (above b 65 90 h (omega arith), and-false (leb 65 b), above b 97 122 h (omega arith), and-false (leb 97 b), above b 48 57 h (omega arith), and-false (leb 48 b), low-eq b 95 h refl) refl,
+    rw (
+      above b 65 90 h (omega arith),
+      and-false (leb 65 b),
+      above b 97 122 h (omega arith),
+      and-false (leb 97 b),
+      above b 48 57 h (omega arith),
+      and-false (leb 48 b),
+      low-eq b 95 h refl,
+    ) refl,
     low-eq b (code "&") h refl,
   ),
 )
@@ -59,7 +66,7 @@ eqb-no : (b c : ℕ) → b < c → eqb b c ≡ false
 eqb-no b c h = go (eqb b c) refl
   where
     go : (x : Bool) → eqb b c ≡ x → x ≡ false
-    go true e = let p = eqb→eq b c (true→T (eqb b c) e) in absurd (omega arith)
+    go true e = let p = eqb-true b c e in absurd (omega arith)
     go false e = refl
 
 -- bytes up to 20 hex are quiet
@@ -151,16 +158,8 @@ gap-quiet zero (b ∷ t) g m e = go (lead b) refl (λ i. gap-quiet i t)
     go : (d : Due) → lead b ≡ d → ((i : ℕ) → High i t → (m : ℕ) → i + size (walk spaceStep i t) ≡ m → AllQ (take m t)) → AllQ (take m (b ∷ t))
     go broken l ih = none m (let z : 0 + size (walk spaceStep 0 (b ∷ t)) ≡ 0 = rw l refl in omega arith)
     go (due n lo hi) l ih =
-        at n lo hi l (isSpace (gather n lo hi (b - base n) t)) refl m (subst (λ (d : Due). 0 + size (after (spaceBy (spaceAt d b t)) b (λ n. walk spaceStep n t)) ≡ m) l e) ih
-
--- the search for a mark keeps quiet bytes
-pub quiet-walk : (q : ℕ) → isMark q ≡ true → (K r : List ℕ) → AllQ K
-    → (stops (walk (closingStep true q) 0 (K ++ r)) ≡ stops (walk (closingStep true q) 0 r))
-    × (size (walk (closingStep true q) 0 (K ++ r)) ≡ length K + size (walk (closingStep true q) 0 r))
-quiet-walk q m [] r a = (refl, omega arith)
-quiet-walk q m (b ∷ K) r a =
-    let ih = quiet-walk q m K r (a .1) in
-    rw (a .0 .0 .0, apart-of-mark q b m (a .0 .0 .1)) (ih .0, (let z = ih .1 in omega arith))
+        at n lo hi l (isSpace (gather n lo hi (b - base n) t)) refl m
+        (subst (λ (d : Due). 0 + size (after (spaceBy (spaceAt d b t)) b (λ n. walk spaceStep n t)) ≡ m) l e) ih
 
 -- the last byte
 pub last-take : (m : ℕ) (t : List ℕ) → m < length t → Ok (t ! m) → Last (take (suc m) t)

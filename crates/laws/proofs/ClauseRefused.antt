@@ -8,7 +8,8 @@ use Prim.Native.Nat.{ℕ, zero, suc, _+_, _-_, _*_, _<_}
 use Prim.Native.Char.{code}
 use native.Mathlib.Nat.{zero-add, add-zero}
 use native.Mathlib.Omega.{arith}
-use lib.Dec.{eqb, eqb→eq, ltb, leb, leb→le}
+use lib.Dec.{eqb, ltb, leb, leb→le}
+use borrow.Author.Tests.{eqb-true}
 use lib.ListN.{length, take, drop, length-drop, take-append-drop, drop-of-length-le}
 use lib.Seq.{split-at, drop-append-add, getD-drop}
 use Rattle.meaning.specs.Bytes.{if_then_else_, _!_, has, same, ascii, isMark, isLetter, isDecimal, within, quote, dquote, backslash, inName, digit, part}
@@ -16,9 +17,9 @@ use Rattle.meaning.specs.Chars.{Due, due, broken, lead, gather, base, laters, i
 use Rattle.meaning.specs.Walk.{Trace, stopped, walk, size, stops, value}
 use Rattle.meaning.specs.Steps.{closingStep, doubled, standardStep, gap, trim}
 use Rattle.meaning.specs.Cutting.{complete, cut, opening, named, segmentAt, segment, segmentStep, on}
-use Rattle.meaning.specs.Spelling.{legalEscape, isOne, upper, encloses, argument, argumentOf}
+use Rattle.meaning.specs.Spelling.{legalEscape, isOne, upper, encloses, argument, argumentBy}
 use Rattle.meaning.specs.Reading.{meaning, means, read, written}
-use Rattle.laws.proofs.Tests.{true→T, eqb-sym, and-left, and-right}
+use Rattle.laws.proofs.Tests.{true→T, eqb-sym, and-left, and-right, or-right}
 use Rattle.laws.proofs.Walks.{stop-at, stops-inside}
 use Rattle.laws.proofs.Parts.{is-quote}
 use Rattle.laws.proofs.Gaps.{Solid}
@@ -75,11 +76,7 @@ raw-value (b ∷ t) s n = go (eqb b quote) (eqb (t ! 0) quote) refl refl s n (ra
     go false y ex ey s n ih =
         let s′ : stops (walk (standardStep false quote) 0 t) ≡ false = rw ex at s in
         let n′ : (eqb quote b || has quote (value (walk (standardStep false quote) 0 t))) ≡ false = rw ex at n in
-        rw ex (ap (b ∷_) (ih s′ (or-right (eqb quote b) n′)))
-      where
-        or-right : (x : Bool) {y : Bool} → (x || y) ≡ false → y ≡ false
-        or-right true h = absurd (true→T false (sym h))
-        or-right false h = h
+        rw ex (ap (b ∷_) (ih s′ (or-right (eqb quote b) (has quote (value (walk (standardStep false quote) 0 t))) n′)))
 
 pub record Legal (i : ℕ) (t : List ℕ) : Type 0 where
   pub n : ℕ
@@ -116,7 +113,7 @@ legal i t h = go (lead i) refl (and-left (isOne (lead i) t) (ltb 15 (digit i)) h
           leads = l;
           later = rw l at g;
           plain = marks (eqb i 43) (eqb i quote) (eqb i dquote) (and-right (isOne (lead i) t && ltb 15 (digit i)) (not (has i (ascii "+'\""))) h1);
-          tight = eqb→eq (space (i ∷ t)) 0 (true→T (eqb (space (i ∷ t)) 0) (and-right (isOne (lead i) t && ltb 15 (digit i) && not (has i (ascii "+'\""))) (eqb (space (i ∷ t)) 0) h));
+          tight = eqb-true (space (i ∷ t)) 0 (and-right (isOne (lead i) t && ltb 15 (digit i) && not (has i (ascii "+'\""))) (eqb (space (i ∷ t)) 0) h);
         }
 
 if-list : (x : Bool) (v : List ℕ) (c : ℕ) (e : List ℕ) → (if x then v else []) ≡ c ∷ e → (x ≡ true) × (v ≡ c ∷ e)
@@ -131,26 +128,37 @@ pub record Arg (a : List ℕ) : Type 0 where
 
 pub arg : (a : List ℕ) (c : ℕ) (e : List ℕ) → argument a ≡ c ∷ e → Arg a
 unfolding argument encloses
-arg a c e h = shaped a (if-list (encloses 0 quote a) (argumentOf (walk (standardStep false quote) 0 (part 1 (length a - 1) a))) c e h)
+arg a c e h = shaped a (if-list (encloses 0 quote a) (argumentBy (walk (standardStep false quote) 0 (part 1 (length a - 1) a))) c e h)
   where
     body : (b : ℕ) (r : List ℕ) → b ≡ quote → (m : ℕ) → length r ≡ suc m → r ! m ≡ quote → (c : ℕ) (e : List ℕ)
-        → argumentOf (walk (standardStep false quote) 0 (take m r)) ≡ c ∷ e → Arg (b ∷ r)
+        → argumentBy (walk (standardStep false quote) 0 (take m r)) ≡ c ∷ e → Arg (b ∷ r)
     body b r eb m el em c e g =
-        let p = if-list (not (stops (walk (standardStep false quote) 0 (take m r))) && legalEscape (value (walk (standardStep false quote) 0 (take m r)))) (value (walk (standardStep false quote) 0 (take m r))) c e g in
-        let st = flip (stops (walk (standardStep false quote) 0 (take m r))) (and-left (not (stops (walk (standardStep false quote) 0 (take m r)))) (legalEscape (value (walk (standardStep false quote) 0 (take m r)))) (p .0)) in
-        let lg : legalEscape (c ∷ e) ≡ true = rw (p .1) at (and-right (not (stops (walk (standardStep false quote) 0 (take m r)))) (legalEscape (value (walk (standardStep false quote) 0 (take m r)))) (p .0)) in
+        let p = if-list (not (stops (walk (standardStep false quote) 0 (take m r))) && legalEscape (value (walk (standardStep false quote) 0 (take m r))))
+        (value (walk (standardStep false quote) 0 (take m r))) c e g in
+        let st = flip (stops (walk (standardStep false quote) 0 (take m r)))
+        (and-left (not (stops (walk (standardStep false quote) 0 (take m r)))) (legalEscape (value (walk (standardStep false quote) 0 (take m r)))) (p .0)) in
+        let lg : legalEscape (c ∷ e) ≡ true =
+        rw (p .1) at (and-right (not (stops (walk (standardStep false quote) 0 (take m r))))
+        (legalEscape (value (walk (standardStep false quote) 0 (take m r)))) (p .0)) in
         let f = legal c e lg in
         let nq : has quote (c ∷ e) ≡ false = rw (eqb-sym quote c ∙ apart-of-mark quote c is-quote (f .plain), no-quote e (laters-quiet (f .n) e (f .later))) in
         let rv : take m r ≡ c ∷ e = sym (raw-value (take m r) st (rw (p .1) nq)) ∙ p .1 in
         let sp = split-at r m 0 (omega arith) in
         let dr : drop (suc m) r ≡ [] = drop-of-length-le r {i = suc m} (omega arith) in
-        record { i = c; t = e; shape = ap (_∷ r) eb ∙ ap (quote ∷_) (sp ∙ ap (λ (x : List ℕ). x ++ (r ! m ∷ drop (suc m) r)) rv ∙ ap (λ (x : ℕ). c ∷ (e ++ (x ∷ drop (suc m) r))) em ∙ ap (λ (x : List ℕ). c ∷ (e ++ (quote ∷ x))) dr); fine = f }
+        record {
+          i = c;
+          t = e;
+          shape = ap (_∷ r) eb
+              ∙ ap (quote ∷_) (sp ∙ ap (λ (x : List ℕ). x ++ (r ! m ∷ drop (suc m) r)) rv ∙ ap (λ (x : ℕ). c ∷ (e ++ (x ∷ drop (suc m) r))) em
+              ∙ ap (λ (x : List ℕ). c ∷ (e ++ (quote ∷ x))) dr);
+          fine = f;
+        }
       where
         flip : (x : Bool) → not x ≡ true → x ≡ false
         flip true h = absurd (true→T false h)
         flip false h = refl
 
-    shaped : (a : List ℕ) → (encloses 0 quote a ≡ true) × (argumentOf (walk (standardStep false quote) 0 (part 1 (length a - 1) a)) ≡ c ∷ e) → Arg a
+    shaped : (a : List ℕ) → (encloses 0 quote a ≡ true) × (argumentBy (walk (standardStep false quote) 0 (part 1 (length a - 1) a)) ≡ c ∷ e) → Arg a
     shaped [] p = absurd (true→T false (p .0))
     shaped (b ∷ []) p = absurd (true→T false (p .0))
     shaped (b ∷ (d ∷ r)) p =
@@ -158,8 +166,8 @@ arg a c e h = shaped a (if-list (encloses 0 quote a) (argumentOf (walk (standard
         let k = and-right (ltb 1 (length (b ∷ (d ∷ r))) && eqb b quote) (eqb ((b ∷ (d ∷ r)) ! (length (b ∷ (d ∷ r)) - 1)) quote) (p .0) in
         let j : suc (suc (length r)) - 1 ≡ suc (length r) = omega arith in
         let j′ : suc (suc (length r)) - 1 - 1 ≡ length r = omega arith in
-        body b (d ∷ r) (eqb→eq b quote (true→T (eqb b quote) (and-right (ltb 1 (length (b ∷ (d ∷ r)))) (eqb b quote) l))) (length r) refl
-        (eqb→eq ((d ∷ r) ! length r) quote (true→T (eqb ((d ∷ r) ! length r) quote) (rw j at k))) c e (rw j′ at (p .1))
+        body b (d ∷ r) (eqb-true b quote (and-right (ltb 1 (length (b ∷ (d ∷ r)))) (eqb b quote) l)) (length r) refl
+        (eqb-true ((d ∷ r) ! length r) quote (rw j at k)) c e (rw j′ at (p .1))
 
 -- what the searches and the cut see in an argument ' i t '
 module _ (i : ℕ) (t : List ℕ) (f : Legal i t) where
@@ -187,7 +195,7 @@ module _ (i : ℕ) (t : List ℕ) (f : Legal i t) where
 
       go : (x : Bool) → eqb i backslash ≡ x → stops (walk (closingStep true dquote) 0 (i ∷ (t ++ (quote ∷ [])))) ≡ false
       go true e =
-          let l : lead 92 ≡ due (f .n) (f .lo) (f .hi) = ap lead (sym (eqb→eq i backslash (true→T (eqb i backslash) e))) ∙ f .leads in
+          let l : lead 92 ≡ due (f .n) (f .lo) (f .hi) = ap lead (sym (eqb-true i backslash e)) ∙ f .leads in
           let z : f .n ≡ 0 = cc in
           let v : t ≡ [] = empty t (subst (λ (n : ℕ). laters n t ≡ true) z (f .later)) in
           rw (e, v)
@@ -201,7 +209,8 @@ module _ (i : ℕ) (t : List ℕ) (f : Legal i t) where
 
   arg-tight : gap (i ∷ (t ++ (quote ∷ []))) ≡ 0
   arg-tight =
-      let s : space (i ∷ (t ++ (quote ∷ []))) ≡ 0 = rw (f .leads, gather-more (f .n) (f .lo) (f .hi) (i - base (f .n)) t (f .later)) (rw (f .leads) at (f .tight)) in
+      let s : space (i ∷ (t ++ (quote ∷ []))) ≡ 0 =
+      rw (f .leads, gather-more (f .n) (f .lo) (f .hi) (i - base (f .n)) t (f .later)) (rw (f .leads) at (f .tight)) in
       rw s
 
   arg-none : segment on (i ∷ (t ++ (quote ∷ []))) ≡ 0
@@ -217,7 +226,8 @@ module _ (i : ℕ) (t : List ℕ) (f : Legal i t) where
           go false false true = refl
           go false false false = refl
       at (b ∷ s) a =
-          rw (f .plain, apart-of-mark quote b is-quote (a .0 .0 .1), a .0 .1 .2, a .0 .1 .1) (go (has i (ascii "EeNnBbXx")) (has i (ascii "Uu")) (eqb i (code "_")))
+          rw (f .plain, apart-of-mark quote b is-quote (a .0 .0 .1), a .0 .1 .2, a .0 .1 .1)
+          (go (has i (ascii "EeNnBbXx")) (has i (ascii "Uu")) (eqb i (code "_")))
         where
           go : (x y z : Bool) → segmentAt on (i ∷ (b ∷ (s ++ (quote ∷ [])))) (if x then 0 else if y then 0 else if z then 0 else 0) ≡ 0
           go true y z = refl
@@ -228,7 +238,7 @@ module _ (i : ℕ) (t : List ℕ) (f : Legal i t) where
 -- THE KEYWORD
 upper-inv : (b l : ℕ) → eqb (upper b) l ≡ true → (b ≡ l) ⊎ (b ≡ l + 32)
 unfolding upper within
-upper-inv b l h = go (leb 97 b) (leb b 122) refl (eqb→eq (upper b) l (true→T (eqb (upper b) l) h))
+upper-inv b l h = go (leb 97 b) (leb b 122) refl (eqb-true (upper b) l h)
   where
     go : (x y : Bool) → leb 97 b ≡ x → (if x && y then b - 32 else b) ≡ l → (b ≡ l) ⊎ (b ≡ l + 32)
     go true true ex g = let p = leb→le 97 b (true→T (leb 97 b) ex) in inr (omega arith)
@@ -250,12 +260,23 @@ word-calm : (w t : List ℕ) → Letters w → same (map upper t) w ≡ true →
 word-calm [] [] a h = tt
 word-calm [] (b ∷ t) a h = absurd (true→T false h)
 word-calm (l ∷ w) [] a h = tt
-word-calm (l ∷ w) (b ∷ t) a h =
-    (either Calm b l (a .0 .0) (a .0 .1) (and-left (eqb (upper b) l) (same (map upper t) w) h), word-calm w t (a .1) (and-right (eqb (upper b) l) (same (map upper t) w) h))
+word-calm (l ∷ w) (b ∷ t) a h = (
+  either Calm b l (a .0 .0) (a .0 .1) (and-left (eqb (upper b) l) (same (map upper t) w) h),
+  word-calm w t (a .1) (and-right (eqb (upper b) l) (same (map upper t) w) h),
+)
 
 uescape-letters : Letters (ascii "UESCAPE")
 unfolding isMark
-uescape-letters = (((refl, refl), (refl, refl)), (((refl, refl), (refl, refl)), (((refl, refl), (refl, refl)), (((refl, refl), (refl, refl)), (((refl, refl), (refl, refl)), (((refl, refl), (refl, refl)), (((refl, refl), (refl, refl)), tt)))))))
+uescape-letters = (
+  ((refl, refl), (refl, refl)),
+  (
+    ((refl, refl), (refl, refl)),
+    (
+      ((refl, refl), (refl, refl)),
+      (((refl, refl), (refl, refl)), (((refl, refl), (refl, refl)), (((refl, refl), (refl, refl)), (((refl, refl), (refl, refl)), tt)))),
+    ),
+  ),
+)
 
 abbrev First : ℕ → Type 0
 First y = Solid y × (leb 0x80 y ≡ false) × (isMark y ≡ false) × (eqb y (code "&") ≡ false)
@@ -289,7 +310,8 @@ module _ (K W : List ℕ) (ck : AllC K) (cw : AllC W) (i : ℕ) (t : List ℕ) (
       let y = calm-walk q m W tail-of cw in
       (x .0 ∙ y .0, x .1 ∙ ap (length K +_) (y .1))
 
-  single-of : (stops (walk (closingStep true quote) 0 (K ++ (W ++ tail-of))) ≡ true) × (size (walk (closingStep true quote) 0 (K ++ (W ++ tail-of))) ≡ length K + length W)
+  single-of : (stops (walk (closingStep true quote) 0 (K ++ (W ++ tail-of))) ≡ true)
+      × (size (walk (closingStep true quote) 0 (K ++ (W ++ tail-of))) ≡ length K + length W)
   unfolding tail-of
   single-of =
       let b = both-walks quote is-quote in
@@ -321,7 +343,8 @@ clause-refused b t u full st y z d c e ch =
     let eq : K ++ (W ++ (quote ∷ (ar .i ∷ (ar .t ++ (quote ∷ []))))) ≡ y ∷ z =
     ap (λ (a : List ℕ). K ++ (W ++ a)) (sym (ar .shape)) ∙ ap (K ++_) (take-append-drop (gap r) r) ∙ take-append-drop 7 (y ∷ z) in
     finish (first-facts y hy) (shut-facts y z hy hz) (length K + length W) (ar .i) (ar .t) (ar .fine)
-    (subst (λ (x : List ℕ). (stops (walk (closingStep true quote) 0 x) ≡ true) × (size (walk (closingStep true quote) 0 x) ≡ length K + length W)) eq (single-of K W ck cw (ar .i) (ar .t) (ar .fine)))
+    (subst (λ (x : List ℕ). (stops (walk (closingStep true quote) 0 x) ≡ true)
+    × (size (walk (closingStep true quote) 0 x) ≡ length K + length W)) eq (single-of K W ck cw (ar .i) (ar .t) (ar .fine)))
     (subst (λ (x : List ℕ). stops (walk (closingStep true dquote) 0 x) ≡ false) eq (double-of K W ck cw (ar .i) (ar .t) (ar .fine)))
     (subst (λ (x : List ℕ). drop (suc (length K + length W)) x ≡ ar .i ∷ (ar .t ++ (quote ∷ []))) eq (rest-of K W ck cw (ar .i) (ar .t) (ar .fine)))
   where

@@ -7,7 +7,8 @@ use Prim.Native.Nat.{ℕ, zero, suc, _+_, _-_, _*_, _≤_}
 use Prim.Native.Char.{code}
 use native.Mathlib.Nat.{add-zero}
 use native.Mathlib.Omega.{arith}
-use lib.Dec.{eqb, eqb→eq, ltb, leb}
+use lib.Dec.{eqb, ltb, leb}
+use borrow.Author.Tests.{eqb-true}
 use lib.ListN.{length, drop, length-drop}
 use lib.Seq.{drop-append-le, drop-append-add}
 use Rattle.meaning.specs.Bytes.{if_then_else_, _!_, has, ascii, isMark, isLetter, isDecimal, within, quote, dquote, backslash, inName, span}
@@ -76,7 +77,7 @@ module _ (y : ℕ) (z : List ℕ) (solid : Solid y) (low : leb 0x80 y ≡ false)
   not-quote = go (eqb y quote) refl
     where
       go : (x : Bool) → eqb y quote ≡ x → x ≡ false
-      go true e = sym (ap isMark (eqb→eq y quote (true→T (eqb y quote) e))) ∙ nomark
+      go true e = sym (ap isMark (eqb-true y quote e)) ∙ nomark
       go false e = refl
 
   gather-before : (n lo hi v : ℕ) (W : List ℕ) → leb 0x80 lo ≡ true → isSpace (gather n lo hi v (W ++ (y ∷ z))) ≡ true → n ≤ length W
@@ -117,7 +118,7 @@ module _ (y : ℕ) (z : List ℕ) (solid : Solid y) (low : leb 0x80 y ≡ false)
   named-before : (d : ℕ) (Y : List ℕ) → Last (d ∷ Y) → eqb d (code "_") ≡ true → (n : ℕ) → named (Y ++ (y ∷ z)) ≡ suc n → n ≤ length Y
   unfolding named inName isLetter isDecimal within
   named-before d [] l u n e =
-      absurd (true→T false (sym (l .1) ∙ ap inName (eqb→eq d 95 (true→T (eqb d 95) u))))
+      absurd (true→T false (sym (l .1) ∙ ap inName (eqb-true d 95 u)))
   named-before d (c ∷ Y) l u n e =
       let m : ℕ = span inName (c ∷ (Y ++ (y ∷ z))) in
       let p = if-suc (ltb 0 m && isMark ((c ∷ (Y ++ (y ∷ z))) ! m)) (suc (suc m)) n e in
@@ -175,7 +176,8 @@ module _ (y : ℕ) (z : List ℕ) (solid : Solid y) (low : leb 0x80 y ≡ false)
       let s = segment-of on (d ∷ (Y ++ (y ∷ z))) e seg in
       let n : ℕ = s .0 in
       let i = opening-before y z solid low nomark noamp d Y l n (s .1) in
-      go n ((d ∷ (Y ++ (y ∷ z))) ! n) (opening-mark (d ∷ (Y ++ (y ∷ z))) n (s .1)) i (rw (drop-append-le n Y (y ∷ z) i) at (s .2)) (rw (drop-append-le n Y (y ∷ z) i) at (s .3))
+      go n ((d ∷ (Y ++ (y ∷ z))) ! n) (opening-mark (d ∷ (Y ++ (y ∷ z))) n (s .1)) i (rw (drop-append-le n Y (y ∷ z) i) at (s .2))
+      (rw (drop-append-le n Y (y ∷ z) i) at (s .3))
     where
       go : (n q : ℕ) → isMark q ≡ true → n ≤ length Y → stops (walk (closingStep true q) 0 (drop n Y ++ (y ∷ z))) ≡ true
           → suc n + size (walk (closingStep true q) 0 (drop n Y ++ (y ∷ z))) + 1 ≡ suc e
@@ -214,7 +216,8 @@ module _ (y : ℕ) (z : List ℕ) (solid : Solid y) (low : leb 0x80 y ≡ false)
       go zero s ih = rw s
       go (suc e) s ih = rw s (past (bound d Y l e s))
         where
-          past : (e + gap (drop e (Y ++ (y ∷ z))) ≤ length Y) ⊎ (e ≡ length Y + suc k) → stops (walk (segmentStep on) (e + gap (drop e (Y ++ (y ∷ z)))) (Y ++ (y ∷ z))) ≡ true
+          past : (e + gap (drop e (Y ++ (y ∷ z))) ≤ length Y) ⊎ (e ≡ length Y + suc k)
+              → stops (walk (segmentStep on) (e + gap (drop e (Y ++ (y ∷ z)))) (Y ++ (y ∷ z))) ≡ true
           past (inl h) = ih (e + gap (drop e (Y ++ (y ∷ z)))) h
           past (inr h) =
               let p : drop e (Y ++ (y ∷ z)) ≡ c ∷ x = ap (λ (m : ℕ). drop m (Y ++ (y ∷ z))) h ∙ drop-append-add Y (y ∷ z) (suc k) ∙ rest in

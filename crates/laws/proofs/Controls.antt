@@ -44,15 +44,18 @@ ask : (out : List ℕ) → Outcome Text
 ask out = stringQuestion (all-of-it two) two off out
 
 ask-answer : ask (1 ∷ 2 ∷ 3 ∷ []) .answer ≡ Written 2
-unfolding ask stringQuestion tested sourceText badSpan cutsCharacter within utf8 lead read continues segment isMark segmentStep cut isSpace one spelling encloses answer doubled named filled
+unfolding ask stringQuestion tested sourceText badSpan cutsCharacter within utf8 lead read continues segment isMark segmentStep cut isSpace one spelling
+    encloses answer doubled named filled
 ask-answer = refl
 
 ask-buffer : ask (1 ∷ 2 ∷ 3 ∷ []) .buffer ≡ 97 ∷ 98 ∷ 3 ∷ []
-unfolding ask stringQuestion tested sourceText badSpan cutsCharacter within utf8 lead read continues segment isMark segmentStep cut isSpace one spelling encloses answer doubled named filled
+unfolding ask stringQuestion tested sourceText badSpan cutsCharacter within utf8 lead read continues segment isMark segmentStep cut isSpace one spelling
+    encloses answer doubled named filled
 ask-buffer = refl
 
 ask-short : ask [] .answer ≡ Refused (NoRoom 2)
-unfolding ask stringQuestion tested sourceText badSpan cutsCharacter within utf8 lead read continues segment isMark segmentStep cut isSpace one spelling encloses answer doubled named filled
+unfolding ask stringQuestion tested sourceText badSpan cutsCharacter within utf8 lead read continues segment isMark segmentStep cut isSpace one spelling
+    encloses answer doubled named filled
 ask-short = refl
 
 -- what a right program says there
@@ -87,7 +90,8 @@ module _ (p : Program) (right : Right p) where
       let z : _≡_ {A = ℕ} 97 1 = cc in omega arith
 
   -- "one that reads the first segment and drops the later ones": of 'a' 'b' it shows a, borrowed or written
-  pub no-first-segment-only : shown two (p (all-of-it two) two off (1 ∷ 2 ∷ 3 ∷ []) .buffer) (p (all-of-it two) two off (1 ∷ 2 ∷ 3 ∷ []) .answer) ≡ ascii "a" → ⊥
+  pub no-first-segment-only : shown two (p (all-of-it two) two off (1 ∷ 2 ∷ 3 ∷ []) .buffer) (p (all-of-it two) two off (1 ∷ 2 ∷ 3 ∷ []) .answer) ≡ ascii "a"
+      → ⊥
   unfolding partShown
   no-first-segment-only h = let e : _≡_ {A = List ℕ} (97 ∷ 98 ∷ []) (97 ∷ []) = rw (answers, leaves) at h in absurd (omega (arith, ap length e))
 

@@ -34,19 +34,7 @@ value-graft stopped q h = absurd (false≢true (sym h))
 value-graft (kept b p) q h = ap (b ∷_) (value-graft p q h)
 value-graft (gave n out p) q h = ap (out ++_) (value-graft p q h) ∙ sym (append-assoc out (value p) (value q))
 
--- a course that was not plain makes no plain one
-pub plain-graft : (p q : Trace) → plain p ≡ true → plain (graft p q) ≡ plain q
-plain-graft ended q h = refl
-plain-graft stopped q h = absurd (false≢true h)
-plain-graft (kept b p) q h = plain-graft p q h
-plain-graft (gave n out p) q h = absurd (false≢true h)
-
-pub plain-graft-not : (p q : Trace) → plain p ≡ false → plain (graft p q) ≡ false
-plain-graft-not ended q h = absurd (false≢true (sym h))
-plain-graft-not stopped q h = refl
-plain-graft-not (kept b p) q h = plain-graft-not p q h
-plain-graft-not (gave n out p) q h = refl
-
+-- plain exactly when both are
 pub plain-both : (p q : Trace) → plain (graft p q) ≡ (plain p && plain q)
 plain-both ended q = refl
 plain-both stopped q = refl
@@ -95,7 +83,8 @@ module _ {step : List ℕ → Step} {l : List ℕ} {at : ℕ} (s : SoFar step l 
         let j : suc at + k ≡ at′ = omega arith in
         s .rest
         ∙ ap (graft (s .course))
-        (walk-at step l at i (give k out) e ∙ ap (gave k out) (walk-drop step k (drop (suc at) l) ∙ ap (walk step 0) (drop-drop k (suc at) l ∙ ap (λ (n : ℕ). drop n l) j)))
+        (walk-at step l at i (give k out) e ∙ ap (gave k out)
+        (walk-drop step k (drop (suc at) l) ∙ ap (walk step 0) (drop-drop k (suc at) l ∙ ap (λ (n : ℕ). drop n l) j)))
         ∙ sym (graft-assoc (s .course) (gave k out ended) (walk step 0 (drop at′ l)));
     inside = omega arith;
   }
@@ -234,10 +223,6 @@ checked-same d (gave m out r) h = go (pushes d out) h (λ d′. checked-same d�
         → ((d′ : Due) → stops (checked d′ r) ≡ false → checked d′ r ≡ r) → unlessBroken x (λ d′. gave m out (checked d′ r)) ≡ gave m out r
     go broken k ih = absurd (false≢true (sym k))
     go (due n lo hi) k ih = ap (gave m out) (ih (due n lo hi) k)
-
-pub checked-value : (d : Due) (r : Trace) → stops (checked d r) ≡ false
-    → (value (checked d r) ≡ value r) × (plain (checked d r) ≡ plain r) × (size (checked d r) ≡ size r)
-checked-value d r h = let e = checked-same d r h in (ap value e, ap plain e, ap size e)
 
 -- as long as the bytes so far break nothing, the check goes on behind them
 pub checked-graft : (d : Due) (p q : Trace) (n lo hi : ℕ) → stops p ≡ false → pushes d (value p) ≡ due n lo hi

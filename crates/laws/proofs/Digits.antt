@@ -2,14 +2,13 @@
 -- Assumes nothing.
 use mathlib.Core.Path.{_≡_, refl, ap}
 use mathlib.Core.Bool.{Bool, true, false}
-use mathlib.Core.List.{List, [], _∷_, _++_}
+use mathlib.Core.List.{List, [], _∷_}
 use Prim.Native.Nat.{ℕ, zero, suc, _+_, _*_, _^_, _≤_, _<_}
 use native.Mathlib.Nat.{lt-of-lt-of-le, mul-le-mul-right, one-mul, pow-zero, pow-succ', mul-assoc, le-of-eq}
 use native.Mathlib.Omega.{arith}
-use borrow.Author.Tests.{ltb-true, ltb-false, lt-ltb, le-ltb, eqb-true, eq-eqb}
+use borrow.Author.Tests.{ltb-true, lt-ltb, le-ltb, eqb-true, eq-eqb}
 use lib.Dec.{ltb}
-use lib.ListN.{length, take, length-append, List·getD-append}
-use lib.Seq.{getD-append-seam}
+use lib.ListN.{length}
 use Rattle.meaning.specs.Bytes.{if_then_else_, _!_, digit, digits, number, allDigits}
 
 -- every byte before place n is a digit of base β
@@ -33,7 +32,7 @@ digits-le β w t = digits-fit β w t .0
 pub digits-length : (β w : ℕ) (t : List ℕ) → digits β w t ≤ length t
 digits-length β w t = digits-fit β w t .1
 
--- each is a digit, and what follows them is none
+-- each is a digit
 pub digits-at : (β w : ℕ) (t : List ℕ) → DigitsTo β (digits β w t) t
 digits-at β zero t i h = absurd (omega arith)
 digits-at β (suc w) [] i h = absurd (omega arith)
@@ -45,18 +44,6 @@ digits-at β (suc w) (b ∷ t) i h = go (ltb (digit b) β) i refl h (digits-at �
     go true (suc i) e k ih = ih i (omega arith)
     go false i e k ih = absurd (omega arith)
 
-pub digits-end : (β w : ℕ) (t : List ℕ) → digits β w t < w → digits β w t < length t → β ≤ digit (t ! digits β w t)
-digits-end β zero t h k = absurd (omega arith)
-digits-end β (suc w) [] h k = absurd (omega arith)
-digits-end β (suc w) (b ∷ t) h k = go (ltb (digit b) β) refl h k (digits-end β w t)
-  where
-    go : (x : Bool) → ltb (digit b) β ≡ x → (if x then suc (digits β w t) else 0) < suc w
-        → (if x then suc (digits β w t) else 0) < suc (length t)
-        → (digits β w t < w → digits β w t < length t → β ≤ digit (t ! digits β w t))
-        → β ≤ digit ((b ∷ t) ! (if x then suc (digits β w t) else 0))
-    go true e h k ih = ih (omega arith) (omega arith)
-    go false e h k ih = ltb-false (digit b) β e
-
 -- so they are n, if the first n bytes are digits and the next, if it counts, is none
 pub digits-is : (β w : ℕ) (t : List ℕ) (n : ℕ) → n ≤ w → n ≤ length t → DigitsTo β n t
     → (n < w → n < length t → β ≤ digit (t ! n)) → digits β w t ≡ n
@@ -66,13 +53,6 @@ digits-is β (suc w) (b ∷ t) zero hw hl all end = rw (le-ltb (digit b) β (end
 digits-is β (suc w) (b ∷ t) (suc n) hw hl all end =
     rw (lt-ltb (digit b) β (all 0 (omega arith)))
     (ap suc (digits-is β w t n (omega arith) (omega arith) (λ i h. all (suc i) (omega arith)) (λ h k. end (omega arith) (omega arith))))
-
--- what follows a text changes nothing if the digits end in it
-pub digits-append : (β w : ℕ) (t r : List ℕ) → (digits β w t < w → digits β w t < length t) → digits β w (t ++ r) ≡ digits β w t
-digits-append β w t r ends =
-    digits-is β w (t ++ r) (digits β w t) (digits-le β w t) (let h = digits-length β w t in omega (arith, length-append t r))
-    (λ i h. rw (List·getD-append t r 0 i (let k = digits-length β w t in omega arith)) (digits-at β w t i h))
-    (λ h k. rw (List·getD-append t r 0 (digits β w t) (ends h)) (digits-end β w t h (ends h)))
 
 -- a text of digits
 pub digits-all : (β : ℕ) (t : List ℕ) → DigitsTo β (length t) t → digits β (length t) t ≡ length t
@@ -86,31 +66,11 @@ pub allDigits-at : (β : ℕ) (t : List ℕ) → allDigits β t ≡ true → Dig
 unfolding allDigits
 allDigits-at β t e i h = let k = eqb-true (digits β (length t) t) (length t) e in digits-at β (length t) t i (omega arith)
 
--- THE NUMBER. One more digit; of more than n bytes only the first n count
+-- THE NUMBER. One more digit
 pub number-suc : (β n v : ℕ) (t : List ℕ) → n < length t → number β (suc n) v t ≡ number β n v t * β + digit (t ! n)
 number-suc β n v [] h = absurd (omega arith)
 number-suc β zero v (b ∷ t) h = refl
 number-suc β (suc n) v (b ∷ t) h = number-suc β n (v * β + digit b) t (omega arith)
-
-pub number-append : (β n v : ℕ) (t r : List ℕ) → n ≤ length t → number β n v (t ++ r) ≡ number β n v t
-number-append β zero v t r h = refl
-number-append β (suc n) v [] r h = absurd (omega arith)
-number-append β (suc n) v (b ∷ t) r h = number-append β n (v * β + digit b) t r (omega arith)
-
-pub number-take : (β n v : ℕ) (t : List ℕ) → number β n v (take n t) ≡ number β n v t
-number-take β zero v t = refl
-number-take β (suc n) v [] = refl
-number-take β (suc n) v (b ∷ t) = number-take β n (v * β + digit b) t
-
--- one digit more at the end of a text
-pub number-snoc : (β v : ℕ) (t : List ℕ) (b : ℕ)
-    → number β (suc (length t)) v (t ++ (b ∷ [])) ≡ number β (length t) v t * β + digit b
-number-snoc β v t b =
-    rw (
-      number-suc β (length t) v (t ++ (b ∷ [])) (rw (length-append t (b ∷ [])) (omega arith)),
-      number-append β (length t) v t (b ∷ []) (omega arith),
-      getD-append-seam t b [] 0,
-    )
 
 -- n digits behind v are below (v + 1) β^n
 number-below : (β n v : ℕ) (t : List ℕ) → n ≤ length t → DigitsTo β n t → number β n v t < suc v * β ^ n

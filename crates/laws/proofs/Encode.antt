@@ -11,10 +11,10 @@ use native.Mathlib.Decide.{decLe}
 use lib.Dec.{eqb, leb}
 use lib.ListN.{length}
 use borrow.Author.Tests.{le-leb, leb-true, lt-ltb, le-ltb, eqb-true, not-true}
-use Rattle.meaning.specs.Bytes.{if_then_else_, within, _!_}
-use Rattle.meaning.specs.Chars.{Due, due, fresh, pushes, whole, utf8, lead, leads, leadIn, base, later, more, encode, isScalar, gather}
+use Rattle.meaning.specs.Bytes.{if_then_else_, within}
+use Rattle.meaning.specs.Chars.{Due, due, pushes, whole, utf8, lead, leads, leadIn, base, later, more, encode, isScalar, gather}
 use Rattle.laws.proofs.Tests.{and-left, and-right, within-yes, within-above, within-bounds, within-outside}
-use Rattle.laws.proofs.Utf8.{Rows, lead-row, Ranged, ranged-all, utf8-fresh, utf8-bytes, lead-good}
+use Rattle.laws.proofs.Utf8.{Rows, lead-row, Ranged, ranged-all, lead-good}
 
 -- n later bytes that are as due, and nothing more
 abbrev pub AsDue : ℕ → ℕ → ℕ → List ℕ → Type 0
@@ -255,12 +255,6 @@ unfolding utf8
 encode-utf8 c h =
     let d = encode-decodes c h in
     rw (d .spelled) (ap (λ (s : Due). whole (pushes s (d .t))) (d .begins) ∙ due-whole (d .n) (d .lo) (d .hi) (d .t) (d .asDue))
-
-pub encode-fresh : (c : ℕ) → isScalar c ≡ true → pushes fresh (encode c) ≡ fresh
-encode-fresh c h = utf8-fresh (encode c) (encode-utf8 c h)
-
-pub encode-bytes : (c : ℕ) → isScalar c ≡ true → (i : ℕ) → encode c ! i < 256
-encode-bytes c h = utf8-bytes (encode c) (encode-utf8 c h)
 
 pub later-length : (n c : ℕ) → length (later n c) ≡ n
 later-length n c = due-length n 0x80 0xBF (later n c) (later-due n c)

@@ -4,7 +4,8 @@ use mathlib.Core.Bool.{Bool, true, false, _&&_}
 use mathlib.Core.List.{List, [], _∷_}
 use Prim.Native.Nat.{ℕ, zero, suc, _%_}
 use Prim.Native.Char.{code}
-use lib.Dec.{T, eqb, eqb→eq, ltb}
+use lib.Dec.{T, eqb, ltb}
+use borrow.Author.Tests.{eqb-true}
 use Rattle.meaning.specs.Bytes.{if_then_else_, _!_, quote, backslash, within, digit, digits, number}
 use Rattle.meaning.specs.Chars.{Due, due, broken, push, pushes, encode}
 use Rattle.meaning.specs.Walk.{keep, give, stop, Trace, ended, stopped, kept, gave, after, walk, stops}
@@ -27,7 +28,7 @@ unfolding digit within
 digit-tame β b n h = (go backslash (eqb b backslash) refl refl, go quote (eqb b quote) refl refl)
   where
     go : (c : ℕ) (x : Bool) → eqb b c ≡ x → ltb (digit c) β ≡ ltb 16 β → x ≡ false
-    go c true e k = sym h ∙ ap (λ (m : ℕ). ltb (digit m) β) (eqb→eq b c (true→T (eqb b c) e)) ∙ k ∙ n
+    go c true e k = sym h ∙ ap (λ (m : ℕ). ltb (digit m) β) (eqb-true b c e) ∙ k ∙ n
     go c false e k = refl
 
 pub digits-tame : (β w : ℕ) (u : List ℕ) → ltb 16 β ≡ false → Ahead zero (digits β w u) u
@@ -54,7 +55,7 @@ module _ (c : ℕ) (u : List ℕ) (b : ℕ) (f : ℕ → Trace) (ih : (j : ℕ) 
   by-scalar w = go (eqb (digits 16 w u) w) (mayEscape (number 16 w 0 u)) refl
     where
       go : (x y : Bool) → eqb (digits 16 w u) w ≡ x → T (stops (after (if x && y then give (suc w) (encode (number 16 w 0 u)) else stop) b f))
-      go true true e = ih w (subst (λ (j : ℕ). Ahead zero j u) (eqb→eq (digits 16 w u) w (true→T (eqb (digits 16 w u) w) e)) (digits-tame 16 w u refl))
+      go true true e = ih w (subst (λ (j : ℕ). Ahead zero j u) (eqb-true (digits 16 w u) w e) (digits-tame 16 w u refl))
       go true false e = tt
       go false y e = tt
 

@@ -6,8 +6,8 @@ use mathlib.Core.List.{List, [], _∷_, _++_}
 use Prim.Native.Nat.{ℕ, zero, suc, _+_, _-_, _*_, _≤_}
 use native.Mathlib.Nat.{add-zero, zero-add}
 use native.Mathlib.Omega.{arith}
-use lib.Dec.{T, eqb, eqb→eq, leb}
-use borrow.Author.Tests.{le-leb, leb-true, leb-false}
+use lib.Dec.{T, eqb, leb}
+use borrow.Author.Tests.{le-leb, leb-true, leb-false, eqb-true}
 use lib.ListN.{length}
 use Rattle.meaning.specs.Bytes.{if_then_else_, has, ascii, within, isMark}
 use Rattle.meaning.specs.Chars.{Due, due, broken, lead, gather, base, isSpace, space, spaceAt}
@@ -105,7 +105,7 @@ has-all P b [] a h = absurd (subst T (sym h) tt)
 has-all P b (c ∷ l) a h = go (eqb b c) refl h (has-all P b l (a .1))
   where
     go : (x : Bool) → eqb b c ≡ x → (x || has b l) ≡ true → (has b l ≡ true → P b) → P b
-    go true e g ih = subst P (sym (eqb→eq b c (true→T (eqb b c) e))) (a .0)
+    go true e g ih = subst P (sym (eqb-true b c e)) (a .0)
     go false e g ih = ih g
 
 -- no byte that opens a segment begins white space
@@ -119,5 +119,13 @@ mark-solid b h = has-all Solid b (39 ∷ 34 ∷ []) ((λ t. refl), ((λ t. refl)
 pub prefix-solid : (b : ℕ) → has b (ascii "EeNnBbXxUu_") ≡ true → Solid b
 unfolding lead within isSpace
 prefix-solid b h =
-    has-all Solid b (ascii "EeNnBbXxUu_")
-    ((λ t. refl), ((λ t. refl), ((λ t. refl), ((λ t. refl), ((λ t. refl), ((λ t. refl), ((λ t. refl), ((λ t. refl), ((λ t. refl), ((λ t. refl), ((λ t. refl), tt))))))))))) h
+    has-all Solid b (ascii "EeNnBbXxUu_") (
+      (λ t. refl),
+      (
+        (λ t. refl),
+        (
+          (λ t. refl),
+          ((λ t. refl), ((λ t. refl), ((λ t. refl), ((λ t. refl), ((λ t. refl), ((λ t. refl), ((λ t. refl), ((λ t. refl), tt)))))))),
+        ),
+      ),
+    ) h

@@ -126,6 +126,9 @@ digitsOf-step n h =
     fuel n (suc n) n (omega arith) (omega arith) ∙ by-step n n h
     ∙ ap (_++ ((48 + n % 10) ∷ [])) (fuel n (n / 10) (n / 10) (omega arith) (omega arith))
 
+pub digitsOf-more : (n : ℕ) → 10 ≤ n → length (digitsOf n) ≡ length (digitsOf (n / 10)) + 1
+digitsOf-more n h = ap length (digitsOf-step n h) ∙ length-append (digitsOf (n / 10)) ((48 + n % 10) ∷ [])
+
 pub digitsOf-length : (k n : ℕ) → n < 10 ^ suc k → length (digitsOf n) ≤ suc k
 digitsOf-length zero n h = rw (digitsOf-small n h) (omega arith)
 digitsOf-length (suc k) n h =

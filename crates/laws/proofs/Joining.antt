@@ -2,7 +2,7 @@
 -- value followed by B's. Assumes nothing.
 use mathlib.Core.Logic.{_⊎_, inl, inr}
 use mathlib.Core.Path.{_≡_, refl, ap, sym, _∙_, subst}
-use mathlib.Core.Bool.{Bool, true, false, _&&_, and-false}
+use mathlib.Core.Bool.{Bool, true, false, _&&_}
 use mathlib.Core.List.{List, [], _∷_, _++_, append-assoc, append-nil}
 use Prim.Native.Nat.{ℕ, zero, suc, _+_, _≤_, _<_}
 use native.Mathlib.Nat.{add-zero, zero-add}
@@ -21,6 +21,7 @@ use Rattle.laws.proofs.Tests.{T→true, and-left, and-right}
 use Rattle.laws.proofs.Walks.{walk-drop, walk-skip, walk-part, Exact, exact-append}
 use Rattle.laws.proofs.Gaps.{Solid, mark-solid, space-local, gap-fits, gap-append}
 use Rattle.laws.proofs.Openings.{opening-solid, segment-of, segment-fits, segment-extend}
+use Rattle.laws.proofs.Written.{lone}
 
 -- white space: whole white-space characters, and nothing else
 abbrev pub White : List ℕ → Type 0
@@ -171,10 +172,6 @@ pub value-written : (t : List ℕ) (x : Value) → valueOf t (asWritten x) ≡ x
 value-written t (means v) = refl
 value-written t (fails p) = refl
 
-pub lone-read : (σ : Settings) (t : List ℕ) → segment σ t ≡ length t → read σ t ≡ one σ t
-unfolding read continues isMark
-lone-read σ t e = rw (e, drop-length t, and-false (ltb 0 (length t)))
-
 pub joined-of : (σ : Settings) (b : ℕ) (t v : List ℕ) → Ready σ (b ∷ t) → meaning σ (b ∷ t) ≡ means v
     → joined σ (walk (segmentStep σ) 0 (b ∷ t)) ≡ means v
 unfolding segmentStep read cut
@@ -186,7 +183,7 @@ joined-of σ b t v (inl e) h =
       add-zero (length t),
       walk-drop (segmentStep σ) (length t) t,
       drop-length t,
-      ap (valueOf (b ∷ t)) (sym (lone-read σ (b ∷ t) e)) ∙ h,
+      ap (valueOf (b ∷ t)) (sym (lone σ (b ∷ t) e)) ∙ h,
     )
     (ap means (append-nil v))
 joined-of σ b t v (inr c) h = sym (value-written (b ∷ t) (joined σ (walk (segmentStep σ) 0 (b ∷ t)))) ∙ (rw c at h)

@@ -1,13 +1,12 @@
 -- Where a loop stands that reads the segments of a text, one after the other: what they mean so far, and that the rest is read from there. Over every way
 -- to read a segment, so that strings and bit strings share it. Assumes nothing.
-use mathlib.Core.Path.{_≡_, refl, ap, sym, _∙_, subst}
-use mathlib.Core.Bool.{Bool, true, false, false≢true}
-use mathlib.Core.List.{List, [], _∷_, _++_, append-assoc, append-nil}
-use Prim.Native.Nat.{ℕ, zero, suc, _+_, _≤_, _<_}
+use mathlib.Core.Path.{_≡_, refl, ap, sym, _∙_}
+use mathlib.Core.List.{List, [], _++_, append-assoc, append-nil}
+use Prim.Native.Nat.{ℕ, suc, _+_, _≤_, _<_}
 use native.Mathlib.Nat.{zero-add, add-zero}
 use native.Mathlib.Omega.{arith}
 use lib.ListN.{length, drop, length-append}
-use Rattle.meaning.specs.Walk.{Step, give, stop, Trace, ended, stopped, kept, gave, walk, size, stops}
+use Rattle.meaning.specs.Walk.{Step, give, stop, Trace, ended, stopped, kept, gave, walk, size}
 use Rattle.meaning.specs.Reading.{Value, means, fails, onward, both, each}
 use Rattle.laws.proofs.Walks.{graft}
 use Rattle.laws.proofs.Courses.{graft-assoc, SoFar, so-far-none, so-far-give, so-far-end, so-far-stop}
@@ -27,7 +26,8 @@ module _ (f : List ℕ → Value) where
       let m = both-means (f s) (each f p) (suc n) v e in
       with-parts (m .0) (m .1) (m .2) (m .4) (each-graft p q (m .1) (m .3))
     where
-      go : (a b : List ℕ) (y : Value) → both (means a) (onward (suc n) (both (means b) (onward (size p) y))) ≡ both (means (a ++ b)) (onward (suc (n + size p)) y)
+      go : (a b : List ℕ) (y : Value) → both (means a) (onward (suc n) (both (means b) (onward (size p) y)))
+          ≡ both (means (a ++ b)) (onward (suc (n + size p)) y)
       go a b (means w) = ap means (sym (append-assoc a b w))
       go a b (fails r) = ap fails (omega arith)
 

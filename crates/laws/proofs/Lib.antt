@@ -20,6 +20,7 @@ pub mod Arguments
 pub mod Gaps
 pub mod Openings
 pub mod Alone
+pub mod Written
 pub mod Joining
 pub mod Joins
 pub mod WhiteUtf8
@@ -36,7 +37,6 @@ pub mod ClauseRefused
 pub mod Asked
 pub mod JoiningLaw
 pub mod Segments
-pub mod Written
 pub mod WrittenUtf8
 pub mod Parts
 pub mod Determined

@@ -5,7 +5,8 @@ use mathlib.Core.List.{List, [], _∷_, _++_}
 use Prim.Native.Nat.{ℕ, zero, suc, _+_, _≤_, _<_}
 use Prim.Native.Char.{code}
 use native.Mathlib.Omega.{arith}
-use lib.Dec.{T, eqb, eqb→eq, ltb}
+use lib.Dec.{T, eqb, ltb}
+use borrow.Author.Tests.{eqb-true}
 use lib.ListN.{length, drop, length-drop, List·getD-append}
 use lib.Seq.{drop-append-le}
 use Rattle.meaning.specs.declared.Settings.{Settings}
@@ -41,38 +42,52 @@ span-extend p (b ∷ t) r h = go (p b) refl h (span-extend p t r)
     go true e g ih = rw e (ap suc (ih g))
     go false e g ih = rw e
 
-named-extend : (t r : List ℕ) (n : ℕ) → named t ≡ suc n → named (t ++ r) ≡ suc n
-unfolding named isMark
-named-extend t r n e =
-    let c = if-suc (ltb 0 (span inName t) && isMark (t ! span inName t)) (suc (suc (span inName t))) n e in
-    let m : isMark (t ! span inName t) ≡ true = and-right (ltb 0 (span inName t)) (isMark (t ! span inName t)) (c .0) in
-    rw (span-extend inName t r m, same-byte isMark refl t r (span inName t) m) e
+-- HOW A TEXT OPENS: the byte b, t behind it, and n bytes before the mark
+pub data Opens (b : ℕ) (t : List ℕ) : ℕ → Type 0 where
+  by-mark : isMark b ≡ true → Opens b t 0
+  by-letter : isMark b ≡ false → has b (ascii "EeNnBbXx") ≡ true → eqb (t ! 0) quote ≡ true → Opens b t 1
+  by-unicode : isMark b ≡ false → has b (ascii "EeNnBbXx") ≡ false → has b (ascii "Uu") ≡ true → eqb (t ! 0) (code "&") ≡ true
+      → eqb (t ! 1) quote ≡ true → Opens b t 2
+  by-name : isMark b ≡ false → has b (ascii "EeNnBbXx") ≡ false → has b (ascii "Uu") ≡ false → eqb b (code "_") ≡ true
+      → ltb 0 (span inName t) ≡ true → isMark (t ! span inName t) ≡ true → Opens b t (suc (span inName t))
 
-pub opening-extend : (t r : List ℕ) (n : ℕ) → opening t ≡ suc n → opening (t ++ r) ≡ suc n
-opening-extend [] r n e = absurd (omega arith)
-opening-extend (b ∷ t) r n e = go (isMark b) (has b (ascii "EeNnBbXx")) (has b (ascii "Uu")) (eqb b (code "_")) refl refl refl refl e
+pub opens : (b : ℕ) (t : List ℕ) (n : ℕ) → opening (b ∷ t) ≡ suc n → Opens b t n
+unfolding named
+opens b t n e = go (isMark b) (has b (ascii "EeNnBbXx")) (has b (ascii "Uu")) (eqb b (code "_")) refl refl refl refl e
   where
+    at : (m : ℕ) → suc m ≡ suc n → Opens b t m → Opens b t n
+    at m k o = let z : m ≡ n = omega arith in subst (Opens b t) z o
+
     go : (x y z u : Bool) → isMark b ≡ x → has b (ascii "EeNnBbXx") ≡ y → has b (ascii "Uu") ≡ z → eqb b (code "_") ≡ u
         → (if x then 1
         else if y then (if eqb (t ! 0) quote then 2 else 0)
         else if z then (if eqb (t ! 0) (code "&") && eqb (t ! 1) quote then 3 else 0)
         else if u then named t else 0) ≡ suc n
-        → opening (b ∷ (t ++ r)) ≡ suc n
-    go true y z u ex ey ez eu g = rw ex g
-    go false true z u ex ey ez eu g =
-        let c = if-suc (eqb (t ! 0) quote) 2 n g in
-        rw (ex, ey, same-byte (λ x. eqb x quote) refl t r 0 (c .0)) g
+        → Opens b t n
+    go true y z u ex ey ez eu g = at 0 g (by-mark ex)
+    go false true z u ex ey ez eu g = let c = if-suc (eqb (t ! 0) quote) 2 n g in at 1 (c .1) (by-letter ex ey (c .0))
     go false false true u ex ey ez eu g =
         let c = if-suc (eqb (t ! 0) (code "&") && eqb (t ! 1) quote) 3 n g in
-        rw (
-          ex,
-          ey,
-          ez,
-          same-byte (λ x. eqb x (code "&")) refl t r 0 (and-left (eqb (t ! 0) (code "&")) (eqb (t ! 1) quote) (c .0)),
-          same-byte (λ x. eqb x quote) refl t r 1 (and-right (eqb (t ! 0) (code "&")) (eqb (t ! 1) quote) (c .0)),
-        ) g
-    go false false false true ex ey ez eu g = rw (ex, ey, ez, eu) (named-extend t r n g)
+        at 2 (c .1) (by-unicode ex ey ez (and-left (eqb (t ! 0) (code "&")) (eqb (t ! 1) quote) (c .0))
+        (and-right (eqb (t ! 0) (code "&")) (eqb (t ! 1) quote) (c .0)))
+    go false false false true ex ey ez eu g =
+        let c = if-suc (ltb 0 (span inName t) && isMark (t ! span inName t)) (suc (suc (span inName t))) n g in
+        at (suc (span inName t)) (c .1)
+        (by-name ex ey ez eu (and-left (ltb 0 (span inName t)) (isMark (t ! span inName t)) (c .0))
+        (and-right (ltb 0 (span inName t)) (isMark (t ! span inName t)) (c .0)))
     go false false false false ex ey ez eu g = absurd (omega arith)
+
+pub opening-extend : (t r : List ℕ) (n : ℕ) → opening t ≡ suc n → opening (t ++ r) ≡ suc n
+unfolding named isMark
+opening-extend [] r n e = absurd (omega arith)
+opening-extend (b ∷ t) r n e = go (opens b t n e)
+  where
+    go : {n : ℕ} → Opens b t n → opening (b ∷ (t ++ r)) ≡ suc n
+    go (by-mark m) = rw m
+    go (by-letter m l q) = rw (m, l, same-byte (λ x. eqb x quote) refl t r 0 q, q)
+    go (by-unicode m l u a q) =
+        rw (m, l, u, same-byte (λ x. eqb x (code "&")) refl t r 0 a, a, same-byte (λ x. eqb x quote) refl t r 1 q, q)
+    go (by-name m l u s f k) = rw (m, l, u, s, span-extend inName t r k, same-byte isMark refl t r (span inName t) k, f, k)
 
 -- the opening's last byte is its mark, and its first is no white space
 eqb-mark : (b : ℕ) → eqb b quote ≡ true → isMark b ≡ true
@@ -80,50 +95,26 @@ unfolding isMark
 eqb-mark b e = rw e
 
 pub opening-mark : (t : List ℕ) (n : ℕ) → opening t ≡ suc n → isMark (t ! n) ≡ true
-unfolding named
 opening-mark [] n e = absurd (omega arith)
-opening-mark (b ∷ t) n e = go (isMark b) (has b (ascii "EeNnBbXx")) (has b (ascii "Uu")) (eqb b (code "_")) refl e
+opening-mark (b ∷ t) n e = go (opens b t n e)
   where
-    go : (x y z u : Bool) → isMark b ≡ x
-        → (if x then 1
-        else if y then (if eqb (t ! 0) quote then 2 else 0)
-        else if z then (if eqb (t ! 0) (code "&") && eqb (t ! 1) quote then 3 else 0)
-        else if u then named t else 0) ≡ suc n
-        → isMark ((b ∷ t) ! n) ≡ true
-    go true y z u ex g = let k : 0 ≡ n = omega arith in rw (← k) ex
-    go false true z u ex g =
-        let c = if-suc (eqb (t ! 0) quote) 2 n g in
-        let k : 1 ≡ n = let d = c .1 in omega arith in rw (← k) (eqb-mark (t ! 0) (c .0))
-    go false false true u ex g =
-        let c = if-suc (eqb (t ! 0) (code "&") && eqb (t ! 1) quote) 3 n g in
-        let k : 2 ≡ n = let d = c .1 in omega arith in
-        rw (← k) (eqb-mark (t ! 1) (and-right (eqb (t ! 0) (code "&")) (eqb (t ! 1) quote) (c .0)))
-    go false false false true ex g =
-        let c = if-suc (ltb 0 (span inName t) && isMark (t ! span inName t)) (suc (suc (span inName t))) n g in
-        let k : suc (span inName t) ≡ n = let d = c .1 in omega arith in
-        rw (← k) (and-right (ltb 0 (span inName t)) (isMark (t ! span inName t)) (c .0))
-    go false false false false ex g = absurd (omega arith)
+    go : {n : ℕ} → Opens b t n → isMark ((b ∷ t) ! n) ≡ true
+    go (by-mark m) = m
+    go (by-letter m l q) = eqb-mark (t ! 0) q
+    go (by-unicode m l u a q) = eqb-mark (t ! 1) q
+    go (by-name m l u s f k) = k
 
 pub opening-solid : (b : ℕ) (t : List ℕ) (n : ℕ) → opening (b ∷ t) ≡ suc n → Solid b
-opening-solid b t n e = go (isMark b) (has b (ascii "EeNnBbXx")) (has b (ascii "Uu")) (eqb b (code "_")) refl refl refl refl e
+opening-solid b t n e = go (opens b t n e)
   where
-    go : (x y z u : Bool) → isMark b ≡ x → has b (ascii "EeNnBbXx") ≡ y → has b (ascii "Uu") ≡ z → eqb b (code "_") ≡ u
-        → (if x then 1
-        else if y then (if eqb (t ! 0) quote then 2 else 0)
-        else if z then (if eqb (t ! 0) (code "&") && eqb (t ! 1) quote then 3 else 0)
-        else if u then named t else 0) ≡ suc n
-        → Solid b
-    go true y z u ex ey ez eu g = mark-solid b ex
-    go false true z u ex ey ez eu g = prefix-solid b (has-append b (ascii "EeNnBbXx") (ascii "Uu_") ∙ ap (λ (v : Bool). v || has b (ascii "Uu_")) ey)
-    go false false true u ex ey ez eu g =
-        prefix-solid b
-        (has-append b (ascii "EeNnBbXx") (ascii "Uu_") ∙ ap (λ (v : Bool). v || has b (ascii "Uu_")) ey
-        ∙ has-append b (ascii "Uu") (ascii "_") ∙ ap (λ (v : Bool). v || has b (ascii "_")) ez)
-    go false false false true ex ey ez eu g =
-        prefix-solid b
-        (has-append b (ascii "EeNnBbXx") (ascii "Uu_") ∙ ap (λ (v : Bool). v || has b (ascii "Uu_")) ey
-        ∙ has-append b (ascii "Uu") (ascii "_") ∙ ap (λ (v : Bool). v || has b (ascii "_")) ez ∙ rw eu)
-    go false false false false ex ey ez eu g = absurd (omega arith)
+    before-u : has b (ascii "EeNnBbXxUu_") ≡ (has b (ascii "EeNnBbXx") || (has b (ascii "Uu") || has b (ascii "_")))
+    before-u = has-append b (ascii "EeNnBbXx") (ascii "Uu_") ∙ ap (λ (v : Bool). has b (ascii "EeNnBbXx") || v) (has-append b (ascii "Uu") (ascii "_"))
+
+    go : {n : ℕ} → Opens b t n → Solid b
+    go (by-mark m) = mark-solid b m
+    go (by-letter m l q) = prefix-solid b (before-u ∙ rw l)
+    go (by-unicode m l u a q) = prefix-solid b (before-u ∙ rw (l, u))
+    go (by-name m l u s f k) = prefix-solid b (before-u ∙ rw (l, u, s))
 
 -- the search for the mark q does not look past a text that is followed by another byte than q
 pub closing-local-all : (h : Bool) (q : ℕ) (r : List ℕ) → eqb 0 q ≡ false → eqb (r ! 0) q ≡ false → Local (closingStep h q) r
@@ -136,7 +127,7 @@ pub apart-of-mark : (q b : ℕ) → isMark q ≡ true → isMark b ≡ false →
 apart-of-mark q b m n = go (eqb b q) refl
   where
     go : (x : Bool) → eqb b q ≡ x → x ≡ false
-    go true e = sym m ∙ ap isMark (sym (eqb→eq b q (true→T (eqb b q) e))) ∙ n
+    go true e = sym m ∙ ap isMark (sym (eqb-true b q e)) ∙ n
     go false e = refl
 
 pub mark-0 : isMark 0 ≡ false

@@ -57,8 +57,10 @@ parts σ p (x ∷ xs) w =
     let ih : Ready σ (quote ∷ behind σ (x .value) xs) × (meaning σ (quote ∷ behind σ (x .value) xs) ≡ means (all-of (x .value) xs)) =
     rw (chain-is σ (x .value) xs) at (parts σ (x .value) xs (w .1)) in
     rw (chain-is σ (x .value) xs) (
-      inr (goes-on σ (x .first) (x .rest) (x .white) quote (behind σ (x .value) xs) is-quote quote (spells (σ .backslash) p ++ (quote ∷ [])) (inl (lone-literal σ p))),
+      inr (goes-on σ (x .first) (x .rest) (x .white) quote (behind σ (x .value) xs) is-quote quote (spells (σ .backslash) p ++ (quote ∷ []))
+          (inl (lone-literal σ p))),
       ap (valueOf (literal (σ .backslash) p ++ ((x .first ∷ x .rest) ++ (quote ∷ behind σ (x .value) xs))))
-          (join σ (x .first) (x .rest) (x .white) quote (behind σ (x .value) xs) is-quote quote (spells (σ .backslash) p ++ (quote ∷ [])) p (all-of (x .value) xs)
+          (join σ (x .first) (x .rest) (x .white) quote (behind σ (x .value) xs) is-quote quote (spells (σ .backslash) p ++ (quote ∷ [])) p
+          (all-of (x .value) xs)
           (inl (lone-literal σ p)) (round-trip σ p (w .0)) (ih .0) (ih .1)),
     )

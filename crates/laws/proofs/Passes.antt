@@ -17,7 +17,8 @@ use Rattle.meaning.specs.Answers.{filled}
 use Rattle.laws.proofs.Walks.{graft, size-graft, stops-graft}
 use Rattle.laws.proofs.Utf8.{pushes-append}
 use Rattle.laws.proofs.StepBounds.{Bounded, Steady, steady-at}
-use Rattle.laws.proofs.Courses.{SoFar, so-far-none, walk-at, so-far-end, so-far-stop, stops-here, taken, stands, isKept, Goes, Further, so-far-unit, Taken, value-graft, plain-both, graft-ended, checked-graft, checked-same}
+use Rattle.laws.proofs.Courses.{SoFar, so-far-none, walk-at, so-far-end, so-far-stop, stops-here, taken, stands, isKept, Goes, so-far-unit, Taken}
+use Rattle.laws.proofs.Courses.{value-graft, plain-both, graft-ended, checked-graft, checked-same}
 
 -- a course, checked or not
 abbrev pub courseBy : Bool → Trace → Trace
@@ -134,7 +135,8 @@ module _ {step : List ℕ → Step} {x : Bool} {l : List ℕ} {at n : ℕ} {p : 
       ∙ ap (graft (m .so-far .course)) (go x u g k))
     where
       go : (x : Bool) (u : Step) → Goes u → broken ≡ (if x then pushes d (stands u (getD l at 0)) else d)
-          → (if x then checked d (after u (getD l at 0) (λ n. walk step n (drop (suc at) l))) else after u (getD l at 0) (λ n. walk step n (drop (suc at) l))) ≡ stopped
+          → (if x then checked d (after u (getD l at 0) (λ n. walk step n (drop (suc at) l))) else after u (getD l at 0) (λ n. walk step n (drop (suc at) l)))
+          ≡ stopped
       go true keep g k = rw (← k)
       go true (give i out) g k = rw (← k)
       go true stop g k = absurd g
@@ -142,7 +144,8 @@ module _ {step : List ℕ → Step} {x : Bool} {l : List ℕ} {at n : ℕ} {p : 
 
   -- nothing is left
   pub measuring-unfinished : length l ≤ at → whole d ≡ false → StopsAt (courseBy x (walk step 0 l)) at
-  measuring-unfinished h w = here (onward ended (so-far-end (m .so-far) h ∙ sym (graft-ended (m .so-far .course))) ∙ ap (graft (m .so-far .course)) (go x (m .state)))
+  measuring-unfinished h w = here (onward ended (so-far-end (m .so-far) h ∙ sym (graft-ended (m .so-far .course)))
+      ∙ ap (graft (m .so-far .course)) (go x (m .state)))
     where
       go : (x : Bool) → d ≡ (if x then pushes fresh (value (m .so-far .course)) else fresh) → (if x then checked d ended else ended) ≡ stopped
       go true k = rw w

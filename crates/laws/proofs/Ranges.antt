@@ -1,6 +1,6 @@
 -- A borrowed answer is a part of the text: its range lies inside. So a text that is UTF-8 and means v shows v, borrowed or written. Assumes nothing.
-use mathlib.Core.Path.{_≡_, refl, ap, sym, _∙_, subst}
-use mathlib.Core.Bool.{Bool, true, false, _&&_, _||_, false≢true}
+use mathlib.Core.Path.{_≡_, refl, ap, sym, _∙_}
+use mathlib.Core.Bool.{Bool, true, false, _&&_, _||_}
 use mathlib.Core.List.{List, [], _∷_, _++_}
 use Prim.Native.Nat.{ℕ, zero, suc, _+_, _-_, _≤_}
 use Prim.Native.Char.{code}
@@ -19,11 +19,12 @@ use Rattle.meaning.specs.Bytes.{if_then_else_, _!_, part, has, ascii, same, quo
 use Rattle.meaning.specs.Walk.{Trace, walk, size, stops, plain, value}
 use Rattle.meaning.specs.Steps.{closingStep, trim}
 use Rattle.meaning.specs.Cutting.{opening, continues, cut}
-use Rattle.meaning.specs.Spelling.{Spelling, standard, escape, unicode, dollar, unspelt, encloses, chosen, unicodeBy, closedUnicode, isUnicode, unicodeSpelling, delimiter, dollarBy, spelling}
+use Rattle.meaning.specs.Spelling.{Spelling, standard, escape, unicode, dollar, unspelt, encloses, chosen, unicodeBy, closedUnicode, isUnicode, unicodeSpelling}
+use Rattle.meaning.specs.Spelling.{delimiter, dollarBy, spelling}
 use Rattle.meaning.specs.Reading.{Answer, borrowed, written, refused, Value, means, fails, valueOf, answer, read-as, one, joined, asWritten, read}
 use Rattle.meaning.specs.Answers.{Outcome, textNumber, partShown, shown, filled}
 use Rattle.meaning.specs.Questions.{cutsCharacter, badSpan, isString, toldAs, stringQuestion}
-use Rattle.laws.proofs.Tests.{true→T, and-left, and-right}
+use Rattle.laws.proofs.Tests.{true→T, and-left, and-right, or-left, or-right}
 use Rattle.laws.proofs.Walks.{stops-inside}
 use Rattle.laws.proofs.Joining.{fails≢means}
 use Rattle.laws.proofs.Asked.{Spans, stringQuestion-reads}
@@ -51,7 +52,8 @@ AnswerIn n (refused p) = Unit {0}
 pub enclosed-range : (k q : ℕ) (t : List ℕ) → encloses k q t ≡ true → Bounds (length t) (suc k) (length t - 1)
 unfolding encloses
 enclosed-range k q t h =
-    let l = ltb-true (suc k) (length t) (and-left (ltb (suc k) (length t)) (eqb (t ! k) q) (and-left (ltb (suc k) (length t) && eqb (t ! k) q) (eqb (t ! (length t - 1)) q) h)) in
+    let l = ltb-true (suc k) (length t) (and-left (ltb (suc k) (length t)) (eqb (t ! k) q)
+    (and-left (ltb (suc k) (length t) && eqb (t ! k) q) (eqb (t ! (length t - 1)) q) h)) in
     record { ordered = omega arith; inside = omega arith }
 
 -- the case that a test chooses
@@ -147,9 +149,6 @@ read-inside σ t = go (continues σ t) (joined σ (cut σ t))
     go true (fails p) = tt
     go false j = one-inside σ t
 
-pub read-borrowed : (σ : Settings) (t : List ℕ) (f u : ℕ) → read σ t ≡ borrowed f u → Bounds (length t) f u
-read-borrowed σ t f u e = subst (AnswerIn (length t)) e (read-inside σ t)
-
 -- PARTS OF PARTS. What follows a text changes no part of it
 pub part-front : (f u : ℕ) (t r : List ℕ) → Bounds (length t) f u → part f u (t ++ r) ≡ part f u t
 part-front f u t r h =
@@ -161,14 +160,6 @@ pub part-inside : (s e f u : ℕ) (S : List ℕ) → Bounds (length (part s e S)
 part-inside s e f u S h =
     let z : s + u - (s + f) ≡ u - f = omega arith in
     rw (z, ← drop-drop f s S) (sym (ap (part f u) (take-append-drop (e - s) (drop s S))) ∙ part-front f u (part s e S) (drop (e - s) (drop s S)) h)
-
-pub or-left : (x y : Bool) → (x || y) ≡ false → x ≡ false
-or-left true y e = e
-or-left false y e = refl
-
-pub or-right : (x y : Bool) → (x || y) ≡ false → y ≡ false
-or-right true y e = absurd (false≢true (sym e))
-or-right false y e = e
 
 -- a span that gives no 3 is a range of the source
 pub span-range : (s : Span) (S : List ℕ) → badSpan s S ≡ false → Bounds (length S) (s .start) (s .end)
@@ -209,7 +200,10 @@ told-answered bad s e S out v r h (borrowed f u) i m =
     }
 told-answered bad s e S out v r h (written w) i m =
     let z : v ≡ w = cc in
-    rw z (record { number = rw (le-leb (length w) (length out) (rw z at h)); shows = rw (le-leb (length w) (length out) (rw z at h)) (filled-shows w out (rw z at h)) })
+    rw z (record {
+      number = rw (le-leb (length w) (length out) (rw z at h));
+      shows = rw (le-leb (length w) (length out) (rw z at h)) (filled-shows w out (rw z at h));
+    })
 told-answered bad s e S out v r h (refused p) i m = absurd (fails≢means p v m)
 
 -- A TEXT THAT IS ACCEPTED AND MEANS v shows v, where it fits a span and the buffer has room

@@ -6,7 +6,8 @@ use mathlib.Core.Bool.{Bool, true, false, not}
 use mathlib.Core.List.{List, [], _∷_, _++_}
 use Prim.Native.Nat.{ℕ, zero, suc, _+_, _<_}
 use native.Mathlib.Omega.{arith}
-use lib.Dec.{eqb, eqb→eq, ltb, lt→ltb}
+use lib.Dec.{eqb, ltb, lt→ltb}
+use borrow.Author.Tests.{eqb-true}
 use lib.ListN.{length, take, drop, length-drop}
 use lib.Seq.{length-take-le, drop-drop}
 use Rattle.meaning.specs.declared.Settings.{Settings}
@@ -37,7 +38,7 @@ same-eq [] [] h = refl
 same-eq [] (c ∷ t) h = absurd (true→T false h)
 same-eq (b ∷ s) [] h = absurd (true→T false h)
 same-eq (b ∷ s) (c ∷ t) h =
-    let p = eqb→eq b c (true→T (eqb b c) (and-left (eqb b c) (same s t) h)) in
+    let p = eqb-true b c (and-left (eqb b c) (same s t) h) in
     let q = same-eq s t (and-right (eqb b c) (same s t) h) in
     cc
 

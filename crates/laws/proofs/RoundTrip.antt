@@ -38,7 +38,8 @@ writes-wrote t out n e = go (leb (length t) (length out)) e
 
 module _ (σ : Settings) (size : PartSize) (v out : List ℕ) where
   -- the writer writes a value that it accepts, where there is room
-  pub writer-answers : Accepted σ size v → length (writtenText σ size v) ≤ length out → writeQuestion σ size v out .answer ≡ Written (length (writtenText σ size v))
+  pub writer-answers : Accepted σ size v → length (writtenText σ size v) ≤ length out
+      → writeQuestion σ size v out .answer ≡ Written (length (writtenText σ size v))
   writer-answers a r = rw (accepted-writes σ size v out a, le-leb (length (writtenText σ size v)) (length out) r)
 
   -- and none other

@@ -29,7 +29,8 @@ use Rattle.laws.proofs.WhiteUtf8.{white-utf8}
 use Rattle.laws.proofs.Alone.{segment-alone}
 use Rattle.laws.proofs.Asked.{Spans, stringQuestion-reads, stringQuestion-not-utf8}
 use Rattle.laws.proofs.Gaps.{gap-append}
-use Rattle.laws.proofs.Joining.{white-head, segment-solid, value-written, lone-read, goes-on, both-means, fails≢means}
+use Rattle.laws.proofs.Written.{lone}
+use Rattle.laws.proofs.Joining.{white-head, segment-solid, value-written, goes-on, both-means, fails≢means}
 use Rattle.laws.proofs.JoiningLaw.{Gap, told-written}
 use Rattle.laws.proofs.Openings.{segment-fits, segment-extend, mark-0}
 use Rattle.laws.proofs.Sequences.{utf8-begins, utf8-split}
@@ -116,7 +117,7 @@ module _ (σ : Settings) where
           )
 
   alone-meaning : (s : List ℕ) → Whole σ s → alone σ s ≡ meaning σ s
-  alone-meaning s w = ap (valueOf s) (sym (lone-read σ s (w .all)))
+  alone-meaning s w = ap (valueOf s) (sym (lone σ s (w .all)))
 
   values-same : (f g : List ℕ → Value) → ((s : List ℕ) → Whole σ s → f s ≡ g s) → (ss vs : List (List ℕ)) → Each (Whole σ) ss
       → Values f ss vs → Values g ss vs
@@ -237,7 +238,8 @@ module _ (σ : Settings) where
   unfolding utf8
   utf8-from s [] h = utf8-append s [] (h .0)
   utf8-from s (p ∷ ps) h =
-      utf8-append s (behind (p ∷ ps)) (h .0) ∙ utf8-append (p .gap) (strung (p .text) ps) (white-utf8 (p .gap) (p .white .white)) ∙ utf8-from (p .text) ps (h .1)
+      utf8-append s (behind (p ∷ ps)) (h .0) ∙ utf8-append (p .gap) (strung (p .text) ps) (white-utf8 (p .gap) (p .white .white))
+      ∙ utf8-from (p .text) ps (h .1)
 
   utf8-to : (s : List ℕ) (ps : List (Further σ)) → utf8 (strung s ps) ≡ true → Each (λ t. utf8 t ≡ true) (segments s ps)
   utf8-to s [] h = (utf8-split s [] (no-later []) h .0, tt)

@@ -1,23 +1,24 @@
 -- A segment's value is never longer than the segment, and the place of a refusal lies inside it: so no number that a pass counts exceeds the text's
 -- length. And what a body that reads to its end means, borrowed or written. Assumes nothing.
-use mathlib.Core.Path.{_≡_, refl, ap, sym, _∙_, subst}
-use mathlib.Core.Bool.{Bool, true, false, _&&_, false≢true}
-use mathlib.Core.List.{List, [], _∷_, _++_}
+use mathlib.Core.Path.{_≡_, refl, ap, sym, _∙_}
+use mathlib.Core.Bool.{Bool, true, false, _&&_}
+use mathlib.Core.List.{List, [], _∷_}
 use Prim.Native.Nat.{ℕ, zero, suc, _+_, _-_, _≤_, _<_}
 use Prim.Native.Char.{code}
 use native.Mathlib.Omega.{arith}
-use lib.Dec.{T, eqb, leb, ltb}
+use lib.Dec.{eqb, leb, ltb}
 use lib.ListN.{length, take, drop, length-append, length-take, length-drop}
 use borrow.Author.Tests.{ltb-true}
 use Rattle.meaning.specs.declared.Settings.{Settings}
-use Rattle.meaning.specs.Bytes.{if_then_else_, _!_, part, ascii, has, same, quote, dquote, isMark}
+use Rattle.meaning.specs.Bytes.{if_then_else_, _!_, part, ascii, has, same, quote, dquote}
 use Rattle.meaning.specs.Chars.{Due, due, broken, fresh, push, pushes, whole}
 use Rattle.meaning.specs.Walk.{Step, keep, give, stop, Trace, ended, stopped, kept, gave, after, walk, size, stops, plain, value}
 use Rattle.meaning.specs.Steps.{standardStep, escapeStep, unicodeStep, checked, unlessBroken, closingStep, trim}
 use Rattle.meaning.specs.Cutting.{opening}
-use Rattle.meaning.specs.Spelling.{Spelling, standard, escape, unicode, dollar, unspelt, encloses, isUnicode, unicodeSpelling, unicodeBy, chosen, closedUnicode, delimiter, dollarBy, spelling}
-use Rattle.meaning.specs.Reading.{Answer, borrowed, written, refused, Value, means, fails, valueOf, answer, read-as, one, alone}
-use Rattle.laws.proofs.Tests.{T→true, true→T, and-left, and-right}
+use Rattle.meaning.specs.Spelling.{Spelling, standard, escape, unicode, dollar, unspelt, encloses, isUnicode, unicodeSpelling, unicodeBy, chosen, closedUnicode}
+use Rattle.meaning.specs.Spelling.{delimiter, dollarBy, spelling}
+use Rattle.meaning.specs.Reading.{borrowed, written, refused, Value, means, fails, valueOf, answer, read-as, one, alone}
+use Rattle.laws.proofs.Tests.{true→T, and-left, and-right}
 use Rattle.laws.proofs.Walks.{walk-plain, FitsIn, fits-size}
 use Rattle.laws.proofs.Openings.{opening-mark, apart-of-mark, mark-0}
 use Rattle.laws.proofs.BodyStops.{stops-fails}
@@ -107,11 +108,17 @@ module _ (x : Bool) (step : List ℕ → Step) (t : List ℕ) (f u : ℕ) where
       room : length (part f u t) + f ≤ length t
       room = omega (arith, length-take (u - f) (drop f t), length-drop f t, b .ordered, b .inside)
 
-      go : (y z : Bool) → stops course ≡ z → Bound (valueOf t (if y then borrowed f u else if z then refused (f + size course) else written (value course))) (length t)
+      go : (y z : Bool) → stops course ≡ z → Bound (valueOf t (if y then borrowed f u else if z then refused (f + size course) else written (value course)))
+          (length t)
       go true z h = omega (arith, room)
       go false true h = omega (arith, room, course-size x step ok (part f u t))
       go false false h =
-          omega (arith, room, walk-short step ok 0 (part f u t) (omega arith), ap (λ (r : Trace). length (value r)) (course-same x (walk step 0 (part f u t)) h))
+          omega (
+            arith,
+            room,
+            walk-short step ok 0 (part f u t) (omega arith),
+            ap (λ (r : Trace). length (value r)) (course-same x (walk step 0 (part f u t)) h),
+          )
 
 -- THE MARK of a standard spelling is no zero
 abbrev MarkIn : Spelling → Type 0
@@ -142,7 +149,8 @@ unicode-mark : (q : ℕ) (t : List ℕ) → MarkIn (unicodeSpelling q t)
 unfolding unicodeSpelling
 unicode-mark q t =
     pick (isUnicode q t) (closedUnicode t r) unspelt
-    (λ i. pick (stops r) (unicodeBy (chosen (trim (drop (4 + size r) t))) (3 + size r)) unspelt (λ h. unicodeBy-mark (chosen (trim (drop (4 + size r) t))) (3 + size r)) tt) tt
+    (λ i. pick (stops r) (unicodeBy (chosen (trim (drop (4 + size r) t))) (3 + size r)) unspelt
+    (λ h. unicodeBy-mark (chosen (trim (drop (4 + size r) t))) (3 + size r)) tt) tt
   where
     r : Trace
     r = walk (closingStep false q) 0 (drop 3 t)
@@ -172,7 +180,8 @@ spelling-mark t =
     go false false true y z i h = tt
     go false false false true z i h = refl
     go false false false false true i h =
-        opened-mark t (and-right (eqb (t ! 0) (code "_")) (ltb 0 (opening t)) (and-left (eqb (t ! 0) (code "_") && ltb 0 (opening t)) (encloses (opening t - 1) (t ! (opening t - 1)) t) h))
+        opened-mark t (and-right (eqb (t ! 0) (code "_")) (ltb 0 (opening t))
+        (and-left (eqb (t ! 0) (code "_") && ltb 0 (opening t)) (encloses (opening t - 1) (t ! (opening t - 1)) t) h))
     go false false false false false true h = unicode-mark quote t
     go false false false false false false h = dollar-mark t (delimiter t)
 

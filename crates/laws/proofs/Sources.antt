@@ -12,7 +12,8 @@ use Rattle.meaning.specs.Bytes.{part}
 use Rattle.meaning.specs.Reading.{read}
 use Rattle.meaning.specs.Numbers.{decimalOf}
 use Rattle.meaning.specs.Kinds.{bits, money, temporal}
-use Rattle.meaning.specs.Questions.{badSpan, sourceText, tested, told, ranged, charsetBy, integerBy, bitBase, stringQuestion, decimalQuestion, bitsQuestion, temporalQuestion, sourceQuestion, moneyQuestion, charsetQuestion, i64Question}
+use Rattle.meaning.specs.Questions.{badSpan, sourceText, tested, told, ranged, charsetBy, integerBy, bitBase, stringQuestion, decimalQuestion, bitsQuestion}
+use Rattle.meaning.specs.Questions.{temporalQuestion, sourceQuestion, moneyQuestion, charsetQuestion, i64Question}
 
 -- neither gives 3, and inside the span they are the same
 pub record Agree (l : Literal) (S S′ : List ℕ) : Type 0 where

@@ -31,5 +31,7 @@ starred =
     asks i64 1 "" "0x-5" "" (minus 5) ∷ []
 
 pub starred-hold : T (all starred)
-unfolding within isMark isLetter isDecimal inName startsTag inTag digit allDigits lead utf8 more encode isScalar isSpace doubled oneByte mayEscape scalarBy named segment segmentStep cut continues encloses isUnicode unicodeSpelling delimiter spelling answer one read signLength isMinus baseBy radixPrefix parsed separated radixValue i64Of partShown filled cutsCharacter badSpan sourceText tested stringQuestion i64Question
+unfolding within isMark isLetter isDecimal inName startsTag inTag digit allDigits lead utf8 more encode isScalar isSpace doubled oneByte mayEscape scalarBy
+    named segment segmentStep cut continues encloses isUnicode unicodeSpelling delimiter spelling answer one read signLength isMinus baseBy radixPrefix parsed
+    separated radixValue i64Of partShown filled cutsCharacter badSpan sourceText tested stringQuestion i64Question
 starred-hold = tt

@@ -13,7 +13,8 @@ use borrow.Author.Tests.{eqb-true}
 use Rattle.meaning.specs.Bytes.{if_then_else_, _!_, ascii, has, starts, within, quote, backslash, digits, number}
 use Rattle.meaning.specs.Chars.{more, encode}
 use Rattle.meaning.specs.Walk.{Step, keep, give, stop}
-use Rattle.meaning.specs.Steps.{byteOf, doubled, mysqlTable, mysql, standardStep, escapeTable, oneByte, mayEscape, scalarBy, escaped, escapeStep, pair, lowHalf, uescaped, unicodeStep}
+use Rattle.meaning.specs.Steps.{byteOf, doubled, mysqlTable, mysql, standardStep, escapeTable, oneByte, mayEscape, scalarBy, escaped, escapeStep, pair, lowHalf}
+use Rattle.meaning.specs.Steps.{uescaped, unicodeStep}
 use Rattle.laws.proofs.Tests.{and-right}
 use Rattle.laws.proofs.Encode.{encode-length}
 use Rattle.laws.proofs.Digits.{digits-length}

@@ -1,7 +1,7 @@
 -- Facts about tests: booleans, comparisons of numbers, and `within`. That a comparison holds or fails, from the order of its numbers and
 -- back, is in borrow.Author.Tests (le-leb, lt-leb, leb-true, leb-false, lt-ltb, le-ltb, eq-eqb, ne-eqb and others). Assumes nothing.
 use mathlib.Core.Path.{_≡_, refl, sym, _∙_, subst}
-use mathlib.Core.Bool.{Bool, true, false, _&&_, and-false, false≢true}
+use mathlib.Core.Bool.{Bool, true, false, _&&_, _||_, and-false, false≢true}
 use Prim.Native.Nat.{ℕ, suc, _≤_, _<_}
 use native.Mathlib.Omega.{arith}
 use lib.Dec.{T, eqb, leb}
@@ -22,6 +22,18 @@ and-left false y e = e
 pub and-right : (x y : Bool) → (x && y) ≡ true → y ≡ true
 and-right true y e = e
 and-right false y e = absurd (false≢true e)
+
+pub or-left : (x y : Bool) → (x || y) ≡ false → x ≡ false
+or-left true y e = e
+or-left false y e = refl
+
+pub or-right : (x y : Bool) → (x || y) ≡ false → y ≡ false
+or-right true y e = absurd (false≢true (sym e))
+or-right false y e = e
+
+pub if-same : (x : Bool) (n : ℕ) → (if x then n else n) ≡ n
+if-same true n = refl
+if-same false n = refl
 
 pub if-suc : (x : Bool) (m n : ℕ) → (if x then m else 0) ≡ suc n → (x ≡ true) × (m ≡ suc n)
 if-suc true m n e = (refl, e)

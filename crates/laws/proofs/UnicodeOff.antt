@@ -6,7 +6,8 @@ use mathlib.Core.List.{List, [], _∷_, map}
 use Prim.Native.Nat.{ℕ, suc, _+_}
 use Prim.Native.Char.{code}
 use native.Mathlib.Omega.{arith}
-use lib.Dec.{eqb, eqb→eq}
+use lib.Dec.{eqb}
+use borrow.Author.Tests.{eqb-true}
 use lib.ListN.{take, drop}
 use Rattle.meaning.specs.declared.Settings.{Settings}
 use Rattle.meaning.specs.Bytes.{if_then_else_, _!_, has, same, ascii, isMark, quote, backslash, within}
@@ -29,7 +30,7 @@ NotClause& c = (x : List ℕ) → eqb (x ! 0) (code "&") ≡ true → same (map 
 
 amp : (c : ℕ) → ((x : List ℕ) → same (map upper (take 7 (c ∷ (38 ∷ x)))) (ascii "UESCAPE") ≡ false) → NotClause& c
 amp c p [] h = absurd (true→T (eqb 0 38) h)
-amp c p (d ∷ x) h = subst (λ (k : ℕ). same (map upper (take 7 (c ∷ (k ∷ x)))) (ascii "UESCAPE") ≡ false) (sym (eqb→eq d 38 (true→T (eqb d 38) h))) (p x)
+amp c p (d ∷ x) h = subst (λ (k : ℕ). same (map upper (take 7 (c ∷ (k ∷ x)))) (ascii "UESCAPE") ≡ false) (sym (eqb-true d 38 h)) (p x)
 
 pub no-clause : (c : ℕ) (x : List ℕ) (m : ℕ) → opening (c ∷ x) ≡ suc m → isMark c ≡ false → chosen (c ∷ x) ≡ []
 unfolding upper within
@@ -41,7 +42,8 @@ no-clause c x m o k = rw (go (has c (ascii "EeNnBbXx")) (has c (ascii "Uu")) (eq
         else if u then named x else 0) ≡ suc m
         → same (map upper (take 7 (c ∷ x))) (ascii "UESCAPE") ≡ false
     go true z u ey ez eu g =
-        has-all NotClause c (ascii "EeNnBbXx") ((λ w. refl), ((λ w. refl), ((λ w. refl), ((λ w. refl), ((λ w. refl), ((λ w. refl), ((λ w. refl), ((λ w. refl), tt)))))))) ey x
+        has-all NotClause c (ascii "EeNnBbXx")
+        ((λ w. refl), ((λ w. refl), ((λ w. refl), ((λ w. refl), ((λ w. refl), ((λ w. refl), ((λ w. refl), ((λ w. refl), tt)))))))) ey x
     go false true u ey ez eu g =
         let p = if-suc (eqb (x ! 0) (code "&") && eqb (x ! 1) quote) 3 m g in
         has-all NotClause& c (ascii "Uu") (amp 85 (λ w. refl), (amp 117 (λ w. refl), tt)) ez x (and-left (eqb (x ! 0) (code "&")) (eqb (x ! 1) quote) (p .0))
@@ -75,9 +77,12 @@ module _ (σ : Settings) (b : ℕ) (t : List ℕ) (u : isUnicode quote (b ∷ t)
       let s = segment-of σ (b ∷ t) e seg in
       let p = opens-u in
       let i : s .0 ≡ 2 = let a = s .1 in let c = p .0 in omega arith in
-      let st = subst (λ (j : ℕ). (stops (walk (closingStep (hides σ (b ∷ t)) ((b ∷ t) ! j)) 0 (drop (suc j) (b ∷ t))) ≡ true) × (suc j + size (walk (closingStep (hides σ (b ∷ t)) ((b ∷ t) ! j)) 0 (drop (suc j) (b ∷ t))) + 1 ≡ suc e)) i (s .2, s .3) in
-      let st′ = subst (λ (x : ℕ). (stops (walk (closingStep (hides σ (b ∷ t)) x) 0 (drop 2 t)) ≡ true) × (3 + size (walk (closingStep (hides σ (b ∷ t)) x) 0 (drop 2 t)) + 1 ≡ suc e)) (eqb→eq (t ! 1) quote (true→T (eqb (t ! 1) quote) (parts-of .2))) st in
-      let st″ = subst (λ (x : Bool). (stops (walk (closingStep x quote) 0 (drop 2 t)) ≡ true) × (3 + size (walk (closingStep x quote) 0 (drop 2 t)) + 1 ≡ suc e)) (p .1) st′ in
+      let st = subst (λ (j : ℕ). (stops (walk (closingStep (hides σ (b ∷ t)) ((b ∷ t) ! j)) 0 (drop (suc j) (b ∷ t))) ≡ true)
+      × (suc j + size (walk (closingStep (hides σ (b ∷ t)) ((b ∷ t) ! j)) 0 (drop (suc j) (b ∷ t))) + 1 ≡ suc e)) i (s .2, s .3) in
+      let st′ = subst (λ (x : ℕ). (stops (walk (closingStep (hides σ (b ∷ t)) x) 0 (drop 2 t)) ≡ true)
+      × (3 + size (walk (closingStep (hides σ (b ∷ t)) x) 0 (drop 2 t)) + 1 ≡ suc e)) (eqb-true (t ! 1) quote (parts-of .2)) st in
+      let st″ = subst (λ (x : Bool). (stops (walk (closingStep x quote) 0 (drop 2 t)) ≡ true)
+      × (3 + size (walk (closingStep x quote) 0 (drop 2 t)) + 1 ≡ suc e)) (p .1) st′ in
       (st″ .0, (let z = st″ .1 in omega arith))
 
 -- with the setting off both searches are one, and no clause follows
@@ -87,5 +92,7 @@ pub unicode-off : (b : ℕ) (t : List ℕ) (e : ℕ) → segment off (b ∷ t) �
 unfolding unicodeSpelling
 unicode-off b t e seg c x d m o k v u h =
     let s = closes-u off b t u e seg in
-    let z : valueOf (b ∷ t) (read-as off (b ∷ t) (unicodeBy (chosen (trim (drop (4 + size (walk (closingStep false quote) 0 (drop 2 t))) (b ∷ t)))) (3 + size (walk (closingStep false quote) 0 (drop 2 t))))) ≡ means v = rw (u, s .0) at h in
+    let z : valueOf (b ∷ t) (read-as off (b ∷ t)
+    (unicodeBy (chosen (trim (drop (4 + size (walk (closingStep false quote) 0 (drop 2 t))) (b ∷ t))))
+    (3 + size (walk (closingStep false quote) 0 (drop 2 t))))) ≡ means v = rw (u, s .0) at h in
     fails≢means 0 v (rw (s .1, d, no-clause c x m o k) at z)

@@ -5,7 +5,8 @@ use mathlib.Core.List.{List, [], _∷_, _++_}
 use Prim.Native.Nat.{ℕ, suc, _+_, _-_, _<_}
 use native.Mathlib.Nat.{zero-add}
 use native.Mathlib.Omega.{arith}
-use lib.Dec.{eqb, eqb→eq}
+use lib.Dec.{eqb}
+use borrow.Author.Tests.{eqb-true}
 use lib.ListN.{length, take, drop, length-take, take-append-drop}
 use Rattle.meaning.specs.Bytes.{if_then_else_, _!_, isMark, quote, backslash, part}
 use Rattle.meaning.specs.Walk.{Step, keep, give, stop, Trace, ended, stopped, after, walk, size, stops}
@@ -41,7 +42,7 @@ lone-mark h d r e = go (eqb d quote) (eqb (r ! 0) quote) refl refl e
         → (d ≡ quote) × (closingStep true quote (d ∷ r) ≡ stop)
     go true true ex ey g = absurd (true→T false (no-step (give 1 (quote ∷ [])) g))
     go true false ex ey g =
-        let q : d ≡ quote = eqb→eq d quote (true→T (eqb d quote) ex) in
+        let q : d ≡ quote = eqb-true d quote ex in
         (q, subst (λ (k : ℕ). closingStep true quote (k ∷ r) ≡ stop) (sym q) (rw ey))
     go false y ex ey g = absurd (true→T false (no-step keep g))
 
@@ -58,7 +59,8 @@ same-close u st rd =
     let w : walk (closingStep true quote) 0 (p .0 ∷ p .1) ≡ stopped = rw (l .1) in
     let d : take m u ++ (p .0 ∷ p .1) ≡ u = ap (take m u ++_) (sym (p .2)) ∙ take-append-drop m u in
     let k = walk-append (closingStep true quote) (p .0 ∷ p .1) (closing-local true quote (p .0 ∷ p .1) refl) 0 (take m u) x in
-    let g = size-graft (walk (closingStep true quote) 0 (take m u)) (walk (closingStep true quote) 0 (p .0 ∷ p .1)) (exact-ends (closingStep true quote) 0 (take m u) x) in
+    let g = size-graft (walk (closingStep true quote) 0 (take m u)) (walk (closingStep true quote) 0 (p .0 ∷ p .1))
+    (exact-ends (closingStep true quote) 0 (take m u) x) in
     ap (λ (v : List ℕ). size (walk (closingStep true quote) 0 v)) (sym d) ∙ ap size k ∙ g
     ∙ ap (λ (r : Trace). size (walk (closingStep true quote) 0 (take m u)) + size r) w
     ∙ omega (arith, length-take m u)

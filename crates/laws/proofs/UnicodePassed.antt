@@ -6,7 +6,8 @@ use mathlib.Core.List.{List, [], _∷_}
 use Prim.Native.Nat.{ℕ, zero, suc, _+_}
 use Prim.Native.Char.{code}
 use native.Mathlib.Omega.{arith}
-use lib.Dec.{eqb, eqb→eq}
+use lib.Dec.{eqb}
+use borrow.Author.Tests.{eqb-true}
 use lib.ListN.{length, drop}
 use Rattle.meaning.specs.Bytes.{if_then_else_, _!_, quote, backslash, within, digits, number, starts}
 use Rattle.meaning.specs.Chars.{encode}
@@ -33,7 +34,7 @@ Hex w u = eqb (digits 16 w u) w ≡ true
 
 hex-pass : (w : ℕ) (u : List ℕ) → Hex w u → Pass zero w u
 unfolding Hex
-hex-pass w u h = tame-pass w u (subst (λ (j : ℕ). Ahead zero j u) (eqb→eq (digits 16 w u) w (true→T (eqb (digits 16 w u) w) h)) (digits-tame 16 w u refl))
+hex-pass w u h = tame-pass w u (subst (λ (j : ℕ). Ahead zero j u) (eqb-true (digits 16 w u) w h) (digits-tame 16 w u refl))
 
 pass-tail : (j : ℕ) (u : List ℕ) → Ahead zero (suc j) u → Pass 1 (suc j) u
 pass-tail j [] a = a
@@ -42,13 +43,15 @@ pass-tail j (b ∷ u) a = tame-pass j u (a .1)
 -- the same, the first digit hidden
 hex-pass-1 : (w : ℕ) (u : List ℕ) → Hex (suc w) u → Pass 1 (suc w) u
 unfolding Hex
-hex-pass-1 w u h = pass-tail w u (subst (λ (j : ℕ). Ahead zero j u) (eqb→eq (digits 16 (suc w) u) (suc w) (true→T (eqb (digits 16 (suc w) u) (suc w)) h)) (digits-tame 16 (suc w) u refl))
+hex-pass-1 w u h = pass-tail w u (subst (λ (j : ℕ). Ahead zero j u) (eqb-true (digits 16 (suc w) u) (suc w) h) (digits-tame 16 (suc w) u refl))
 
 pass-on : (i j k : ℕ) (u : List ℕ) → Pass i j u → Pass zero k (drop j u) → Pass i (j + k) u
 pass-on zero zero k u p q = let e : k ≡ 0 + k = omega arith in subst (λ (m : ℕ). Pass zero m u) e q
 pass-on (suc i) zero k u p q = absurd p
 pass-on i (suc j) k [] p q = absurd p
-pass-on zero (suc j) k (b ∷ u) p q = let e : suc (j + k) ≡ suc j + k = omega arith in subst (λ (m : ℕ). Pass zero m (b ∷ u)) e (go p (λ i r. pass-on i j k u r q))
+pass-on zero (suc j) k (b ∷ u) p q =
+    let e : suc (j + k) ≡ suc j + k = omega arith in
+    subst (λ (m : ℕ). Pass zero m (b ∷ u)) e (go p (λ i r. pass-on i j k u r q))
   where
     go : (Tame b × Pass zero j u) ⊎ ((eqb b backslash ≡ true) × Pass 1 j u) → ((i : ℕ) → Pass i j u → Pass i (j + k) u) → Pass zero (suc (j + k)) (b ∷ u)
     go (inl r) ih = inl (r .0, ih 0 (r .1))
@@ -72,7 +75,7 @@ scalar-passed w k t u f = go (eqb (digits 16 w t) w) (mayEscape (number 16 w 0 t
 
 starts-esc : (u : List ℕ) → starts (backslash ∷ []) u ≡ true → (w : List ℕ) × (u ≡ backslash ∷ w)
 starts-esc [] h = absurd (true→T false h)
-starts-esc (c ∷ w) h = (w, ap (_∷ w) (sym (eqb→eq backslash c (true→T (eqb backslash c) (and-left (eqb backslash c) true h)))))
+starts-esc (c ∷ w) h = (w, ap (_∷ w) (sym (eqb-true backslash c (and-left (eqb backslash c) true h))))
 
 low-passed : (h : ℕ) (u : List ℕ) → Hex 4 u → Passed (lowHalf (backslash ∷ []) h (drop 4 u)) u
 unfolding lowHalf Hex
@@ -142,7 +145,7 @@ passes zero zero (b ∷ u) p h = go (eqb b quote) (eqb b backslash) (eqb (u ! 0)
         → ((i j : ℕ) → Pass i j u → stops (walk (unicodeStep (backslash ∷ []) quote) j u) ≡ false → i + size (walk (closingStep true quote) i u) ≡ length u)
         → 0 + size (walk (closingStep true quote) 0 (b ∷ u)) ≡ suc (length u)
     go true true z ex ey ez g ih =
-        absurd (true→T false (sym (sym ey ∙ ap (λ (k : ℕ). eqb k backslash) (eqb→eq b quote (true→T (eqb b quote) ex)))))
+        absurd (true→T false (sym (sym ey ∙ ap (λ (k : ℕ). eqb k backslash) (eqb-true b quote ex))))
     go true false true ex ey ez g ih =
         let g′ : stops (walk (unicodeStep (backslash ∷ []) quote) 1 u) ≡ false = rw (ex, ez) at g in
         let r = ih 1 1 (quoted u ez) g′ in rw (ey, ex, ez) (omega arith)

@@ -104,15 +104,6 @@ pushes-good d (b ∷ t) g = pushes-good (push d b) t (push-good d b g)
 pub fresh-good : Good fresh
 fresh-good = ranged-all 0
 
-pub whole-fresh : (d : Due) → Good d → whole d ≡ true → d ≡ fresh
-whole-fresh broken g h = absurd (false≢true h)
-whole-fresh (due zero lo hi) g h = rw (g .0, g .1)
-whole-fresh (due (suc n) lo hi) g h = absurd (false≢true h)
-
-pub utf8-fresh : (t : List ℕ) → utf8 t ≡ true → pushes fresh t ≡ fresh
-unfolding utf8
-utf8-fresh t h = whole-fresh (pushes fresh t) (pushes-good fresh t fresh-good) h
-
 -- an ASCII byte ends a character, or breaks one
 pub ascii-push : (d : Due) (b : ℕ) → Good d → b < 0x80 → push d b ≡ (if whole d then fresh else broken)
 ascii-push broken b g h = refl

@@ -21,17 +21,6 @@ walk-drop step (suc k) [] = refl
 walk-drop step zero (b ∷ t) = refl
 walk-drop step (suc k) (b ∷ t) = walk-drop step k t
 
--- one step: a byte kept, a unit u of a + u bytes
-pub walk-keep : (step : List ℕ → Step) (b : ℕ) (t : List ℕ) → step (b ∷ t) ≡ keep → walk step 0 (b ∷ t) ≡ kept b (walk step 0 t)
-walk-keep step b t e = rw e
-
-pub walk-give : (step : List ℕ → Step) (b : ℕ) (u t out : List ℕ) → step (b ∷ (u ++ t)) ≡ give (length u) out
-    → walk step 0 (b ∷ (u ++ t)) ≡ gave (length u) out (walk step 0 t)
-walk-give step b u t out e = rw e (ap (gave (length u) out) (walk-skip step u t))
-
-pub walk-stop : (step : List ℕ → Step) (b : ℕ) (t : List ℕ) → step (b ∷ t) ≡ stop → walk step 0 (b ∷ t) ≡ stopped
-walk-stop step b t e = rw e
-
 -- LOCAL: what follows a text does not change a walk that stops inside it
 abbrev pub Local : (List ℕ → Step) → List ℕ → Type 0
 Local step r = (b : ℕ) (t : List ℕ) → step (b ∷ (t ++ r)) ≡ step (b ∷ t)
@@ -158,20 +147,6 @@ fits-size step f zero (b ∷ t) h = go (step (b ∷ t)) (f b t) (λ n. fits-size
     go keep g ih = let r = ih 0 (omega arith) in omega arith
     go (give n out) g ih = let r = ih n g in omega arith
     go stop g ih = omega arith
-
-pub fits-exact : (step : List ℕ → Step) → Fits step → (k : ℕ) (t : List ℕ) → k ≤ length t → stops (walk step k t) ≡ false
-    → k + size (walk step k t) ≡ length t
-fits-exact step f zero [] h e = omega arith
-fits-exact step f (suc k) [] h e = absurd (omega arith)
-fits-exact step f (suc k) (b ∷ t) h e = let r = fits-exact step f k t (omega arith) e in omega arith
-fits-exact step f zero (b ∷ t) h e = go (step (b ∷ t)) (f b t) e (λ n. fits-exact step f n t)
-  where
-    go : (s : Step) → FitsIn s (length t) → stops (after s b (λ n. walk step n t)) ≡ false
-        → ((n : ℕ) → n ≤ length t → stops (walk step n t) ≡ false → n + size (walk step n t) ≡ length t)
-        → 0 + size (after s b (λ n. walk step n t)) ≡ suc (length t)
-    go keep g e ih = let r = ih 0 (omega arith) e in omega arith
-    go (give n out) g e ih = let r = ih n g e in omega arith
-    go stop g e ih = absurd (subst T e tt)
 
 -- a walk that stops inside a text stops there too if more follows, where that place still stops it
 pub walk-part : (step : List ℕ → Step) (r : List ℕ) → LocalIn step r → (k : ℕ) (t : List ℕ) (m : ℕ) → k + size (walk step k t) ≡ m

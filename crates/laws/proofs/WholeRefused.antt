@@ -5,7 +5,8 @@ use mathlib.Core.List.{List, _∷_}
 use Prim.Native.Nat.{ℕ, zero, suc, _+_, _-_, _<_}
 use Prim.Native.Char.{code}
 use native.Mathlib.Omega.{arith}
-use lib.Dec.{T, eqb, eqb→eq, ltb}
+use lib.Dec.{T, eqb, ltb}
+use borrow.Author.Tests.{eqb-true}
 use lib.ListN.{length, drop}
 use Rattle.meaning.specs.declared.Settings.{Settings}
 use Rattle.meaning.specs.Bytes.{if_then_else_, _!_, has, ascii, isMark, quote, dquote, backslash, part}
@@ -15,7 +16,7 @@ use Rattle.meaning.specs.Steps.{closingStep, standardStep, escapeStep, checked}
 use Rattle.meaning.specs.Cutting.{opening, hides, segment}
 use Rattle.meaning.specs.Spelling.{standard, escape, spelling, encloses, isUnicode, unicodeSpelling, delimiter, dollarBy}
 use Rattle.meaning.specs.Reading.{refused, means, valueOf, answer, one, read-as}
-use Rattle.laws.proofs.Tests.{true→T, and-left, and-right}
+use Rattle.laws.proofs.Tests.{and-left, and-right}
 use Rattle.laws.proofs.Gaps.{has-all}
 use Rattle.laws.proofs.Openings.{opening-mark, apart-of-mark, mark-0, segment-of}
 use Rattle.laws.proofs.BodyStops.{standard-stops, stops-fails, body-stops}
@@ -29,9 +30,12 @@ module _ (σ : Settings) (t : List ℕ) (e : ℕ) (seg : segment σ t ≡ suc e)
     closing h k =
         let s = segment-of σ t e seg in
         let i : s .0 ≡ n = let a = s .1 in omega arith in
-        let st = subst (λ (j : ℕ). (stops (walk (closingStep (hides σ t) (t ! j)) 0 (drop (suc j) t)) ≡ true) × (suc j + size (walk (closingStep (hides σ t) (t ! j)) 0 (drop (suc j) t)) + 1 ≡ suc e)) i (s .2, s .3) in
-        let st′ = subst (λ (x : ℕ). (stops (walk (closingStep (hides σ t) x) 0 (drop (suc n) t)) ≡ true) × (suc n + size (walk (closingStep (hides σ t) x) 0 (drop (suc n) t)) + 1 ≡ suc e)) m st in
-        let st″ = subst (λ (x : Bool). (stops (walk (closingStep x q) 0 (drop (suc n) t)) ≡ true) × (suc n + size (walk (closingStep x q) 0 (drop (suc n) t)) + 1 ≡ suc e)) k st′ in
+        let st = subst (λ (j : ℕ). (stops (walk (closingStep (hides σ t) (t ! j)) 0 (drop (suc j) t)) ≡ true)
+        × (suc j + size (walk (closingStep (hides σ t) (t ! j)) 0 (drop (suc j) t)) + 1 ≡ suc e)) i (s .2, s .3) in
+        let st′ = subst (λ (x : ℕ). (stops (walk (closingStep (hides σ t) x) 0 (drop (suc n) t)) ≡ true)
+        × (suc n + size (walk (closingStep (hides σ t) x) 0 (drop (suc n) t)) + 1 ≡ suc e)) m st in
+        let st″ = subst (λ (x : Bool). (stops (walk (closingStep x q) 0 (drop (suc n) t)) ≡ true)
+        × (suc n + size (walk (closingStep x q) 0 (drop (suc n) t)) + 1 ≡ suc e)) k st′ in
         body-stops t n h q (apart-of-mark q 0 (subst (λ (x : ℕ). isMark x ≡ true) m (opening-mark t n o)) mark-0) (st″ .0)
         (let z = st″ .1 in omega arith)
 
@@ -63,21 +67,22 @@ module _ (σ : Settings) (t : List ℕ) where
 
   opens-q : (b : ℕ) → eqb b quote ≡ true → (opening (b ∷ t) ≡ 1) × (hides σ (b ∷ t) ≡ σ .backslash)
   unfolding isMark
-  opens-q b h = subst (λ (c : ℕ). (opening (c ∷ t) ≡ 1) × (hides σ (c ∷ t) ≡ σ .backslash)) (sym (eqb→eq b quote (true→T (eqb b quote) h))) (refl, or-false (σ .backslash))
+  opens-q b h = subst (λ (c : ℕ). (opening (c ∷ t) ≡ 1) × (hides σ (c ∷ t) ≡ σ .backslash)) (sym (eqb-true b quote h)) (refl, or-false (σ .backslash))
 
   opens-d : (b : ℕ) → eqb b dquote ≡ true → (opening (b ∷ t) ≡ 1) × (hides σ (b ∷ t) ≡ σ .backslash)
   unfolding isMark
-  opens-d b h = subst (λ (c : ℕ). (opening (c ∷ t) ≡ 1) × (hides σ (c ∷ t) ≡ σ .backslash)) (sym (eqb→eq b dquote (true→T (eqb b dquote) h))) (refl, or-false (σ .backslash))
+  opens-d b h = subst (λ (c : ℕ). (opening (c ∷ t) ≡ 1) × (hides σ (c ∷ t) ≡ σ .backslash)) (sym (eqb-true b dquote h)) (refl, or-false (σ .backslash))
 
   hides-c : (b : ℕ) → eqb b (code "_") ≡ true → hides σ (b ∷ t) ≡ σ .backslash
-  hides-c b h = subst (λ (c : ℕ). hides σ (c ∷ t) ≡ σ .backslash) (sym (eqb→eq b (code "_") (true→T (eqb b (code "_")) h))) (or-false (σ .backslash))
+  hides-c b h = subst (λ (c : ℕ). hides σ (c ∷ t) ≡ σ .backslash) (sym (eqb-true b (code "_") h)) (or-false (σ .backslash))
 
   no-dollar : (b n : ℕ) → opening (b ∷ t) ≡ suc n → eqb b (code "$") ≡ false
   unfolding isMark
   no-dollar b n o = go (eqb b (code "$")) refl
     where
       go : (x : Bool) → eqb b (code "$") ≡ x → x ≡ false
-      go true k = absurd (let z : opening (36 ∷ t) ≡ suc n = subst (λ (c : ℕ). opening (c ∷ t) ≡ suc n) (eqb→eq b (code "$") (true→T (eqb b (code "$")) k)) o in omega arith)
+      go true k = absurd (let z : opening (36 ∷ t) ≡ suc n =
+          subst (λ (c : ℕ). opening (c ∷ t) ≡ suc n) (eqb-true b (code "$") k) o in omega arith)
       go false k = refl
 
 encloses-at : (n q : ℕ) (t : List ℕ) → encloses n q t ≡ true → eqb (t ! n) q ≡ true
@@ -104,7 +109,8 @@ module _ (σ : Settings) (b : ℕ) (t : List ℕ) (e : ℕ) (seg : segment σ (b
   refused-whole h = nul (has 0 (b ∷ t)) h
     where
       charset : (opening (b ∷ t) ≡ suc n) → (eqb b (code "_") ≡ true)
-          → valueOf (b ∷ t) (answer (opening (b ∷ t)) (length (b ∷ t) - 1) (walk (standardStep (σ .backslash) ((b ∷ t) ! (opening (b ∷ t) - 1))) 0 (part (opening (b ∷ t)) (length (b ∷ t) - 1) (b ∷ t)))) ≡ means v → ⊥
+          → valueOf (b ∷ t) (answer (opening (b ∷ t)) (length (b ∷ t) - 1)
+          (walk (standardStep (σ .backslash) ((b ∷ t) ! (opening (b ∷ t) - 1))) 0 (part (opening (b ∷ t)) (length (b ∷ t) - 1) (b ∷ t)))) ≡ means v → ⊥
       charset o k h =
           let j : suc n - 1 ≡ n = omega arith in
           standard-case σ (b ∷ t) e seg more n ((b ∷ t) ! n) o refl v (hides-c σ t b k) (rw (o, j) at h)
@@ -123,18 +129,18 @@ module _ (σ : Settings) (b : ℕ) (t : List ℕ) (e : ℕ) (seg : segment σ (b
           else dollarBy (b ∷ t) (delimiter (b ∷ t)))) ≡ means v → ⊥
       go true x2 x3 x4 x5 x6 e1 e2 e3 e4 e5 e6 h =
           let k = encloses-at 0 quote (b ∷ t) e1 in let p = opens-q σ t b k in
-          standard-case σ (b ∷ t) e seg more 0 quote (p .0) (eqb→eq b quote (true→T (eqb b quote) k)) v (p .1) h
+          standard-case σ (b ∷ t) e seg more 0 quote (p .0) (eqb-true b quote k) v (p .1) h
       go false true x3 x4 x5 x6 e1 e2 e3 e4 e5 e6 h =
           let k = encloses-at 0 dquote (b ∷ t) e2 in let p = opens-d σ t b k in
-          standard-case σ (b ∷ t) e seg more 0 dquote (p .0) (eqb→eq b dquote (true→T (eqb b dquote) k)) v (p .1) h
+          standard-case σ (b ∷ t) e seg more 0 dquote (p .0) (eqb-true b dquote k) v (p .1) h
       go false false true x4 x5 x6 e1 e2 e3 e4 e5 e6 h =
           let k = encloses-at 1 quote (b ∷ t) (and-right (has b (ascii "Ee")) (encloses 1 quote (b ∷ t)) e3) in
           let p = opens-e σ t b (and-left (has b (ascii "Ee")) (encloses 1 quote (b ∷ t)) e3) k in
-          escape-case σ (b ∷ t) e seg more v (p .0) (eqb→eq (t ! 0) quote (true→T (eqb (t ! 0) quote) k)) (p .1) h
+          escape-case σ (b ∷ t) e seg more v (p .0) (eqb-true (t ! 0) quote k) (p .1) h
       go false false false true x5 x6 e1 e2 e3 e4 e5 e6 h =
           let k = encloses-at 1 quote (b ∷ t) (and-right (has b (ascii "Nn")) (encloses 1 quote (b ∷ t)) e4) in
           let p = opens-n σ t b (and-left (has b (ascii "Nn")) (encloses 1 quote (b ∷ t)) e4) k in
-          standard-case σ (b ∷ t) e seg more 1 quote (p .0) (eqb→eq (t ! 0) quote (true→T (eqb (t ! 0) quote) k)) v (p .1) h
+          standard-case σ (b ∷ t) e seg more 1 quote (p .0) (eqb-true (t ! 0) quote k) v (p .1) h
       go false false false false true x6 e1 e2 e3 e4 e5 e6 h =
           charset o (and-left (eqb b (code "_")) (ltb 0 (opening (b ∷ t)))
           (and-left (eqb b (code "_") && ltb 0 (opening (b ∷ t))) (encloses (opening (b ∷ t) - 1) ((b ∷ t) ! (opening (b ∷ t) - 1)) (b ∷ t)) e5)) h
@@ -144,6 +150,7 @@ module _ (σ : Settings) (b : ℕ) (t : List ℕ) (e : ℕ) (seg : segment σ (b
       nul : (x : Bool) → valueOf (b ∷ t) (if x then refused 0 else read-as σ (b ∷ t) (spelling (b ∷ t))) ≡ means v → ⊥
       nul true h = fails≢means 0 v h
       nul false h =
-          go (encloses 0 quote (b ∷ t)) (encloses 0 dquote (b ∷ t)) (has b (ascii "Ee") && encloses 1 quote (b ∷ t)) (has b (ascii "Nn") && encloses 1 quote (b ∷ t))
+          go (encloses 0 quote (b ∷ t)) (encloses 0 dquote (b ∷ t)) (has b (ascii "Ee") && encloses 1 quote (b ∷ t))
+          (has b (ascii "Nn") && encloses 1 quote (b ∷ t))
           (eqb b (code "_") && ltb 0 (opening (b ∷ t)) && encloses (opening (b ∷ t) - 1) ((b ∷ t) ! (opening (b ∷ t) - 1)) (b ∷ t)) (isUnicode quote (b ∷ t))
           refl refl refl refl refl refl h

@@ -93,10 +93,12 @@ pub parts-there : (b : Bool) → Answered (chain (set b) (ascii "'") others) val
     (stringQuestion (all-of-it (chain (set b) (ascii "'") others)) (chain (set b) (ascii "'") others) (set b) (replicate 4 0))
 unfolding badSpan cutsCharacter within spell
 parts-there true =
-    parts-law on value (ascii "'") others (value-accepted true) value-cut (all-of-it (chain on (ascii "'") others)) (chain on (ascii "'") others) (replicate 4 0)
+    parts-law on value (ascii "'") others (value-accepted true) value-cut (all-of-it (chain on (ascii "'") others)) (chain on (ascii "'") others)
+    (replicate 4 0)
     refl (all-of (chain on (ascii "'") others) refl refl) (omega arith)
 parts-there false =
-    parts-law off value (ascii "'") others (value-accepted false) value-cut (all-of-it (chain off (ascii "'") others)) (chain off (ascii "'") others) (replicate 4 0)
+    parts-law off value (ascii "'") others (value-accepted false) value-cut (all-of-it (chain off (ascii "'") others)) (chain off (ascii "'") others)
+    (replicate 4 0)
     refl (all-of (chain off (ascii "'") others) refl refl) (omega arith)
 
 -- THE RULE FOR SEGMENTS: a segment alone

@@ -14,9 +14,9 @@ use Rattle.meaning.specs.declared.PartSize.the-variants.{Whole, AtMost}
 use Rattle.meaning.specs.Bytes.{if_then_else_, _!_, has, within}
 use Rattle.meaning.specs.Chars.{Due, due, broken, fresh, push, pushes, whole, utf8, lead, leads, width, widthBy}
 use Rattle.meaning.specs.Writer.{onFirst, partsFrom, partsOf, partTooSmall, overLimit, unwritableNul, writtenText, writes, writeQuestion}
+use Rattle.laws.proofs.Tests.{or-left, or-right}
 use Rattle.laws.proofs.Utf8.{pushes-append, pushes-broken, Rows, lead-row, Good, lead-good, push-good, fresh-good, later-lead}
 use Rattle.laws.proofs.Sequences.{utf8-split}
-use Rattle.laws.proofs.Ranges.{or-left, or-right}
 use Rattle.laws.proofs.Enclosed.{has-append}
 use Rattle.laws.proofs.Written.{writable}
 

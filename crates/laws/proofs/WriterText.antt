@@ -1,7 +1,7 @@
 -- [01 The writer] What the writer writes, whole or in parts, is UTF-8 and means the value, at the same setting; and how long it is. Assumes nothing.
 use mathlib.Core.Path.{_≡_, refl, ap, sym, _∙_}
 use mathlib.Core.Bool.{Bool, true, false, _&&_, _||_}
-use mathlib.Core.List.{List, [], _∷_, _++_, append-nil, append-assoc}
+use mathlib.Core.List.{List, [], _∷_, _++_, append-nil}
 use Prim.Native.Nat.{ℕ, _+_, _*_, _≤_, _<_}
 use native.Mathlib.Omega.{arith}
 use lib.Dec.{eqb}
@@ -15,7 +15,8 @@ use Rattle.meaning.specs.Writer.{spell, spells, literal, between, literals, par
 use Rattle.laws.proofs.Joining.{White}
 use Rattle.laws.proofs.JoiningLaw.{Accepts}
 use Rattle.laws.proofs.Parts.{Next, chain, all-of}
-use Rattle.laws.proofs.WriterParts.{concat, Every, Valid, Writable, Five, Parted, partsFrom-fills, partsOf-concat, partsOf-parts, nul-writable, Accepted, limit-length, limit-size}
+use Rattle.laws.proofs.WriterParts.{concat, Every, Valid, Writable, Five, Parted, partsFrom-fills, partsOf-concat, partsOf-parts, nul-writable, Accepted}
+use Rattle.laws.proofs.WriterParts.{limit-length, limit-size}
 use Rattle.laws.proofs.WrittenParts.{Each, chain-accepts}
 
 -- THE TEXT. One space is white space, so the parts are a chain
@@ -93,10 +94,6 @@ costs-most bs (b ∷ v) = omega (arith, cost-most bs b, costs-most bs v)
 pub costs-append : (bs : Bool) (u v : List ℕ) → costs bs (u ++ v) ≡ costs bs u + costs bs v
 costs-append bs [] v = omega arith
 costs-append bs (b ∷ u) v = omega (arith, costs-append bs u v)
-
-pub spells-append : (bs : Bool) (u v : List ℕ) → spells bs (u ++ v) ≡ spells bs u ++ spells bs v
-spells-append bs [] v = refl
-spells-append bs (b ∷ u) v = rw (spells-append bs u v, append-assoc)
 
 pub literal-length : (bs : Bool) (v : List ℕ) → length (literal bs v) ≡ costs bs v + 2
 literal-length bs v = omega (arith, length-append (spells bs v) (quote ∷ []), spells-length bs v)

@@ -5,7 +5,8 @@ use mathlib.Core.List.{List, [], _∷_, _++_, append-assoc, append-nil}
 use Prim.Native.Nat.{ℕ, _-_}
 use native.Mathlib.Nat.{zero-add}
 use native.Mathlib.Omega.{arith}
-use lib.Dec.{T, eqb, eqb→eq, ltb}
+use lib.Dec.{T, eqb, ltb}
+use borrow.Author.Tests.{eqb-true}
 use lib.ListN.{length, length-append}
 use lib.Seq.{drop-length}
 use Rattle.meaning.specs.declared.Settings.{Settings}
@@ -20,44 +21,36 @@ use Rattle.laws.proofs.Tests.{true→T, eqb-sym}
 use Rattle.laws.proofs.Enclosed.{has-append, encloses-body, part-body}
 use Rattle.laws.proofs.Walks.{walk-plain, walk-append, LocalIn, Inside, Exact, exact-append, exact-ends, graft, size-graft, stops-graft}
 
--- READING. The body means the value, and nothing stops
+-- READING. A byte's spelling is read as the byte, whatever follows
+module _ (b : ℕ) (t : List ℕ) where
+  spell-read : (bs : Bool) → (value (walk (standardStep bs quote) 0 (spell bs b ++ t)) ≡ b ∷ value (walk (standardStep bs quote) 0 t))
+      × (stops (walk (standardStep bs quote) 0 (spell bs b ++ t)) ≡ stops (walk (standardStep bs quote) 0 t))
+  unfolding spell doubled
+  spell-read true = go (eqb b quote) (eqb b backslash) (eqb b 0) refl refl refl
+    where
+      go : (x y z : Bool) → eqb b quote ≡ x → eqb b backslash ≡ y → eqb b 0 ≡ z
+          → (value (walk (standardStep true quote) 0 (spell true b ++ t)) ≡ b ∷ value (walk (standardStep true quote) 0 t))
+          × (stops (walk (standardStep true quote) 0 (spell true b ++ t)) ≡ stops (walk (standardStep true quote) 0 t))
+      go true y z ex ey ez = rw ex (ap (_∷ value (walk (standardStep true quote) 0 t)) (sym (eqb-true b quote ex)), refl)
+      go false true z ex ey ez = rw (ex, ey) (ap (_∷ value (walk (standardStep true quote) 0 t)) (sym (eqb-true b backslash ey)), refl)
+      go false false true ex ey ez = rw (ex, ey, ez) (ap (_∷ value (walk (standardStep true quote) 0 t)) (sym (eqb-true b 0 ez)), refl)
+      go false false false ex ey ez = rw (ex, ey, ez) (rw (ey, ex) (refl, refl))
+  spell-read false = go (eqb b quote) refl
+    where
+      go : (x : Bool) → eqb b quote ≡ x
+          → (value (walk (standardStep false quote) 0 (spell false b ++ t)) ≡ b ∷ value (walk (standardStep false quote) 0 t))
+          × (stops (walk (standardStep false quote) 0 (spell false b ++ t)) ≡ stops (walk (standardStep false quote) 0 t))
+      go true ex = rw ex (ap (_∷ value (walk (standardStep false quote) 0 t)) (sym (eqb-true b quote ex)), refl)
+      go false ex = rw (ex, ex) (refl, refl)
+
+-- so the body means the value, and nothing stops
 pub spells-value : (bs : Bool) (v : List ℕ) → value (walk (standardStep bs quote) 0 (spells bs v)) ≡ v
-unfolding spell doubled
 spells-value bs [] = refl
-spells-value true (b ∷ v) = go (eqb b quote) (eqb b backslash) (eqb b 0) refl refl refl (spells-value true v)
-  where
-    go : (x y z : Bool) → eqb b quote ≡ x → eqb b backslash ≡ y → eqb b 0 ≡ z
-        → value (walk (standardStep true quote) 0 (spells true v)) ≡ v
-        → value (walk (standardStep true quote) 0 (spell true b ++ spells true v)) ≡ b ∷ v
-    go true y z ex ey ez ih = rw ex (rw (eqb→eq b quote (subst T (sym ex) tt)) (ap (quote ∷_) ih))
-    go false true z ex ey ez ih = rw (ex, ey) (rw (eqb→eq b backslash (subst T (sym ey) tt)) (ap (backslash ∷_) ih))
-    go false false true ex ey ez ih = rw (ex, ey, ez) (rw (eqb→eq b 0 (subst T (sym ez) tt)) (ap (0 ∷_) ih))
-    go false false false ex ey ez ih = rw (ex, ey, ez) (rw (ey, ex) (ap (b ∷_) ih))
-spells-value false (b ∷ v) = go (eqb b quote) refl (spells-value false v)
-  where
-    go : (x : Bool) → eqb b quote ≡ x → value (walk (standardStep false quote) 0 (spells false v)) ≡ v
-        → value (walk (standardStep false quote) 0 (spell false b ++ spells false v)) ≡ b ∷ v
-    go true ex ih = rw ex (rw (eqb→eq b quote (subst T (sym ex) tt)) (ap (quote ∷_) ih))
-    go false ex ih = rw (ex, ex) (ap (b ∷_) ih)
+spells-value bs (b ∷ v) = spell-read b (spells bs v) bs .0 ∙ ap (b ∷_) (spells-value bs v)
 
 pub spells-goes : (bs : Bool) (v : List ℕ) → stops (walk (standardStep bs quote) 0 (spells bs v)) ≡ false
-unfolding spell doubled
 spells-goes bs [] = refl
-spells-goes true (b ∷ v) = go (eqb b quote) (eqb b backslash) (eqb b 0) refl refl refl (spells-goes true v)
-  where
-    go : (x y z : Bool) → eqb b quote ≡ x → eqb b backslash ≡ y → eqb b 0 ≡ z
-        → stops (walk (standardStep true quote) 0 (spells true v)) ≡ false
-        → stops (walk (standardStep true quote) 0 (spell true b ++ spells true v)) ≡ false
-    go true y z ex ey ez ih = rw ex ih
-    go false true z ex ey ez ih = rw (ex, ey) ih
-    go false false true ex ey ez ih = rw (ex, ey, ez) ih
-    go false false false ex ey ez ih = rw (ex, ey, ez) (rw (ey, ex) ih)
-spells-goes false (b ∷ v) = go (eqb b quote) refl (spells-goes false v)
-  where
-    go : (x : Bool) → eqb b quote ≡ x → stops (walk (standardStep false quote) 0 (spells false v)) ≡ false
-        → stops (walk (standardStep false quote) 0 (spell false b ++ spells false v)) ≡ false
-    go true ex ih = rw ex ih
-    go false ex ih = rw (ex, ex) ih
+spells-goes bs (b ∷ v) = spell-read b (spells bs v) bs .1 ∙ spells-goes bs v
 
 -- CLOSING. The search for the closing mark takes all of the body
 pub closing-local : (hides : Bool) (q : ℕ) (r : List ℕ) → eqb 0 q ≡ false → LocalIn (closingStep hides q) r
@@ -99,14 +92,16 @@ module _ (σ : Settings) (v r : List ℕ) (apart : eqb (r ! 0) quote ≡ false) 
   at-mark true = rw apart
   at-mark false = rw apart
 
-  closing-course : walk (closingStep (σ .backslash) quote) 0 (spells (σ .backslash) v ++ (quote ∷ r)) ≡ graft (walk (closingStep (σ .backslash) quote) 0 (spells (σ .backslash) v)) stopped
+  closing-course : walk (closingStep (σ .backslash) quote) 0 (spells (σ .backslash) v ++ (quote ∷ r))
+      ≡ graft (walk (closingStep (σ .backslash) quote) 0 (spells (σ .backslash) v)) stopped
   closing-course =
       walk-append (closingStep (σ .backslash) quote) (quote ∷ r) (closing-local (σ .backslash) quote (quote ∷ r) refl) 0 (spells (σ .backslash) v)
       (zero-add (size (walk (closingStep (σ .backslash) quote) 0 (spells (σ .backslash) v))) ∙ spells-exact (σ .backslash) v)
       ∙ ap (graft (walk (closingStep (σ .backslash) quote) 0 (spells (σ .backslash) v))) (at-mark (σ .backslash))
 
   ends : stops (walk (closingStep (σ .backslash) quote) 0 (spells (σ .backslash) v)) ≡ false
-  ends = exact-ends (closingStep (σ .backslash) quote) 0 (spells (σ .backslash) v) (zero-add (size (walk (closingStep (σ .backslash) quote) 0 (spells (σ .backslash) v))) ∙ spells-exact (σ .backslash) v)
+  ends = exact-ends (closingStep (σ .backslash) quote) 0 (spells (σ .backslash) v)
+      (zero-add (size (walk (closingStep (σ .backslash) quote) 0 (spells (σ .backslash) v))) ∙ spells-exact (σ .backslash) v)
 
   pub literal-segment : segment σ (literal (σ .backslash) v ++ r) ≡ length (literal (σ .backslash) v)
   unfolding segment isMark
@@ -163,19 +158,23 @@ answer-value f u step t v st e = go (plain (walk step 0 (part f u t))) refl
     go true p = rw p (ap means (sym (walk-plain step (part f u t) (true→T (plain (walk step 0 (part f u t))) p)) ∙ e))
     go false p = rw (p, st) (ap means e)
 
-pub literal-one : (σ : Settings) (v : List ℕ) → writable (σ .backslash) v ≡ true → valueOf (literal (σ .backslash) v) (one σ (literal (σ .backslash) v)) ≡ means v
+pub literal-one : (σ : Settings) (v : List ℕ) → writable (σ .backslash) v ≡ true
+    → valueOf (literal (σ .backslash) v) (one σ (literal (σ .backslash) v)) ≡ means v
 unfolding one spelling
 literal-one σ v w =
     rw (has-append 0 (spells (σ .backslash) v) (quote ∷ []), no-nul (σ .backslash) v w, encloses-body quote (spells (σ .backslash) v))
     (answer-value 1 (length (literal (σ .backslash) v) - 1) (standardStep (σ .backslash) quote) (literal (σ .backslash) v) v
-    (rw (part-body quote (spells (σ .backslash) v)) (spells-goes (σ .backslash) v)) (rw (part-body quote (spells (σ .backslash) v)) (spells-value (σ .backslash) v)))
+    (rw (part-body quote (spells (σ .backslash) v)) (spells-goes (σ .backslash) v))
+    (rw (part-body quote (spells (σ .backslash) v)) (spells-value (σ .backslash) v)))
 
 -- a text that is one whole segment is read as one
 pub lone : (σ : Settings) (t : List ℕ) → segment σ t ≡ length t → read σ t ≡ one σ t
 unfolding read continues isMark
 lone σ t e = rw (e, drop-length t, and-false (ltb 0 (length t)))
 
-pub round-trip : (σ : Settings) (v : List ℕ) → writable (σ .backslash) v ≡ true → valueOf (literal (σ .backslash) v) (read σ (literal (σ .backslash) v)) ≡ means v
+pub round-trip : (σ : Settings) (v : List ℕ) → writable (σ .backslash) v ≡ true
+    → valueOf (literal (σ .backslash) v) (read σ (literal (σ .backslash) v)) ≡ means v
 round-trip σ v w =
-    rw (lone σ (literal (σ .backslash) v) (subst (λ (t : List ℕ). segment σ t ≡ length (literal (σ .backslash) v)) (append-nil (literal (σ .backslash) v)) (literal-segment σ v [] refl)))
+    rw (lone σ (literal (σ .backslash) v) (subst (λ (t : List ℕ). segment σ t ≡ length (literal (σ .backslash) v)) (append-nil (literal (σ .backslash) v))
+    (literal-segment σ v [] refl)))
     (literal-one σ v w)

@@ -51,7 +51,9 @@ BetweenCharacters p (x ∷ xs) = (cutsCharacter (length p) (p ++ all-of (x .valu
 -- so cut, UTF-8 gives UTF-8 parts
 between-valid : (p : List ℕ) (xs : List Next) → Valid (all-of p xs) → BetweenCharacters p xs → Each Valid p xs
 between-valid p [] u b = u
-between-valid p (x ∷ xs) u b = let r = utf8-split p (all-of (x .value) xs) (uncut-begins p (all-of (x .value) xs) (b .0)) u in (r .0, between-valid (x .value) xs (r .1) (b .1))
+between-valid p (x ∷ xs) u b =
+    let r = utf8-split p (all-of (x .value) xs) (uncut-begins p (all-of (x .value) xs) (b .0)) u in
+    (r .0, between-valid (x .value) xs (r .1) (b .1))
 
 pub between-cuts : (v p : List ℕ) (xs : List Next) → utf8 v ≡ true → all-of p xs ≡ v → BetweenCharacters p xs → CutInto v p xs
 between-cuts v p xs u e b = record { valid = between-valid p xs (rw e u) b; together = e }
@@ -84,7 +86,8 @@ part-accepted : (σ : Settings) (q : List ℕ) → length q ≤ 268435456 → Va
 unfolding overLimit
 part-accepted σ q l u w = record { limit = rw (le-ltb 268435456 (length q) l); valid = u; nul = nul-free σ q w }
 
-each-accepted : (σ : Settings) (p : List ℕ) (xs : List Next) → length (all-of p xs) ≤ 268435456 → Each Valid p xs → AllWritable σ p xs → Each (Accepted σ Whole) p xs
+each-accepted : (σ : Settings) (p : List ℕ) (xs : List Next) → length (all-of p xs) ≤ 268435456 → Each Valid p xs → AllWritable σ p xs
+    → Each (Accepted σ Whole) p xs
 each-accepted σ p [] l u w = part-accepted σ p l u w
 each-accepted σ p (x ∷ xs) l u w =
     let n = length-append p (all-of (x .value) xs) in
@@ -94,11 +97,11 @@ pub parts-accepted : (σ : Settings) (v p : List ℕ) (xs : List Next) → Accep
 parts-accepted σ v p xs a c =
     each-accepted σ p xs (rw (c .together) (limit-length Whole v (a .limit))) (c .valid) (all-writable σ p xs (rw (c .together) (nul-writable σ v (a .nul))))
 
--- and what it writes of it, into any buffer, is the literal that the chain has there
-each-of : (P Q : List ℕ → Type 0) → ((q : List ℕ) → P q → Q q) → (p : List ℕ) (xs : List Next) → Each P p xs → Each Q p xs
+pub each-of : (P Q : List ℕ → Type 0) → ((q : List ℕ) → P q → Q q) → (p : List ℕ) (xs : List Next) → Each P p xs → Each Q p xs
 each-of P Q f p [] e = f p e
 each-of P Q f p (x ∷ xs) e = (f p (e .0), each-of P Q f (x .value) xs (e .1))
 
+-- and what it writes of it, into any buffer, is the literal that the chain has there
 pub parts-written : (σ : Settings) (v p : List ℕ) (xs : List Next) → Accepted σ Whole v → CutInto v p xs → (out : List ℕ)
     → Each (λ q. writeQuestion σ Whole q out ≡ writes (literal (σ .backslash) q) out) p xs
 unfolding writtenText

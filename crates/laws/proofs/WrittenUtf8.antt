@@ -4,13 +4,13 @@ use mathlib.Core.Bool.{Bool, true, false, _&&_}
 use mathlib.Core.List.{List, [], _∷_, _++_}
 use Prim.Native.Nat.{ℕ, _<_}
 use native.Mathlib.Omega.{arith}
-use lib.Dec.{eqb, eqb→eq}
+use lib.Dec.{eqb}
+use borrow.Author.Tests.{eqb-true}
 use Rattle.meaning.specs.Bytes.{if_then_else_, within, quote, backslash}
 use Rattle.meaning.specs.Chars.{Due, broken, fresh, push, pushes, whole, utf8, lead}
 use Rattle.meaning.specs.Writer.{spell, spells, literal}
-use Rattle.laws.proofs.Tests.{true→T}
-use Rattle.laws.proofs.Utf8.{pushes-append, utf8-append, Good, push-good, ascii-push, fresh-good}
-use Rattle.laws.proofs.Utf8.{low-lead}
+use Rattle.laws.proofs.Tests.{and-right}
+use Rattle.laws.proofs.Utf8.{pushes-append, utf8-append, Good, push-good, low-lead, ascii-push, fresh-good}
 
 pair-push : (d : Due) (a c b : ℕ) → Good d → a < 0x80 → c < 0x80 → b < 0x80 → push (push d a) c ≡ push d b
 pair-push d a c b g ha hc hb =
@@ -25,16 +25,14 @@ unfolding spell
 spell-push bs d b g = go (eqb b quote) (bs && eqb b backslash) (bs && eqb b 0) refl refl refl
   where
     is : (c : ℕ) → eqb b c ≡ true → b ≡ c
-    is c e = eqb→eq b c (true→T (eqb b c) e)
-
-    right : (x y : Bool) → (x && y) ≡ true → y ≡ true
-    right true y e = e
-    right false y e = absurd (true→T false e)
+    is c e = eqb-true b c e
 
     go : (x y z : Bool) → eqb b quote ≡ x → (bs && eqb b backslash) ≡ y → (bs && eqb b 0) ≡ z → pushes d (spell bs b) ≡ push d b
     go true y z ex ey ez = rw ex (pair-push d quote quote b g (omega arith) (omega arith) (let e = is quote ex in omega arith))
-    go false true z ex ey ez = rw (ex, ey) (pair-push d backslash backslash b g (omega arith) (omega arith) (let e = is backslash (right bs (eqb b backslash) ey) in omega arith))
-    go false false true ex ey ez = rw (ex, ey, ez) (pair-push d backslash 48 b g (omega arith) (omega arith) (let e = is 0 (right bs (eqb b 0) ez) in omega arith))
+    go false true z ex ey ez = rw (ex, ey) (pair-push d backslash backslash b g (omega arith) (omega arith)
+        (let e = is backslash (and-right bs (eqb b backslash) ey) in omega arith))
+    go false false true ex ey ez = rw (ex, ey, ez)
+        (pair-push d backslash 48 b g (omega arith) (omega arith) (let e = is 0 (and-right bs (eqb b 0) ez) in omega arith))
     go false false false ex ey ez = rw (ex, ey, ez)
 
 pub spells-push : (bs : Bool) (d : Due) (v : List ℕ) → Good d → pushes d (spells bs v) ≡ pushes d v
@@ -44,7 +42,8 @@ spells-push bs d (b ∷ v) g =
 
 pub literal-utf8 : (bs : Bool) (v : List ℕ) → utf8 v ≡ true → utf8 (literal bs v) ≡ true
 unfolding utf8 lead within
-literal-utf8 bs v h = utf8-append (quote ∷ []) (spells bs v ++ (quote ∷ [])) one-q ∙ utf8-append (spells bs v) (quote ∷ []) (ap whole′ (spells-push′ bs v) ∙ h) ∙ one-q
+literal-utf8 bs v h = utf8-append (quote ∷ []) (spells bs v ++ (quote ∷ [])) one-q ∙ utf8-append (spells bs v) (quote ∷ []) (ap whole′ (spells-push′ bs v) ∙ h)
+    ∙ one-q
   where
     one-q : utf8 (quote ∷ []) ≡ true
     one-q = refl

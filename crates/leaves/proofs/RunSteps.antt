@@ -90,7 +90,8 @@ run-kept p step k l at h e n en = record { room = room; each = each }
     each (suc j) q =
         let z : at + 1 + j ≡ at + suc j = omega arith in
         let i : at + suc j < length l = omega (arith, room) in
-        let b : p (l ! (at + suc j)) ≡ true = subst (λ (i : ℕ). p (l ! i) ≡ true) z (ap p (sym (getD-drop (at + 1) l j 0)) ∙ span-each p (drop (at + 1) l) j (omega (arith, en))) in
+        let b : p (l ! (at + suc j)) ≡ true = subst (λ (i : ℕ). p (l ! i) ≡ true) z
+        (ap p (sym (getD-drop (at + 1) l j 0)) ∙ span-each p (drop (at + 1) l) j (omega (arith, en))) in
         ap step (drop-cons l (at + suc j) 0 i) ∙ k (l ! (at + suc j)) (drop (suc (at + suc j)) l) b
 
 -- A CLASS by its case

@@ -10,7 +10,6 @@ use lib.Seq.{drop-cons, drop-drop}
 use borrow.Author.Tests.{eq-eqb, ne-eqb, eqb-true, eqb-false, not-true, not-false}
 use Rattle.meaning.specs.Bytes.{if_then_else_, has, span}
 use Rattle.laws.proofs.Tests.{and-left, and-right, eqb-sym}
-use Rattle.leaves.specs.declared.blocks.Stops.{Stops}
 use Rattle.leaves.specs.Blocks.{freeOf, passes, Past}
 
 pub passes-append : (p : ℕ → Bool) (m n k : ℕ) (t : List ℕ) → k ≡ m + n → passes p k t ≡ (passes p m t && passes p n (drop m t))
@@ -53,7 +52,8 @@ module _ {p : ℕ → Bool} {n : ℕ} {s : List ℕ} {at c j : ℕ} (v : Countin
   pub counting-on : j < n → (x : Bool) → x ≡ p (getD s (at + j) 0) → (k : ℕ) → k ≡ (if x then 1 else 0) → Counting p n s at (c + k) (j + 1)
   counting-on h x e k ek =
       let l : at + j < length s = omega (arith, v .room) in
-      let one : passes p 1 (drop j (drop at s)) ≡ x = ap (passes p 1) (drop-drop j at s ∙ drop-cons s (at + j) 0 l) ∙ and-true (p (getD s (at + j) 0)) ∙ sym e in
+      let one : passes p 1 (drop j (drop at s)) ≡ x = ap (passes p 1) (drop-drop j at s ∙ drop-cons s (at + j) 0 l) ∙ and-true (p (getD s (at + j) 0))
+      ∙ sym e in
       record {
         inside = omega arith;
         room = v .room;

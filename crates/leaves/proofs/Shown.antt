@@ -8,7 +8,6 @@ use lib.ListN.{length, take, drop}
 use borrow.Author.Tests.{le-leb, lt-leb}
 use Rattle.meaning.specs.declared.Read.{Read}
 use Rattle.meaning.specs.declared.Read.the-variants as Read′
-use Rattle.meaning.specs.Bytes.{if_then_else_, part}
 use Rattle.meaning.specs.Answers.{partShown}
 use Rattle.meaning.specs.Reads.{readShown}
 

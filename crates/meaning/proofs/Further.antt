@@ -13,9 +13,11 @@ use Rattle.meaning.specs.Numbers.{signLength, isMinus, baseBy, radixPref
 use Rattle.meaning.specs.Kinds.{bitBody, bits, money, tokenStart, quoteToken, temporalToken, temporal, charsetEnd}
 use Rattle.meaning.specs.Helpers.{uescapeLegal, escapeValid, unicodeValid, ident}
 use Rattle.meaning.specs.Answers.{partShown, filled}
-use Rattle.meaning.specs.Questions.{cutsCharacter, badSpan, sourceText, tested, stringQuestion, decimalQuestion, bitsQuestion, temporalQuestion, sourceQuestion, moneyQuestion, charsetQuestion, i64Question, identifierQuestion}
+use Rattle.meaning.specs.Questions.{cutsCharacter, badSpan, sourceText, tested, stringQuestion, decimalQuestion, bitsQuestion, temporalQuestion}
+use Rattle.meaning.specs.Questions.{sourceQuestion, moneyQuestion, charsetQuestion, i64Question, identifierQuestion}
 use Rattle.meaning.specs.Records.{line, goodRecord, recordLine, output}
-use Rattle.meaning.proofs.Rows.{Row, asks, spans, helps, names, prints, string, decimal-text, bit-text, temporal-text, source-text, charset, i64, escape-valid, borrows, writes, plus, refuses, all}
+use Rattle.meaning.proofs.Rows.{Row, asks, spans, helps, names, prints, string, decimal-text, bit-text, temporal-text, source-text, charset, i64}
+use Rattle.meaning.proofs.Rows.{escape-valid, borrows, writes, plus, refuses, all}
 
 -- [01 Examples] without a star
 abbrev pub examples : List Row
@@ -38,7 +40,8 @@ postgres =
     names "U&\"d!0061t!+000061\" UESCAPE '!'" (writes 0 "data") ∷
     asks (string false) 4 "" "$$Dianne's horse$$" "" (borrows 2 16 "Dianne's horse") ∷
     asks (string false) 4 "" "$SomeTag$Dianne's horse$SomeTag$" "" (borrows 9 23 "Dianne's horse") ∷
-    asks (string false) 4 "" "$function$\nBEGIN\n    RETURN ($1 ~ $q$[\\t\\r\\n\\v\\\\]$q$);\nEND;\n$function$" "" (borrows 10 60 "\nBEGIN\n    RETURN ($1 ~ $q$[\\t\\r\\n\\v\\\\]$q$);\nEND;\n") ∷
+    asks (string false) 4 "" "$function$\nBEGIN\n    RETURN ($1 ~ $q$[\\t\\r\\n\\v\\\\]$q$);\nEND;\n$function$" ""
+    (borrows 10 60 "\nBEGIN\n    RETURN ($1 ~ $q$[\\t\\r\\n\\v\\\\]$q$);\nEND;\n") ∷
     asks bit-text 12 "" "B'1001'" "" (borrows 2 6 "1001") ∷
     asks bit-text 13 "" "X'1FF'" "" (borrows 2 5 "1FF") ∷
     asks i64 1 "" "42" "" (plus 42) ∷
@@ -172,7 +175,8 @@ records =
     prints "\u{5}\u{e}\0\u{1}1" 59 "" "8 - 0 -\n" ∷
     prints "\u{3}\u{3}\0\u{4}0x_1" 56 "" "5 - 0 -\n" ∷
     prints "\u{2}\u{1}\0\u{13}9223372036854775807" 41 "" "0 i 9223372036854775807 -\n" ∷
-    prints "\u{1}\u{4}\0<'aaaaaaaaaaaaaaaaaaaaaaaaaaaaaaaaaaaaaaaaaaaaaaaaaaaaaaaaaa'" 0 "" "0 b 58 61616161616161616161616161616161616161616161616161616161616161616161616161616161616161616161616161616161616161616161\n" ∷
+    prints "\u{1}\u{4}\0<'aaaaaaaaaaaaaaaaaaaaaaaaaaaaaaaaaaaaaaaaaaaaaaaaaaaaaaaaaa'" 0 ""
+    "0 b 58 61616161616161616161616161616161616161616161616161616161616161616161616161616161616161616161616161616161616161616161\n" ∷
     prints "\u{1}\u{4}\0\u{2}''x" 57 "" "10 - 0 -\n" ∷
     prints "\u{1}\u{4}\0\u{1}''" 58 "" "10 - 0 -\n" ∷ []
 
@@ -180,5 +184,9 @@ abbrev pub rows : List Row
 rows = examples ++ (postgres ++ (mysql ++ (ranges ++ (broken-texts ++ (escapes ++ (cut-places ++ records))))))
 
 pub rows-right : T (all rows)
-unfolding within isMark isLetter isDecimal inName startsTag inTag digit allDigits lead utf8 more encode isScalar width isSpace doubled oneByte mayEscape scalarBy pair lowHalf uescaped named segment segmentStep cut continues encloses argument upper isUnicode unicodeSpelling delimiter spelling answer one read signLength isMinus baseBy radixPrefix parsed separated radixValue i64Of digitsBy digitsOf decimalOf bitBody bits money tokenStart quoteToken temporalToken temporal charsetEnd uescapeLegal escapeValid unicodeValid ident partShown filled cutsCharacter badSpan sourceText tested stringQuestion decimalQuestion bitsQuestion temporalQuestion sourceQuestion moneyQuestion charsetQuestion i64Question identifierQuestion line goodRecord recordLine output
+unfolding within isMark isLetter isDecimal inName startsTag inTag digit allDigits lead utf8 more encode isScalar width isSpace doubled oneByte mayEscape
+    scalarBy pair lowHalf uescaped named segment segmentStep cut continues encloses argument upper isUnicode unicodeSpelling delimiter spelling answer one read
+    signLength isMinus baseBy radixPrefix parsed separated radixValue i64Of digitsBy digitsOf decimalOf bitBody bits money tokenStart quoteToken temporalToken
+    temporal charsetEnd uescapeLegal escapeValid unicodeValid ident partShown filled cutsCharacter badSpan sourceText tested stringQuestion decimalQuestion
+    bitsQuestion temporalQuestion sourceQuestion moneyQuestion charsetQuestion i64Question identifierQuestion line goodRecord recordLine output
 rows-right = tt

@@ -23,10 +23,13 @@ use Rattle.meaning.specs.declared.Identifier.the-variants as Identifier�
 use Rattle.meaning.specs.declared.Writing.{Writing}
 use Rattle.meaning.specs.declared.Writing.the-variants as Writing′
 use Rattle.meaning.specs.Bytes.{ascii, same}
-use Rattle.meaning.specs.Answers.{Outcome, kindCode, payload, refusalValues, textNumber, textValues, rangeNumber, rangeValues, charsetNumber, charsetValues, integerNumber, integerValues, truthNumber, truthValues, nullnessNumber, nullnessValues, identifierNumber, identifierValues, writingNumber, writingValues, partShown, shown, rangeShown, charsetShown}
+use Rattle.meaning.specs.Answers.{Outcome, kindCode, payload, refusalValues, textNumber, textValues, rangeNumber, rangeValues, charsetNumber}
+use Rattle.meaning.specs.Answers.{charsetValues, integerNumber, integerValues, truthNumber, truthValues, nullnessNumber, nullnessValues, identifierNumber}
+use Rattle.meaning.specs.Answers.{identifierValues, writingNumber, writingValues, partShown, shown, rangeShown, charsetShown}
 use Rattle.meaning.specs.Numbers.{radixPrefix}
 use Rattle.meaning.specs.Helpers.{uescapeLegal, escapeValid, unicodeValid, embedsNul, isUnicodeIdent}
-use Rattle.meaning.specs.Questions.{stringQuestion, plainQuestion, decimalQuestion, bitsQuestion, temporalQuestion, sourceQuestion, moneyQuestion, charsetQuestion, i64Question, boolQuestion, nullQuestion, identifierQuestion}
+use Rattle.meaning.specs.Questions.{stringQuestion, plainQuestion, decimalQuestion, bitsQuestion, temporalQuestion, sourceQuestion, moneyQuestion}
+use Rattle.meaning.specs.Questions.{charsetQuestion, i64Question, boolQuestion, nullQuestion, identifierQuestion}
 use Rattle.meaning.specs.Writer.{writeQuestion}
 use Rattle.meaning.specs.Records.{kindOf, output}
 

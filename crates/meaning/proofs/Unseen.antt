@@ -17,7 +17,8 @@ use Rattle.meaning.specs.declared.LiteralKind.the-variants as Kind
 use Rattle.meaning.specs.declared.LiteralExpected.the-variants as Expected
 use Rattle.meaning.specs.declared.Span.{Span}
 use Rattle.meaning.specs.declared.Refusal.{Refusal}
-use Rattle.meaning.specs.declared.Refusal.the-variants.{WrongKind, MissingSource, InvalidSourceRange, NotUtf8, InvalidInteger, InvalidString, InvalidBitString, InvalidMoney, NoRoom}
+use Rattle.meaning.specs.declared.Refusal.the-variants.{WrongKind, MissingSource, InvalidSourceRange, NotUtf8, InvalidInteger, InvalidString}
+use Rattle.meaning.specs.declared.Refusal.the-variants.{InvalidBitString, InvalidMoney, NoRoom}
 use Rattle.meaning.specs.declared.Text.{Text}
 use Rattle.meaning.specs.declared.Text.the-variants as Text′
 use Rattle.meaning.specs.declared.Range.{Range}
@@ -34,7 +35,8 @@ use Rattle.meaning.specs.Cutting.{named, segment, segmentStep, cut, comp
 use Rattle.meaning.specs.Spelling.{encloses, argument, upper, isUnicode, unicodeSpelling, delimiter, spelling}
 use Rattle.meaning.specs.Reading.{Answer, borrowed, written, refused, answer, one, read}
 use Rattle.meaning.specs.Kinds.{bitBody, bits, tokenStart, quoteToken, temporalToken, temporal}
-use Rattle.meaning.specs.Answers.{kindCode, payload, fieldCode, refusalNumber, refusalValues, textNumber, rangeNumber, charsetNumber, integerNumber, integerValues, truthNumber, truthValues, nullnessNumber, nullnessValues, partShown, shown, rangeShown, charsetShown}
+use Rattle.meaning.specs.Answers.{kindCode, payload, fieldCode, refusalNumber, refusalValues, textNumber, rangeNumber, charsetNumber, integerNumber}
+use Rattle.meaning.specs.Answers.{integerValues, truthNumber, truthValues, nullnessNumber, nullnessValues, partShown, shown, rangeShown, charsetShown}
 use Rattle.meaning.specs.Records.{kindOf}
 use Rattle.meaning.proofs.Rows.{equal, signAndSize}
 
@@ -82,7 +84,8 @@ abbrev pub cutting : List Fact
 cutting =
     cuts false "''" true ∷ cuts false "'a' " false ∷ cuts false "'a' 'b'" true ∷ cuts false "'a' 'b' " true ∷ cuts false "'a'\"b\"" true ∷
     cuts false "'a''b'" true ∷ cuts false " 'a'" false ∷ cuts false " 'a' 'b'" false ∷ cuts false "" false ∷ cuts false " " false ∷ cuts false "'" false ∷
-    cuts false "'a' x" false ∷ cuts false "'a' 'b' x" false ∷ cuts false "'a' 'b" false ∷ cuts false "''E''" true ∷ cuts false "'a' B'0' x'1' _c\"d\" n'e'" true ∷
+    cuts false "'a' x" false ∷ cuts false "'a' 'b' x" false ∷ cuts false "'a' 'b" false ∷ cuts false "''E''" true ∷
+    cuts false "'a' B'0' x'1' _c\"d\" n'e'" true ∷
     cuts false "$$a$$" false ∷ cuts false "U&'a'" true ∷ cuts false "U&'a' " false ∷ cuts false "U&'a'UESCAPE'!'" false ∷ cuts true "U&'a'UESCAPE'!'" false ∷
     cuts false "U&'\\'" true ∷ cuts true "U&'\\'" false ∷ cuts false "'\\'" true ∷ cuts true "'\\'" false ∷ cuts true "'\\''" true ∷
     cuts false "E'\\''" true ∷ cuts true "e'\\'' 'b'" true ∷ cuts false "e'\\'' 'b'" true ∷ cuts false "'a'ã\u{80}\u{80}'b'" true ∷ []
@@ -162,5 +165,7 @@ views =
     name-shows Charset′.Unnamed "abc" "" ∷ name-shows (Charset′.Refused (NotUtf8 here)) "abc" "" ∷ []
 
 pub facts-hold : T (allHold cutting && allHold places && allHold blanks && allHold kinds && allHold numbers && allHold views)
-unfolding within isMark isLetter isDecimal inName startsTag inTag digit allDigits lead utf8 more encode isScalar isSpace doubled oneByte mayEscape scalarBy pair lowHalf uescaped named segment segmentStep cut complete continues encloses argument upper isUnicode unicodeSpelling delimiter spelling answer one read bitBody bits tokenStart quoteToken temporalToken temporal partShown
+unfolding within isMark isLetter isDecimal inName startsTag inTag digit allDigits lead utf8 more encode isScalar isSpace doubled oneByte mayEscape scalarBy pair
+    lowHalf uescaped named segment segmentStep cut complete continues encloses argument upper isUnicode unicodeSpelling delimiter spelling answer one read
+    bitBody bits tokenStart quoteToken temporalToken temporal partShown
 facts-hold = tt

@@ -56,14 +56,14 @@ pastLast q [] = 0
 pastLast q (b ∷ t) = lastBy (eqb b q) (pastLast q t)
 
 -- one more than the place where p first stands; 0 if it does not
-abbrev pub foundBy : Bool → ℕ → ℕ
-foundBy true n = 1
-foundBy false zero = 0
-foundBy false (suc n) = suc (suc n)
+abbrev pub placeBy : Bool → ℕ → ℕ
+placeBy true n = 1
+placeBy false zero = 0
+placeBy false (suc n) = suc (suc n)
 
 abbrev pub found : List ℕ → List ℕ → ℕ
 found p [] = 0
-found p (b ∷ t) = foundBy (starts p (b ∷ t)) (found p t)
+found p (b ∷ t) = placeBy (starts p (b ∷ t)) (found p t)
 
 pub data Token : Type 0 where
   token : ℕ → ℕ → Token

@@ -74,16 +74,16 @@ unsigned t = drop (signLength t) t
 abbrev pub baseOf : List ℕ → ℕ
 baseOf t = radixPrefix (unsigned t) .base
 
-abbrev pub bodyOf : List ℕ → List ℕ
-bodyOf t = drop (radixPrefix (unsigned t) .start) (unsigned t)
+abbrev pub numberBody : List ℕ → List ℕ
+numberBody t = drop (radixPrefix (unsigned t) .start) (unsigned t)
 
 unfoldable pub separated : List ℕ → Bool
-separated t = placed (baseOf t) 0 (bodyOf t)
+separated t = placed (baseOf t) 0 (numberBody t)
 
 -- "with a radix the value behind the first sign must fit before negation, and the result after it"; the second sign that is legal
 -- after a prefix is `parsed`'s
 unfoldable pub radixValue : ℕ → List ℕ → Parsed
-radixValue k t = within-bits k (negatedBy (isMinus t) (parsed k (baseOf t) (strip (bodyOf t))))
+radixValue k t = within-bits k (negatedBy (isMinus t) (parsed k (baseOf t) (strip (numberBody t))))
 
 -- i64
 unfoldable pub i64Of : List ℕ → Parsed

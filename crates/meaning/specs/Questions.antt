@@ -12,7 +12,8 @@ use Rattle.meaning.specs.declared.LiteralExpected.the-variants as Expect
 use Rattle.meaning.specs.declared.Span.{Span}
 use Rattle.meaning.specs.declared.Literal.{Literal}
 use Rattle.meaning.specs.declared.Refusal.{Refusal}
-use Rattle.meaning.specs.declared.Refusal.the-variants.{WrongKind, MissingSource, InvalidSourceRange, NotUtf8, InvalidInteger, InvalidString, InvalidBitString, InvalidMoney, NoRoom}
+use Rattle.meaning.specs.declared.Refusal.the-variants.{WrongKind, MissingSource, InvalidSourceRange, NotUtf8, InvalidInteger, InvalidString}
+use Rattle.meaning.specs.declared.Refusal.the-variants.{InvalidBitString, InvalidMoney, NoRoom}
 use Rattle.meaning.specs.declared.Text.{Text}
 use Rattle.meaning.specs.declared.Text.the-variants as Text′
 use Rattle.meaning.specs.declared.Range.{Range}

@@ -85,8 +85,8 @@ integerLine (Integer′.Value z) = line 0 (code "i") (printed z) []
 integerLine (Integer′.Refused r) = refusedLine (refusalNumber r)
 
 -- THE QUESTION, by its byte, on a text that is the source; "the buffer has 64 bytes"
-abbrev pub whole : ℕ → List ℕ → Literal
-whole kind t = record { kind = kindOf kind; synthetic = false; span = record { start = 0; end = length t } }
+abbrev pub wholeLiteral : ℕ → List ℕ → Literal
+wholeLiteral kind t = record { kind = kindOf kind; synthetic = false; span = record { start = 0; end = length t } }
 
 abbrev pub room : List ℕ
 room = replicate 64 0
@@ -115,7 +115,7 @@ textIn r = part 4 (4 + (r ! 3)) r
 
 unfoldable pub recordLine : List ℕ → List ℕ
 recordLine r =
-    if goodRecord r then asked (r ! 0) (whole (r ! 1) (textIn r)) (record { backslash = eqb (r ! 2) 1 }) (textIn r) else refusedLine 10
+    if goodRecord r then asked (r ! 0) (wholeLiteral (r ! 1) (textIn r)) (record { backslash = eqb (r ! 2) 1 }) (textIn r) else refusedLine 10
 
 -- THE PROGRAM: a line for each 64 bytes, and one for a short last record; nothing for no input
 abbrev pub recordStep : List ℕ → Step

@@ -32,12 +32,12 @@ abbrev pub legalEscape : List ℕ → Bool
 legalEscape [] = false
 legalEscape (b ∷ t) = isOne (lead b) t && ltb 15 (digit b) && not (has b (ascii "+'\"")) && eqb (space (b ∷ t)) 0
 
-abbrev pub argumentOf : Trace → List ℕ
-argumentOf r = if not (stops r) && legalEscape (value r) then value r else []
+abbrev pub argumentBy : Trace → List ℕ
+argumentBy r = if not (stops r) && legalEscape (value r) then value r else []
 
 -- the escape character's bytes by a quoted argument, which is read with the setting off; []: it is no legal argument
 unfoldable pub argument : List ℕ → List ℕ
-argument a = if encloses 0 quote a then argumentOf (walk (standardStep false quote) 0 (part 1 (length a - 1) a)) else []
+argument a = if encloses 0 quote a then argumentBy (walk (standardStep false quote) 0 (part 1 (length a - 1) a)) else []
 
 unfoldable pub upper : ℕ → ℕ
 upper b = if within 97 122 b then b - 32 else b

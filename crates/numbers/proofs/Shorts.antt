@@ -15,7 +15,7 @@ use mir.Syntax.{w64}
 use mir.Val.{Fits}
 use Rattle.meaning.specs.Bytes.{if_then_else_, _!_, within, digit, number, allDigits}
 use Rattle.meaning.specs.Numbers.{signLength, isMinus, baseBy, radixPrefix}
-use Rattle.laws.proofs.Tests.{within-bounds}
+use Rattle.laws.proofs.Tests.{within-bounds, if-same}
 use Rattle.laws.proofs.Digits.{DigitsTo, allDigits-of, allDigits-at, number-suc, number-lt}
 use Rattle.numbers.specs.Values.{spelt, digitsFrom, shortOf}
 use Rattle.numbers.specs.declared.digits.Magnitude.the-variants as M
@@ -137,11 +137,7 @@ second (b ∷ c ∷ t) all = ten-digit c (all 1 (omega arith)) .1
 
 pub short-base : (t : List ℕ) → DigitsTo 10 (length t) t → radixPrefix t .base ≡ 10
 unfolding radixPrefix
-short-base t all = rw (no-base (t ! 1) (second t all)) (go (eqb (t ! 0) (code "0")))
-  where
-    go : (x : Bool) → _≡_ {A = ℕ} (if x then 10 else 10) 10
-    go true = refl
-    go false = refl
+short-base t all = rw (no-base (t ! 1) (second t all)) (if-same (eqb (t ! 0) (code "0")) 10)
 
 pub short-spelt : (t : List ℕ) → 0 < length t → DigitsTo 10 (length t) t → digitsFrom 10 0 false t ≡ spelt (number 10 (length t) 0 t)
 short-spelt [] p all = absurd (let n : ⊥ = omega arith in n)

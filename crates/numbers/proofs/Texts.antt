@@ -11,7 +11,8 @@ use lib.ListN.{length, take, drop}
 use Rattle.meaning.specs.declared.RadixPrefix.{RadixPrefix}
 use Rattle.meaning.specs.Bytes.{if_then_else_, _!_, ascii, has, within, digit}
 use Rattle.meaning.specs.Numbers.{signLength, isMinus, baseBy, radixPrefix, placed, strip, none}
-use Rattle.meaning.specs.Numbers.{parsed, within-bits, negatedBy, unsigned, baseOf, bodyOf, separated, radixValue}
+use Rattle.meaning.specs.Numbers.{parsed, within-bits, negatedBy, unsigned, baseOf, numberBody, separated, radixValue}
+use Rattle.laws.proofs.Tests.{if-same}
 use Rattle.numbers.specs.Values.{parsedApart}
 use Rattle.numbers.proofs.Prefixes.{tail-part}
 
@@ -48,11 +49,7 @@ is-base u = go (eqb (u ! 0) (code "0"))
 pub radix-long : (u : List ℕ) → (radixPrefix u .base ≡ 10 → ⊥) → 2 ≤ length u
 unfolding radixPrefix baseBy
 radix-long [] n = absurd (n refl)
-radix-long (b ∷ []) n = absurd (n (go (eqb b (code "0"))))
-  where
-    go : (x : Bool) → _≡_ {A = ℕ} (if x then 10 else 10) 10
-    go true = refl
-    go false = refl
+radix-long (b ∷ []) n = absurd (n (if-same (eqb b (code "0")) 10))
 radix-long (b ∷ c ∷ u) n = omega arith
 
 -- SEPARATORS. The byte before counts only as a digit or none
@@ -79,7 +76,7 @@ module _ (t : List ℕ) where
 
   -- A RADIX
   module _ (n : baseOf t ≡ 10 → ⊥) where
-    pub body-radix : bodyOf t ≡ drop 2 (unsigned t)
+    pub body-radix : numberBody t ≡ drop 2 (unsigned t)
     body-radix = rw (start-is (unsigned t), ne-eqb (baseOf t) 10 n)
 
     pub radix-apart : (k : ℕ) → (if not (separated t) then none else radixValue k t)

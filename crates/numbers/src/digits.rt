@@ -4,7 +4,7 @@ ghost use mathlib.Core.Bool.{false};
 ghost use Rattle.numbers.specs.Values.{digitsFrom, magnitudeOf, shortOf};
 
 // A number, or a refusal.
-pub enum Magnitude {
+pub(crate) enum Magnitude {
     Value(u64),
     Refused,
 }

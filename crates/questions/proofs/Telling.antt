@@ -25,7 +25,7 @@ use Rattle.laws.proofs.Ranges.{read-inside}
 use Rattle.spans.specs.declared.tests.Tested.{Tested}
 use Rattle.spans.specs.declared.tests.Tested.the-variants.{Passes, Barred}
 use Rattle.spans.specs.Tests.{Tests}
-use Rattle.questions.specs.Told.{toldBy, InText, baseBy}
+use Rattle.questions.specs.Told.{toldBy, InText, bitBaseBy}
 use Rattle.questions.proofs.Moved.{fits-text, told-meets, told-barred}
 use Rattle.bits.proofs.Inside.{bits-inside}
 use Rattle.questions.proofs.Inside.{decimal-inside, temporal-inside}
@@ -67,7 +67,7 @@ module _ {l : Literal} {S : List ℕ} {r : Tested} {code : ℕ} (c : code ≡ ki
     unfolding decimalQuestion
     decimal-barred out w q = rw (← c) (told-barred decimalOf InvalidInteger v out w q)
 
-  module _ (β : ℕ) (b : β ≡ baseBy code) (v : Tests l S r (tested (ltb 0 β) Expected.BitString l S)) where
+  module _ (β : ℕ) (b : β ≡ bitBaseBy code) (v : Tests l S r (tested (ltb 0 β) Expected.BitString l S)) where
     pub bits-told : (s e : ℕ) → r ≡ Passes s e → (out after : List ℕ) (d : Read) → Reads (bits β (part s e S)) out d after → (a : Text)
         → a ≡ toldBy (InvalidBitString (l .span)) s d → Meets (bitsQuestion l S out) a after
     unfolding bitsQuestion

@@ -31,5 +31,5 @@ pub record InText (s : ℕ) (q : Read) : Type 0 where
   pub last : (f u : ℕ) → q ≡ Borrowed f u → s + u < 2 ^ 64
 
 -- a bit string's base by its kind's code; 0 for any other kind
-abbrev pub baseBy : ℕ → ℕ
-baseBy c = if eqb c 12 then 2 else if eqb c 13 then 16 else 0
+abbrev pub bitBaseBy : ℕ → ℕ
+bitBaseBy c = if eqb c 12 then 2 else if eqb c 13 then 16 else 0

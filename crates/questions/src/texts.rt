@@ -15,7 +15,7 @@ use strings::joined::read_string;
 ghost use mathlib.Core.Path.{_≡_};
 ghost use Rattle.meaning.specs.Answers.{Meets};
 ghost use Rattle.meaning.specs.Questions.{stringQuestion, plainQuestion, decimalQuestion, bitsQuestion, temporalQuestion};
-ghost use Rattle.questions.specs.Told.{InText, toldBy, baseBy};
+ghost use Rattle.questions.specs.Told.{InText, toldBy, bitBaseBy};
 
 // A reading of the text at a place of the source, told of the source; `bad` is why a refused one is refused.
 fn text_of(read: Read, start: usize, bad: Refusal) -> Text
@@ -77,7 +77,7 @@ pub fn as_decimal_text(literal: Literal, source: &[u8], out: &mut [u8]) -> Text
 
 // The base of a bit string's digits, by its kind's code; 0 for any other kind.
 fn bit_base(code: u32) -> u8
-    ensures { λ r. ⌜ r ≡ baseBy code ⌝ }
+    ensures { λ r. ⌜ r ≡ bitBaseBy code ⌝ }
 {
     if code == 12 {
         return 2;

@@ -1,29 +1,22 @@
 -- The decimal digits of a number of 64 bits, from the end of 21 bytes back. Assumes nothing.
-use mathlib.Core.Path.{_≡_, refl, ap, sym, _∙_, subst}
+use mathlib.Core.Path.{_≡_, ap, sym, _∙_}
 use mathlib.Core.List.{List, [], _∷_, _++_, append-assoc, append-nil}
-use Prim.Native.Nat.{ℕ, suc, _+_, _-_, _/_, _%_, _^_, _≤_, _<_}
+use Prim.Native.Nat.{ℕ, suc, _+_, _-_, _/_, _%_, _≤_, _<_}
 use native.Mathlib.Nat.{lt-of-lt-of-le}
 use native.Mathlib.Omega.{arith}
 use mir.Syntax.{w64}
 use mir.Val.{Fits}
 use lib.Dec.{lit≤}
 use lib.ListN.{length, drop, set, length-append, length-set, drop-of-length-le}
-use lib.Seq.{drop-cons, drop-set-lt, getD-set-same}
 use Rattle.meaning.specs.Numbers.{digitsOf}
-use Rattle.laws.proofs.Halves.{small-or, digitsOf-small, digitsOf-step, digitsOf-length}
+use Rattle.laws.proofs.Halves.{small-or, digitsOf-small, digitsOf-step, digitsOf-more, digitsOf-length}
+use Rattle.laws.proofs.Lists.{drop-set-here}
 use Rattle.records.specs.Adding.{EndsIn}
 
 some : (n : ℕ) → 1 ≤ length (digitsOf n)
 some n =
     small-or n (λ h. rw (digitsOf-small n h) (omega arith))
     (λ h. rw (digitsOf-step n h, length-append) (omega arith))
-
-one-more : (n : ℕ) → 10 ≤ n → length (digitsOf n) ≡ length (digitsOf (n / 10)) + 1
-one-more n h = ap length (digitsOf-step n h) ∙ length-append (digitsOf (n / 10)) ((48 + n % 10) ∷ [])
-
-pub put-back : (out : List ℕ) (j d : ℕ) → j < length out → drop j (set out j d) ≡ d ∷ drop (suc j) out
-put-back out j d h =
-    drop-cons (set out j d) j 0 (rw (length-set out j d) h) ∙ rw (getD-set-same out j d 0 h, drop-set-lt (suc j) out j d (omega arith))
 
 -- the digits of `left` are still to come, up to place i
 pub record Printing (value left i : ℕ) (digits : List ℕ) : Type 0 where
@@ -42,7 +35,7 @@ printing-start value f digits l = record {
 
 module _ {value left i : ℕ} {digits : List ℕ} (c : Printing value left i digits) where
   pub printing-place : 10 ≤ left → 2 ≤ i
-  printing-place h = let s = some (left / 10) in let m = one-more left h in omega (arith, c .room)
+  printing-place h = let s = some (left / 10) in let m = digitsOf-more left h in omega (arith, c .room)
 
   pub printing-first : 1 ≤ i
   printing-first = let s = some left in omega (arith, c .room)
@@ -50,7 +43,7 @@ module _ {value left i : ℕ} {digits : List ℕ} (c : Printing value left i dig
   pub printing-turn : 10 ≤ left → Printing value (left / 10) (i - 1) (set digits i (48 + left % 10))
   printing-turn h =
       let p = printing-place h in
-      let m = one-more left h in
+      let m = digitsOf-more left h in
       let k : i < length digits = omega (arith, c .long, c .inside) in
       let s : suc (i - 1) ≡ i = omega arith in
       record {
@@ -58,7 +51,7 @@ module _ {value left i : ℕ} {digits : List ℕ} (c : Printing value left i dig
         inside = omega (arith, c .inside);
         room = omega (arith, c .room);
         same =
-            rw (s, put-back digits i (48 + left % 10) k)
+            rw (s, drop-set-here digits i (48 + left % 10) k)
             (sym (append-assoc (digitsOf (left / 10)) ((48 + left % 10) ∷ []) (drop (suc i) digits))
             ∙ ap (_++ drop (suc i) digits) (sym (digitsOf-step left h)) ∙ c .same);
       }
@@ -70,5 +63,5 @@ module _ {value left i : ℕ} {digits : List ℕ} (c : Printing value left i dig
         above = printing-first;
         inside = omega (arith, c .inside);
         long = length-set digits i (48 + left) ∙ c .long;
-        bytes = put-back digits i (48 + left) k ∙ sym (ap (_++ drop (suc i) digits) (digitsOf-small left h)) ∙ c .same;
+        bytes = drop-set-here digits i (48 + left) k ∙ sym (ap (_++ drop (suc i) digits) (digitsOf-small left h)) ∙ c .same;
       }

@@ -16,7 +16,7 @@ use Rattle.meaning.specs.declared.Text.{Text}
 use Rattle.meaning.specs.declared.Range.{Range}
 use Rattle.meaning.specs.declared.Charset.{Charset}
 use Rattle.meaning.specs.declared.Integer.{Integer}
-use Rattle.meaning.specs.Bytes.{if_then_else_, _!_, within}
+use Rattle.meaning.specs.Bytes.{_!_, within}
 use Rattle.meaning.specs.Answers.{Outcome, Meets}
 use Rattle.meaning.specs.Questions.{stringQuestion, i64Question, decimalQuestion, bitsQuestion, moneyQuestion, temporalQuestion, charsetQuestion}
 use Rattle.meaning.specs.Records.{kindOf, room, line, textLine, textLineAs, rangeLine, charsetLine, integerLine, asked, allZero, goodRecord, textIn, recordLine}

@@ -1,7 +1,7 @@
 -- An integer of 64 bits in decimal: behind a minus, its size is one more than -1 less it. Assumes nothing.
 use mathlib.Core.Path.{_≡_, refl, ap, sym, _∙_, subst}
 use mathlib.Core.Bool.{true, false}
-use mathlib.Core.List.{List, [], _∷_}
+use mathlib.Core.List.{List, _∷_}
 use Prim.Native.Nat.{ℕ, zero, suc, _+_, _-_, _^_, _≤_, _<_, compare·suc-suc, compare·suc-zero}
 use native.Mathlib.Nat.{lt-of-lt-of-le}
 use native.Mathlib.Numerals.{add-one, sub-one}
@@ -9,14 +9,14 @@ use native.Mathlib.Omega.{arith}
 use borrow.Author.Tests.{ltb-true}
 use lib.Dec.{T, lit≤}
 use lib.IntN.{ℤ, pos, negsuc, _-ℤ_, natAbs}
-use lib.ListN.{length, set, length-set}
+use lib.ListN.{set, length-set}
 use lib.Signed.{ltZ, nonNeg}
 use mir.Syntax.{w64}
 use mir.Val.{Fits, SFits, toZ, ofZ}
 use mir.Facts.{toZ-ofZ}
 use Rattle.meaning.specs.Numbers.{digitsOf, printed}
 use Rattle.records.specs.Adding.{EndsIn}
-use Rattle.records.proofs.Digits.{put-back}
+use Rattle.laws.proofs.Lists.{drop-set-here}
 
 -- a number as the machine gives it back, and -1 less it
 abbrev given : ℤ → ℤ
@@ -59,7 +59,7 @@ minus-in v d r p =
       above = omega arith;
       inside = omega (arith, p .inside);
       long = length-set d (r - 1) 45 ∙ p .long;
-      bytes = put-back d (r - 1) 45 (omega (arith, p .above, p .inside, p .long)) ∙ rw s (ap (45 ∷_) (p .bytes));
+      bytes = drop-set-here d (r - 1) 45 (omega (arith, p .above, p .inside, p .long)) ∙ rw s (ap (45 ∷_) (p .bytes));
     }
 
 -- below 0

@@ -1,4 +1,5 @@
-// The askings of a row, up to four, and their count: 1 the text alone with a long buffer; 2 with padding around it; 3 with a buffer just as long as what is written; 4 with one a byte shorter.
+// The askings of a row, up to four, and their count: 1 the text alone with a long buffer; 2 with padding around it; 3 with a buffer just as long as what is
+// written; 4 with one a byte shorter.
 use crate::asked::ask;
 use crate::asked::lends;
 use crate::rows::PADDED;

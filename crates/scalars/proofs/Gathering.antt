@@ -12,14 +12,14 @@ use Rattle.meaning.specs.Bytes.{if_then_else_, within}
 use Rattle.meaning.specs.Chars.{Due, due, broken, lead, push, whole, gather}
 use Rattle.laws.proofs.Tests.{within-bounds}
 use Rattle.laws.proofs.Utf8.{Good, lead-good, push-good}
-use Rattle.scalars.specs.Scalars.{pending, bitsBy, leadBits, scalarBy, scalarOf}
+use Rattle.scalars.specs.Scalars.{pending, leadBitsBy, leadBits, scalarFrom, scalarOf}
 use Rattle.laws.proofs.Leads.{lead-by}
 
 abbrev gatherBy : Due → ℕ → List ℕ → ℕ
 gatherBy broken v t = 0
 gatherBy (due n lo hi) v t = gather n lo hi v t
 
-scalar-gathers : (d : Due) (b : ℕ) (t : List ℕ) → gatherBy d (bitsBy d b) t ≡ scalarBy d b t
+scalar-gathers : (d : Due) (b : ℕ) (t : List ℕ) → gatherBy d (leadBitsBy d b) t ≡ scalarFrom d b t
 scalar-gathers broken b t = refl
 scalar-gathers (due n lo hi) b t = refl
 
@@ -49,8 +49,8 @@ abbrev Small : Due → ℕ → Type 0
 Small broken v = Unit {0}
 Small (due n lo hi) v = v < room n
 
-lead-small : (b : ℕ) → Small (lead b) (bitsBy (lead b) b)
-lead-small b = lead-by (λ d. Small d (bitsBy d b)) b (omega arith)
+lead-small : (b : ℕ) → Small (lead b) (leadBitsBy (lead b) b)
+lead-small b = lead-by (λ d. Small d (leadBitsBy d b)) b (omega arith)
 
 room-next : (n v x : ℕ) → v < room (suc n) → x < 64 → v * 64 + x < room n
 room-next zero v x h k = omega arith

@@ -16,21 +16,21 @@ pending (due zero lo hi) = false
 pending (due (suc n) lo hi) = true
 
 -- what a first byte adds to its character's number; 0 for a byte that begins none
-abbrev pub bitsBy : Due → ℕ → ℕ
-bitsBy broken b = 0
-bitsBy (due n lo hi) b = b - base n
+abbrev pub leadBitsBy : Due → ℕ → ℕ
+leadBitsBy broken b = 0
+leadBitsBy (due n lo hi) b = b - base n
 
 unfoldable pub leadBits : ℕ → ℕ
-leadBits b = bitsBy (lead b) b
+leadBits b = leadBitsBy (lead b) b
 
 -- the number that the bytes of the character at the front make; 0 where none begins there, or one of its bytes is missing or not as due
-abbrev pub scalarBy : Due → ℕ → List ℕ → ℕ
-scalarBy broken b t = 0
-scalarBy (due n lo hi) b t = gather n lo hi (b - base n) t
+abbrev pub scalarFrom : Due → ℕ → List ℕ → ℕ
+scalarFrom broken b t = 0
+scalarFrom (due n lo hi) b t = gather n lo hi (b - base n) t
 
 abbrev pub scalarOf : List ℕ → ℕ
 scalarOf [] = 0
-scalarOf (b ∷ t) = scalarBy (lead b) b t
+scalarOf (b ∷ t) = scalarFrom (lead b) b t
 
 -- a scalar's encoding is put at the buffer's start, where there is room for it
 pub record Encodes (c : ℕ) (out : List ℕ) (r : ℕ) (after : List ℕ) : Type 0 where

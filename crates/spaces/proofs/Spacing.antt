@@ -16,12 +16,12 @@ use Rattle.laws.proofs.Tests.{within-below, within-above}
 use Rattle.laws.proofs.Utf8.{low-lead}
 use Rattle.laws.proofs.Gaps.{no-space, space-fits}
 use Rattle.laws.proofs.Courses.{SoFar, so-far-none, so-far-give, size-here, size-end}
-use Rattle.scalars.specs.Scalars.{scalarBy, scalarOf}
+use Rattle.scalars.specs.Scalars.{scalarFrom, scalarOf}
 
 pub space-none : (text : List ℕ) (at : ℕ) → length text ≤ at → 0 ≡ space (drop at text)
 space-none text at h = rw (drop-of-length-le text h)
 
-space-scalar : (d : Due) (b : ℕ) (t : List ℕ) → spaceAt d b t ≡ (if isSpace (scalarBy d b t) then widthBy d else 0)
+space-scalar : (d : Due) (b : ℕ) (t : List ℕ) → spaceAt d b t ≡ (if isSpace (scalarFrom d b t) then widthBy d else 0)
 space-scalar broken b t = rw no-space
 space-scalar (due n lo hi) b t = refl
 

@@ -37,7 +37,7 @@ const HIGHS: [u32; 10] = [
 
 // Whether a scalar is white space: it lies in one of the ranges.
 // Rules out: the zero-width space taken for one; the tab missed (must-fail: tab_missed, zero_width_is_space).
-pub fn is_white_space(scalar: u32) -> bool
+fn is_white_space(scalar: u32) -> bool
     ensures { λ r. ⌜ r ≡ isSpace scalar ⌝ }
 {
     let lows = LOWS;

@@ -8,11 +8,10 @@ use native.Mathlib.Omega.{arith}
 use lib.Dec.{eqb, leb, ltb, eqb·suc-suc, eqb·zero-suc}
 use lib.ListN.{length, take, drop, drop-of-length-le}
 use lib.Seq.{drop-cons}
-use borrow.Author.Tests.{lt-ltb, le-ltb, le-leb, lt-leb, eq-eqb, ne-eqb, ltb-true, not-true, not-false}
+use borrow.Author.Tests.{le-leb, lt-leb, eq-eqb, ne-eqb, not-true, not-false}
 use Rattle.meaning.specs.Bytes.{_!_, part, quote, digit}
 use Rattle.meaning.specs.Chars.{Due, due, broken, lead, laters, width, widthBy, space}
 use Rattle.meaning.specs.Spelling.{encloses, isOne, legalEscape}
-use Rattle.laws.proofs.Tests.{and-left}
 use Rattle.laws.proofs.Arguments.{argument-inner}
 use Rattle.uescape.specs.declared.Argument.the-variants.{Legal, Illegal}
 use Rattle.uescape.specs.Clauses.{allHigh, legalBy, argumentOf}

@@ -10,7 +10,7 @@ use lib.ListN.{length, drop, getD, length-drop}
 use lib.Seq.{drop-cons}
 use borrow.Author.Tests.{eq-eqb, ne-eqb}
 use Rattle.meaning.specs.Bytes.{if_then_else_, within}
-use Rattle.meaning.specs.Chars.{Due, due, broken, fresh, lead, push, pushes, whole}
+use Rattle.meaning.specs.Chars.{Due, due, broken, fresh, lead, pushes, whole}
 use Rattle.laws.proofs.Tests.{and-left, and-right, if-suc}
 use Rattle.laws.proofs.Utf8.{Good, Ranged, ranged-all, lead-good, low-lead, pushes-broken}
 use Rattle.laws.proofs.Leads.{lead-at}
@@ -117,8 +117,10 @@ module _ (l : List ℕ) (at : ℕ) (h : at < length l) where
   follow-at n lo hi i k = ap (follow (suc n) lo hi) (drop-cons l i 0 k)
 
   -- lo and hi bound the second byte, at the place behind the first
-  module _ (v : Leading l at) (lo hi : ℕ) (el : lo ≡ lowOf (getD l at 0)) (eh : hi ≡ highOf (getD l at 0)) (x : Bool) (ex : x ≡ within lo hi (getD l (at + 1) 0)) where
-    char-by : (n : ℕ) → lead (getD l at 0) ≡ due n (lowOf (getD l at 0)) (highOf (getD l at 0)) → char (drop at l) ≡ (if follow n lo hi (drop (suc at) l) then suc n else 0)
+  module _ (v : Leading l at) (lo hi : ℕ) (el : lo ≡ lowOf (getD l at 0)) (eh : hi ≡ highOf (getD l at 0)) (x : Bool)
+      (ex : x ≡ within lo hi (getD l (at + 1) 0)) where
+    char-by : (n : ℕ) → lead (getD l at 0) ≡ due n (lowOf (getD l at 0)) (highOf (getD l at 0))
+        → char (drop at l) ≡ (if follow n lo hi (drop (suc at) l) then suc n else 0)
     char-by n e = char-at ∙ rw (e, ← el, ← eh)
 
     one-follows : 2 ≤ length l - at → (n : ℕ) → follow (suc n) lo hi (drop (suc at) l) ≡ (x && follow n 0x80 0xBF (drop (at + 2) l))
@@ -134,7 +136,8 @@ module _ (l : List ℕ) (at : ℕ) (h : at < length l) where
       two-follow : 3 ≤ length l - at → (n : ℕ) → follow (suc (suc n)) lo hi (drop (suc at) l) ≡ (x && y && follow n 0x80 0xBF (drop (at + 3) l))
       two-follow k n =
           let z : suc (at + 2) ≡ at + 3 = omega arith in
-          one-follows (omega arith) (suc n) ∙ ap (x &&_) (follow-at n 0x80 0xBF (at + 2) (omega arith) ∙ rw (z, ← ey)) ∙ sym (and-assoc x y (follow n 0x80 0xBF (drop (at + 3) l)))
+          one-follows (omega arith) (suc n) ∙ ap (x &&_) (follow-at n 0x80 0xBF (at + 2) (omega arith) ∙ rw (z, ← ey))
+          ∙ sym (and-assoc x y (follow n 0x80 0xBF (drop (at + 3) l)))
 
       pub char-three : 0xE0 ≤ getD l at 0 → getD l at 0 < 0xF0 → 3 ≤ length l - at → (r : ℕ) → r ≡ (if x && y then 3 else 0) → r ≡ char (drop at l)
       char-three p q k r er = er ∙ sym (char-by 2 (lead-three (getD l at 0) p q) ∙ rw (two-follow k 0, and-true))
@@ -143,13 +146,15 @@ module _ (l : List ℕ) (at : ℕ) (h : at < length l) where
           → r ≡ (if x && y && z then 4 else 0) → r ≡ char (drop at l)
       char-four p k z ez r er =
           er
-          ∙ sym (char-by 3 (lead-four (getD l at 0) p (v .high)) ∙ rw (two-follow (omega arith) 1, follow-at 0 0x80 0xBF (at + 3) (omega arith), and-true, ← ez))
+          ∙ sym (char-by 3 (lead-four (getD l at 0) p (v .high))
+          ∙ rw (two-follow (omega arith) 1, follow-at 0 0x80 0xBF (at + 3) (omega arith), and-true, ← ez))
 
 -- of two bytes, the second is as any later one
 pub char-pair : (l : List ℕ) (at : ℕ) → at < length l → Leading l at → (x : Bool) → x ≡ within 0x80 0xBF (getD l (at + 1) 0) → getD l at 0 < 0xE0
     → 2 ≤ length l - at → (r : ℕ) → r ≡ (if x then 2 else 0) → r ≡ char (drop at l)
 char-pair l at h v x ex p k r er =
-    char-two l at h v 0x80 0xBF (sym (low-other (getD l at 0) (λ e. omega arith) (λ e. omega arith))) (sym (high-other (getD l at 0) (λ e. omega arith) (λ e. omega arith))) x ex p k r er
+    char-two l at h v 0x80 0xBF (sym (low-other (getD l at 0) (λ e. omega arith) (λ e. omega arith)))
+    (sym (high-other (getD l at 0) (λ e. omega arith) (λ e. omega arith))) x ex p k r er
 
 -- A WHOLE CHARACTER leads back to where it began; where none stands the text is no UTF-8
 follow-pushes : (n lo hi : ℕ) (t : List ℕ) → Ranged n lo hi → follow n lo hi t ≡ true → pushes (due n lo hi) t ≡ pushes fresh (drop n t)

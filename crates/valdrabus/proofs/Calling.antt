@@ -18,13 +18,15 @@ use Rattle.meaning.specs.declared.Writing.{Writing}
 use Rattle.meaning.specs.declared.PartSize.{PartSize}
 use Rattle.meaning.specs.Records.{kindOf}
 use Rattle.meaning.specs.Answers.{Outcome, Meets}
-use Rattle.meaning.specs.Questions.{stringQuestion, decimalQuestion, bitsQuestion, temporalQuestion, sourceQuestion, moneyQuestion, charsetQuestion, i64Question, boolQuestion, nullQuestion, isNull}
+use Rattle.meaning.specs.Questions.{stringQuestion, decimalQuestion, bitsQuestion, temporalQuestion, sourceQuestion, moneyQuestion, charsetQuestion}
+use Rattle.meaning.specs.Questions.{i64Question, boolQuestion, nullQuestion, isNull}
 use Rattle.meaning.specs.Writer.{writeQuestion}
 use Rattle.valdrabus.specs.declared.told.Told.{Told}
 use Rattle.valdrabus.specs.declared.counted.Counted.{Counted}
 use Rattle.valdrabus.specs.Literals.{isKnown, literalOf, settingsOf}
 use Rattle.valdrabus.specs.Numbers.{numberTold, textTold, rangeTold, charsetTold, truthTold, nullnessTold, writingTold}
-use Rattle.valdrabus.specs.Calls.{outcomeTold, called, calledBare, calledCount, countedOf, stringCall, decimalCall, bitsCall, temporalCall, sourceCall, moneyCall, charsetCall, i64Call, boolCall, nullCall, isNullCall, writeCall}
+use Rattle.valdrabus.specs.Calls.{outcomeTold, called, calledBare, calledCount, countedOf, stringCall, decimalCall, bitsCall, temporalCall, sourceCall}
+use Rattle.valdrabus.specs.Calls.{moneyCall, charsetCall, i64Call, boolCall, nullCall, isNullCall, writeCall}
 
 -- WITH A BUFFER
 unknown : (b known : Bool) → b ≡ known → not b ≡ true → (out : List ℕ) (o : Outcome Told) (t : Told) → t ≡ numberTold 10 → Meets (called known out o) t out
@@ -42,9 +44,10 @@ unknown-bare : (b known : Bool) → b ≡ known → not b ≡ true → (t o : To
 unknown-bare b true e h t o p = absurd (false≢true (sym (ap not e) ∙ h))
 unknown-bare b false e h t o p = p
 
-answered-bare : (b known : Bool) → b ≡ known → not b ≡ false → (t o : Told) → t ≡ o → t ≡ calledBare known o
-answered-bare b true e h t o p = p
-answered-bare b false e h t o p = absurd (false≢true (sym h ∙ ap not e))
+answered-bare : {A : Type 0} (b known : Bool) → b ≡ known → not b ≡ false → (f : A → Told) (ask : Literal → A) (l l′ : Literal) → l ≡ l′
+    → (a : A) → a ≡ ask l → (t : Told) → t ≡ f a → t ≡ calledBare known (f (ask l′))
+answered-bare b true e h f ask l l′ p a q t w = w ∙ ap f (q ∙ ap ask p)
+answered-bare b false e h f ask l l′ p a q t w = absurd (false≢true (sym h ∙ ap not e))
 
 unknown-count : (b known : Bool) → b ≡ known → not b ≡ true → (t : Told) (n : Counted) → t ≡ numberTold 10
     → _≡_ {A = Counted} (record { told = t; value = pos 0 }) (calledCount known n)
@@ -106,8 +109,7 @@ module _ (k y s e : ℕ) (S : List ℕ) (b : Bool) (known : b ≡ isKnown k y 0)
   pub source-answered : not b ≡ false → (l : Literal) → l ≡ literalOf k y s e → (a : Range) → a ≡ sourceQuestion l S → (t : Told) → t ≡ rangeTold a
       → t ≡ sourceCall k y s e S
   unfolding sourceCall
-  source-answered h l p a q t w =
-      answered-bare b (isKnown k y 0) known h t (rangeTold (sourceQuestion (literalOf k y s e) S)) (w ∙ ap rangeTold q ∙ ap (λ (x : Literal). rangeTold (sourceQuestion x S)) p)
+  source-answered h l p = answered-bare b (isKnown k y 0) known h rangeTold (λ x. sourceQuestion x S) l (literalOf k y s e) p
 
   pub money-unknown : not b ≡ true → (t : Told) → t ≡ numberTold 10 → t ≡ moneyCall k y s e S
   unfolding moneyCall
@@ -116,8 +118,7 @@ module _ (k y s e : ℕ) (S : List ℕ) (b : Bool) (known : b ≡ isKnown k y 0)
   pub money-answered : not b ≡ false → (l : Literal) → l ≡ literalOf k y s e → (a : Range) → a ≡ moneyQuestion l S → (t : Told) → t ≡ rangeTold a
       → t ≡ moneyCall k y s e S
   unfolding moneyCall
-  money-answered h l p a q t w =
-      answered-bare b (isKnown k y 0) known h t (rangeTold (moneyQuestion (literalOf k y s e) S)) (w ∙ ap rangeTold q ∙ ap (λ (x : Literal). rangeTold (moneyQuestion x S)) p)
+  money-answered h l p = answered-bare b (isKnown k y 0) known h rangeTold (λ x. moneyQuestion x S) l (literalOf k y s e) p
 
   pub charset-unknown : not b ≡ true → (t : Told) → t ≡ numberTold 10 → t ≡ charsetCall k y s e S
   unfolding charsetCall
@@ -126,8 +127,7 @@ module _ (k y s e : ℕ) (S : List ℕ) (b : Bool) (known : b ≡ isKnown k y 0)
   pub charset-answered : not b ≡ false → (l : Literal) → l ≡ literalOf k y s e → (a : Charset) → a ≡ charsetQuestion l S → (t : Told) → t ≡ charsetTold a
       → t ≡ charsetCall k y s e S
   unfolding charsetCall
-  charset-answered h l p a q t w =
-      answered-bare b (isKnown k y 0) known h t (charsetTold (charsetQuestion (literalOf k y s e) S)) (w ∙ ap charsetTold q ∙ ap (λ (x : Literal). charsetTold (charsetQuestion x S)) p)
+  charset-answered h l p = answered-bare b (isKnown k y 0) known h charsetTold (λ x. charsetQuestion x S) l (literalOf k y s e) p
 
   pub i64-unknown : not b ≡ true → (t : Told) → t ≡ numberTold 10 → _≡_ {A = Counted} (record { told = t; value = pos 0 }) (i64Call k y s e S)
   unfolding i64Call
@@ -137,7 +137,8 @@ module _ (k y s e : ℕ) (S : List ℕ) (b : Bool) (known : b ≡ isKnown k y 0)
       → n ≡ i64Call k y s e S
   unfolding i64Call
   i64-answered h l p a q n w =
-      answered-count b (isKnown k y 0) known h n (countedOf (i64Question (literalOf k y s e) S)) (w ∙ ap countedOf q ∙ ap (λ (x : Literal). countedOf (i64Question x S)) p)
+      answered-count b (isKnown k y 0) known h n (countedOf (i64Question (literalOf k y s e) S))
+      (w ∙ ap countedOf q ∙ ap (λ (x : Literal). countedOf (i64Question x S)) p)
 
 -- BY THE KIND ALONE
 module _ (k : ℕ) (b : Bool) (known : b ≡ isKnown k 0 0) where
@@ -148,8 +149,7 @@ module _ (k : ℕ) (b : Bool) (known : b ≡ isKnown k 0 0) where
   pub bool-answered : not b ≡ false → (l : Literal) → l ≡ literalOf k 0 0 0 → (a : Truth) → a ≡ boolQuestion (l .kind) → (t : Told) → t ≡ truthTold a
       → t ≡ boolCall k
   unfolding boolCall
-  bool-answered h l p a q t w =
-      answered-bare b (isKnown k 0 0) known h t (truthTold (boolQuestion (kindOf k))) (w ∙ ap truthTold q ∙ ap (λ (x : Literal). truthTold (boolQuestion (x .kind))) p)
+  bool-answered h l p = answered-bare b (isKnown k 0 0) known h truthTold (λ x. boolQuestion (x .kind)) l (literalOf k 0 0 0) p
 
   pub null-unknown : not b ≡ true → (t : Told) → t ≡ numberTold 10 → t ≡ nullCall k
   unfolding nullCall
@@ -158,8 +158,7 @@ module _ (k : ℕ) (b : Bool) (known : b ≡ isKnown k 0 0) where
   pub null-answered : not b ≡ false → (l : Literal) → l ≡ literalOf k 0 0 0 → (a : Nullness) → a ≡ nullQuestion (l .kind) → (t : Told) → t ≡ nullnessTold a
       → t ≡ nullCall k
   unfolding nullCall
-  null-answered h l p a q t w =
-      answered-bare b (isKnown k 0 0) known h t (nullnessTold (nullQuestion (kindOf k))) (w ∙ ap nullnessTold q ∙ ap (λ (x : Literal). nullnessTold (nullQuestion (x .kind))) p)
+  null-answered h l p = answered-bare b (isKnown k 0 0) known h nullnessTold (λ x. nullQuestion (x .kind)) l (literalOf k 0 0 0) p
 
   pub is-null-called : (l : Literal) → l ≡ literalOf k 0 0 0 → (n : Bool) → n ≡ isNull (l .kind) → b && n ≡ isNullCall k
   unfolding isNullCall

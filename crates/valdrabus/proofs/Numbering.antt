@@ -5,7 +5,8 @@ use mathlib.Core.List.{List, [], _∷_, _++_}
 use Prim.Native.Nat.{ℕ}
 use lib.IntN.{ℤ}
 use Rattle.meaning.specs.declared.Refusal.{Refusal}
-use Rattle.meaning.specs.declared.Refusal.the-variants.{WrongKind, MissingSource, InvalidSourceRange, NotUtf8, InvalidInteger, InvalidString, InvalidBitString, InvalidMoney, NoRoom}
+use Rattle.meaning.specs.declared.Refusal.the-variants.{WrongKind, MissingSource, InvalidSourceRange, NotUtf8, InvalidInteger, InvalidString, InvalidBitString}
+use Rattle.meaning.specs.declared.Refusal.the-variants.{InvalidMoney, NoRoom}
 use Rattle.meaning.specs.declared.Text.{Text}
 use Rattle.meaning.specs.declared.Text.the-variants as Text′
 use Rattle.meaning.specs.declared.Range.{Range}
@@ -22,7 +23,9 @@ use Rattle.meaning.specs.declared.Identifier.{Identifier}
 use Rattle.meaning.specs.declared.Identifier.the-variants as Identifier′
 use Rattle.meaning.specs.declared.Writing.{Writing}
 use Rattle.meaning.specs.declared.Writing.the-variants as Writing′
-use Rattle.meaning.specs.Answers.{payload, refusalNumber, refusalValues, textNumber, textValues, rangeNumber, rangeValues, charsetNumber, charsetValues, integerNumber, integerValues, truthNumber, truthValues, nullnessNumber, identifierNumber, identifierValues, writingNumber, writingValues}
+use Rattle.meaning.specs.Answers.{payload, refusalNumber, refusalValues, textNumber, textValues, rangeNumber, rangeValues, charsetNumber, charsetValues}
+use Rattle.meaning.specs.Answers.{integerNumber, integerValues, truthNumber, truthValues, nullnessNumber, identifierNumber, identifierValues, writingNumber}
+use Rattle.meaning.specs.Answers.{writingValues}
 use Rattle.valdrabus.specs.declared.told.Told.{Told}
 use Rattle.valdrabus.specs.Numbers.{refusalTold, textTold, rangeTold, charsetTold, truthTold, nullnessTold, identifierTold, writingTold}
 use Rattle.valdrabus.specs.Calls.{integerTold, integerValue}

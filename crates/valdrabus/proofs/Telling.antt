@@ -1,6 +1,6 @@
 -- The four numbers of an answer, by its case. Assumes nothing.
 use mathlib.Core.Path.{_≡_, refl, sym, ap, _∙_}
-use mathlib.Core.Bool.{Bool, true, false, cond}
+use mathlib.Core.Bool.{Bool, true, false}
 use Prim.Native.Nat.{ℕ}
 use lib.Dec.{eqb}
 use lib.IntN.{ℤ, pos}
@@ -13,26 +13,21 @@ use Rattle.meaning.specs.declared.Literal.{Literal}
 use Rattle.meaning.specs.declared.Refusal.{Refusal}
 use Rattle.meaning.specs.declared.Refusal.the-variants as Refusal′
 use Rattle.meaning.specs.declared.Text.{Text}
-use Rattle.meaning.specs.declared.Text.the-variants as Text′
 use Rattle.meaning.specs.declared.Range.{Range}
-use Rattle.meaning.specs.declared.Range.the-variants as Range′
 use Rattle.meaning.specs.declared.Charset.{Charset}
-use Rattle.meaning.specs.declared.Charset.the-variants as Charset′
 use Rattle.meaning.specs.declared.Truth.{Truth}
 use Rattle.meaning.specs.declared.Truth.the-variants as Truth′
 use Rattle.meaning.specs.declared.Nullness.{Nullness}
-use Rattle.meaning.specs.declared.Nullness.the-variants as Nullness′
 use Rattle.meaning.specs.declared.Identifier.{Identifier}
-use Rattle.meaning.specs.declared.Identifier.the-variants as Identifier′
 use Rattle.meaning.specs.declared.Writing.{Writing}
-use Rattle.meaning.specs.declared.Writing.the-variants as Writing′
 use Rattle.meaning.specs.declared.Integer.{Integer}
 use Rattle.meaning.specs.declared.Integer.the-variants as Integer′
 use Rattle.meaning.specs.Records.{kindOf}
 use Rattle.meaning.specs.Answers.{expectedCode, kindCode}
 use Rattle.valdrabus.specs.declared.told.Told.{Told}
 use Rattle.valdrabus.specs.declared.counted.Counted.{Counted}
-use Rattle.valdrabus.specs.Numbers.{fourTold, numberTold, borrowedTold, writtenTold, roomTold, spanTold, refusalTold, textTold, rangeTold, charsetTold, truthTold, nullnessTold, identifierTold, writingTold}
+use Rattle.valdrabus.specs.Numbers.{fourTold, numberTold, refusalTold, textTold, rangeTold, charsetTold}
+use Rattle.valdrabus.specs.Numbers.{truthTold, nullnessTold, identifierTold, writingTold}
 use Rattle.valdrabus.specs.Literals.{literalOf}
 use Rattle.valdrabus.specs.Calls.{countedOf}
 
@@ -45,26 +40,15 @@ module _ (w : Refusal) where
   pub refusal-by : (w′ : Refusal) → w ≡ w′ → (t : Told) → t ≡ refusalTold w′ → t ≡ refusalTold w
   refusal-by w′ q t p = p ∙ ap refusalTold (sym q)
 
-  pub refusal-room : (n : ℕ) → w ≡ Refusal′.NoRoom n → roomTold n ≡ refusalTold w
-  refusal-room n q = ap refusalTold (sym q)
+-- TEXTS AND PARTS, by the case that an answer is
+pub text-by : (a a′ : Text) → a ≡ a′ → (t : Told) → t ≡ textTold a′ → t ≡ textTold a
+text-by a a′ q t p = p ∙ ap textTold (sym q)
 
--- TEXTS AND PARTS
-module _ (a : Text) where
-  pub text-borrowed : (f u : ℕ) → a ≡ Text′.Borrowed f u → borrowedTold f u ≡ textTold a
-  text-borrowed f u q = ap textTold (sym q)
+pub range-by : (a a′ : Range) → a ≡ a′ → (t : Told) → t ≡ rangeTold a′ → t ≡ rangeTold a
+range-by a a′ q t p = p ∙ ap rangeTold (sym q)
 
-  pub text-written : (n : ℕ) → a ≡ Text′.Written n → writtenTold n ≡ textTold a
-  text-written n q = ap textTold (sym q)
-
-pub range-found : (a : Range) (f u : ℕ) → a ≡ Range′.Found f u → borrowedTold f u ≡ rangeTold a
-range-found a f u q = ap rangeTold (sym q)
-
-module _ (a : Charset) where
-  pub charset-named : (f u : ℕ) → a ≡ Charset′.Named f u → borrowedTold f u ≡ charsetTold a
-  charset-named f u q = ap charsetTold (sym q)
-
-  pub charset-unnamed : a ≡ Charset′.Unnamed → (t : Told) → t ≡ numberTold 0 → t ≡ charsetTold a
-  charset-unnamed q t p = p ∙ ap charsetTold (sym q)
+pub charset-by : (a a′ : Charset) → a ≡ a′ → (t : Told) → t ≡ charsetTold a′ → t ≡ charsetTold a
+charset-by a a′ q t p = p ∙ ap charsetTold (sym q)
 
 -- VALUES
 truth-number : (b : Bool) → fourTold 0 (boolByte b) 0 0 ≡ truthTold (Truth′.Value b)
@@ -74,32 +58,15 @@ truth-number false = refl
 pub truth-value : (a : Truth) (b : Bool) → a ≡ Truth′.Value b → fourTold 0 (boolByte b) 0 0 ≡ truthTold a
 truth-value a b q = truth-number b ∙ ap truthTold (sym q)
 
-pub nullness-null : (a : Nullness) → a ≡ Nullness′.IsNull → (t : Told) → t ≡ numberTold 0 → t ≡ nullnessTold a
-nullness-null a q t p = p ∙ ap nullnessTold (sym q)
+pub nullness-by : (a a′ : Nullness) → a ≡ a′ → (t : Told) → t ≡ nullnessTold a′ → t ≡ nullnessTold a
+nullness-by a a′ q t p = p ∙ ap nullnessTold (sym q)
 
 -- BARE TEXTS
-module _ (a : Identifier) where
-  pub identifier-borrowed : (f u : ℕ) → a ≡ Identifier′.Borrowed f u → borrowedTold f u ≡ identifierTold a
-  identifier-borrowed f u q = ap identifierTold (sym q)
+pub identifier-by : (a a′ : Identifier) → a ≡ a′ → (t : Told) → t ≡ identifierTold a′ → t ≡ identifierTold a
+identifier-by a a′ q t p = p ∙ ap identifierTold (sym q)
 
-  pub identifier-written : (n : ℕ) → a ≡ Identifier′.Written n → writtenTold n ≡ identifierTold a
-  identifier-written n q = ap identifierTold (sym q)
-
-  pub identifier-room : (n : ℕ) → a ≡ Identifier′.NoRoom n → roomTold n ≡ identifierTold a
-  identifier-room n q = ap identifierTold (sym q)
-
-  pub identifier-number : (a′ : Identifier) → a ≡ a′ → (t : Told) → t ≡ identifierTold a′ → t ≡ identifierTold a
-  identifier-number a′ q t p = p ∙ ap identifierTold (sym q)
-
-module _ (a : Writing) where
-  pub writing-written : (n : ℕ) → a ≡ Writing′.Written n → writtenTold n ≡ writingTold a
-  writing-written n q = ap writingTold (sym q)
-
-  pub writing-room : (n : ℕ) → a ≡ Writing′.NoRoom n → roomTold n ≡ writingTold a
-  writing-room n q = ap writingTold (sym q)
-
-  pub writing-number : (a′ : Writing) → a ≡ a′ → (t : Told) → t ≡ writingTold a′ → t ≡ writingTold a
-  writing-number a′ q t p = p ∙ ap writingTold (sym q)
+pub writing-by : (a a′ : Writing) → a ≡ a′ → (t : Told) → t ≡ writingTold a′ → t ≡ writingTold a
+writing-by a a′ q t p = p ∙ ap writingTold (sym q)
 
 -- INTEGERS
 module _ (a : Integer) where

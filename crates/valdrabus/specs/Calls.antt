@@ -9,10 +9,10 @@ use Rattle.meaning.specs.declared.Integer.{Integer}
 use Rattle.meaning.specs.declared.Integer.the-variants as Integer′
 use Rattle.meaning.specs.declared.PartSize.{PartSize}
 use Rattle.meaning.specs.declared.RadixPrefix.{RadixPrefix}
-use Rattle.meaning.specs.Bytes.{if_then_else_}
 use Rattle.meaning.specs.Records.{kindOf}
 use Rattle.meaning.specs.Answers.{Outcome}
-use Rattle.meaning.specs.Questions.{stringQuestion, decimalQuestion, bitsQuestion, temporalQuestion, sourceQuestion, moneyQuestion, charsetQuestion, i64Question, boolQuestion, nullQuestion, isNull, identifierQuestion}
+use Rattle.meaning.specs.Questions.{stringQuestion, decimalQuestion, bitsQuestion, temporalQuestion, sourceQuestion, moneyQuestion, charsetQuestion}
+use Rattle.meaning.specs.Questions.{i64Question, boolQuestion, nullQuestion, isNull, identifierQuestion}
 use Rattle.meaning.specs.Writer.{writeQuestion}
 use Rattle.valdrabus.specs.declared.told.Told.{Told}
 use Rattle.valdrabus.specs.declared.counted.Counted.{Counted}

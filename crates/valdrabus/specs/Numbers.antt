@@ -1,12 +1,13 @@
--- An answer in four numbers: 0 or the refusal's number; how a text is answered (0 not, 1 borrowed, 2 written); two numbers more. Where nothing is said a number is 0.
--- Assumes nothing.
+-- An answer in four numbers: 0 or the refusal's number; how a text is answered (0 not, 1 borrowed, 2 written); two numbers more. Where nothing is said a
+-- number is 0. Assumes nothing.
 use mathlib.Core.Path.{_≡_}
-use mathlib.Core.Bool.{Bool, true, false}
+use mathlib.Core.Bool.{true, false}
 use mathlib.Core.List.{List}
 use Prim.Native.Nat.{ℕ}
 use Rattle.meaning.specs.declared.Span.{Span}
 use Rattle.meaning.specs.declared.Refusal.{Refusal}
-use Rattle.meaning.specs.declared.Refusal.the-variants.{WrongKind, MissingSource, InvalidSourceRange, NotUtf8, InvalidInteger, InvalidString, InvalidBitString, InvalidMoney, NoRoom}
+use Rattle.meaning.specs.declared.Refusal.the-variants.{WrongKind, MissingSource, InvalidSourceRange, NotUtf8, InvalidInteger, InvalidString, InvalidBitString}
+use Rattle.meaning.specs.declared.Refusal.the-variants.{InvalidMoney, NoRoom}
 use Rattle.meaning.specs.declared.Text.{Text}
 use Rattle.meaning.specs.declared.Text.the-variants as Text′
 use Rattle.meaning.specs.declared.Range.{Range}

@@ -9,8 +9,7 @@ use helpers::unicode_escape_string_is_valid;
 use leaves::texts::string_literal_embeds_nul;
 use numbers::prefix::split_radix_prefix;
 ghost use mathlib.Core.Path.{_≡_};
-ghost use Rattle.meaning.specs.Bytes.{has};
-ghost use Rattle.meaning.specs.Helpers.{uescapeLegal, escapeValid, unicodeValid, isUnicodeIdent};
+ghost use Rattle.meaning.specs.Helpers.{uescapeLegal, escapeValid, unicodeValid, embedsNul, isUnicodeIdent};
 ghost use Rattle.meaning.specs.Numbers.{radixPrefix};
 ghost use Rattle.valdrabus.specs.Numbers.{Tells};
 ghost use Rattle.valdrabus.specs.Calls.{identifierCall, Splits};
@@ -57,7 +56,7 @@ pub extern "C" fn valdrabus_unicode_escape_string_is_valid(text: &[u8]) -> bool
 // Rules out: no for yes; yes always (must-fail: first_of_each, second_of_each).
 #[no_mangle]
 pub extern "C" fn valdrabus_string_literal_embeds_nul(text: &[u8]) -> bool
-    ensures { λ r. ⌜ r ≡ has 0 (now (text .entry)) ⌝ }
+    ensures { λ r. ⌜ r ≡ embedsNul (now (text .entry)) ⌝ }
 {
     string_literal_embeds_nul(text)
 }
@@ -81,7 +80,8 @@ pub extern "C" fn valdrabus_materialize_unicode_ident(
     first: &mut usize,
     second: &mut usize,
 ) -> u32
-    ensures { λ r. ⌜ Tells (identifierCall (now (text .entry)) (now (out .entry))) r (now (how .exit)) (now (first .exit)) (now (second .exit)) (now (out .exit)) ⌝ }
+    ensures { λ r. ⌜ Tells (identifierCall (now (text .entry)) (now (out .entry))) r
+        (now (how .exit)) (now (first .exit)) (now (second .exit)) (now (out .exit)) ⌝ }
 {
     let told = identifier_told(materialize_unicode_ident(text, out));
     tell(told, how, first, second)

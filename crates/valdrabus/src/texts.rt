@@ -47,7 +47,8 @@ pub extern "C" fn valdrabus_as_str_in(
     first: &mut usize,
     second: &mut usize,
 ) -> u32
-    ensures { λ r. ⌜ Tells (stringCall kind synthetic start end (now (source .entry)) setting (now (out .entry))) r (now (how .exit)) (now (first .exit)) (now (second .exit)) (now (out .exit)) ⌝ }
+    ensures { λ r. ⌜ Tells (stringCall kind synthetic start end (now (source .entry)) setting (now (out .entry))) r
+        (now (how .exit)) (now (first .exit)) (now (second .exit)) (now (out .exit)) ⌝ }
 {
     let told = string_called(kind, synthetic, start, end, source, setting, out);
     tell(told, how, first, second)
@@ -84,7 +85,8 @@ pub extern "C" fn valdrabus_as_decimal_text(
     first: &mut usize,
     second: &mut usize,
 ) -> u32
-    ensures { λ r. ⌜ Tells (decimalCall kind synthetic start end (now (source .entry)) (now (out .entry))) r (now (how .exit)) (now (first .exit)) (now (second .exit)) (now (out .exit)) ⌝ }
+    ensures { λ r. ⌜ Tells (decimalCall kind synthetic start end (now (source .entry)) (now (out .entry))) r
+        (now (how .exit)) (now (first .exit)) (now (second .exit)) (now (out .exit)) ⌝ }
 {
     let told = decimal_called(kind, synthetic, start, end, source, out);
     tell(told, how, first, second)
@@ -121,7 +123,8 @@ pub extern "C" fn valdrabus_as_bit_text(
     first: &mut usize,
     second: &mut usize,
 ) -> u32
-    ensures { λ r. ⌜ Tells (bitsCall kind synthetic start end (now (source .entry)) (now (out .entry))) r (now (how .exit)) (now (first .exit)) (now (second .exit)) (now (out .exit)) ⌝ }
+    ensures { λ r. ⌜ Tells (bitsCall kind synthetic start end (now (source .entry)) (now (out .entry))) r
+        (now (how .exit)) (now (first .exit)) (now (second .exit)) (now (out .exit)) ⌝ }
 {
     let told = bits_called(kind, synthetic, start, end, source, out);
     tell(told, how, first, second)
@@ -158,7 +161,8 @@ pub extern "C" fn valdrabus_as_temporal_text(
     first: &mut usize,
     second: &mut usize,
 ) -> u32
-    ensures { λ r. ⌜ Tells (temporalCall kind synthetic start end (now (source .entry)) (now (out .entry))) r (now (how .exit)) (now (first .exit)) (now (second .exit)) (now (out .exit)) ⌝ }
+    ensures { λ r. ⌜ Tells (temporalCall kind synthetic start end (now (source .entry)) (now (out .entry))) r
+        (now (how .exit)) (now (first .exit)) (now (second .exit)) (now (out .exit)) ⌝ }
 {
     let told = temporal_called(kind, synthetic, start, end, source, out);
     tell(told, how, first, second)

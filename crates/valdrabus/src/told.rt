@@ -12,7 +12,8 @@ use meaning::Writing;
 use spans::kinds::kind_code;
 ghost use mathlib.Core.Path.{_≡_};
 ghost use Rattle.meaning.specs.Answers.{expectedCode};
-ghost use Rattle.valdrabus.specs.Numbers.{numberTold, spanTold, refusalTold, textTold, rangeTold, charsetTold, truthTold, nullnessTold, identifierTold, writingTold, Says};
+ghost use Rattle.valdrabus.specs.Numbers.{numberTold, borrowedTold, writtenTold, roomTold, spanTold, refusalTold, Says};
+ghost use Rattle.valdrabus.specs.Numbers.{textTold, rangeTold, charsetTold, truthTold, nullnessTold, identifierTold, writingTold};
 
 pub(crate) struct Told {
     pub number: u32,
@@ -63,6 +64,42 @@ fn span_told(number: u32, span: Span) -> Told
     }
 }
 
+// A part of the source.
+fn borrowed_told(first: usize, second: usize) -> Told
+    ensures { λ r. ⌜ r ≡ borrowedTold first second ⌝ }
+{
+    Told {
+        number: 0,
+        how: 1,
+        first,
+        second,
+    }
+}
+
+// The buffer's start.
+fn written_told(second: usize) -> Told
+    ensures { λ r. ⌜ r ≡ writtenTold second ⌝ }
+{
+    Told {
+        number: 0,
+        how: 2,
+        first: 0,
+        second,
+    }
+}
+
+// A length for which there is no room.
+fn room_told(second: usize) -> Told
+    ensures { λ r. ⌜ r ≡ roomTold second ⌝ }
+{
+    Told {
+        number: 9,
+        how: 0,
+        first: 0,
+        second,
+    }
+}
+
 pub(crate) fn refusal_told(refusal: Refusal) -> Told
     ensures { λ r. ⌜ r ≡ refusalTold refusal ⌝ }
 {
@@ -84,12 +121,7 @@ pub(crate) fn refusal_told(refusal: Refusal) -> Told
         Refusal::InvalidString(span) => span_told(6, span),
         Refusal::InvalidBitString(span) => span_told(7, span),
         Refusal::InvalidMoney(span) => span_told(8, span),
-        Refusal::NoRoom { needed } => Told {
-            number: 9,
-            how: 0,
-            first: 0,
-            second: needed,
-        },
+        Refusal::NoRoom { needed } => room_told(needed),
     }
 }
 
@@ -97,18 +129,8 @@ pub(crate) fn text_told(answer: Text) -> Told
     ensures { λ r. ⌜ r ≡ textTold answer ⌝ }
 {
     match answer {
-        Text::Borrowed { start, end } => Told {
-            number: 0,
-            how: 1,
-            first: start,
-            second: end,
-        },
-        Text::Written { len } => Told {
-            number: 0,
-            how: 2,
-            first: 0,
-            second: len,
-        },
+        Text::Borrowed { start, end } => borrowed_told(start, end),
+        Text::Written { len } => written_told(len),
         Text::Refused(refusal) => refusal_told(refusal),
     }
 }
@@ -117,12 +139,7 @@ pub(crate) fn range_told(answer: Range) -> Told
     ensures { λ r. ⌜ r ≡ rangeTold answer ⌝ }
 {
     match answer {
-        Range::Found { start, end } => Told {
-            number: 0,
-            how: 1,
-            first: start,
-            second: end,
-        },
+        Range::Found { start, end } => borrowed_told(start, end),
         Range::Refused(refusal) => refusal_told(refusal),
     }
 }
@@ -131,12 +148,7 @@ pub(crate) fn charset_told(answer: Charset) -> Told
     ensures { λ r. ⌜ r ≡ charsetTold answer ⌝ }
 {
     match answer {
-        Charset::Named { start, end } => Told {
-            number: 0,
-            how: 1,
-            first: start,
-            second: end,
-        },
+        Charset::Named { start, end } => borrowed_told(start, end),
         Charset::Unnamed => number_told(0),
         Charset::Refused(refusal) => refusal_told(refusal),
     }
@@ -170,26 +182,11 @@ pub(crate) fn identifier_told(answer: Identifier) -> Told
     ensures { λ r. ⌜ r ≡ identifierTold answer ⌝ }
 {
     match answer {
-        Identifier::Borrowed { start, end } => Told {
-            number: 0,
-            how: 1,
-            first: start,
-            second: end,
-        },
-        Identifier::Written { len } => Told {
-            number: 0,
-            how: 2,
-            first: 0,
-            second: len,
-        },
+        Identifier::Borrowed { start, end } => borrowed_told(start, end),
+        Identifier::Written { len } => written_told(len),
         Identifier::NotUtf8 => number_told(4),
         Identifier::InvalidString => number_told(6),
-        Identifier::NoRoom { needed } => Told {
-            number: 9,
-            how: 0,
-            first: 0,
-            second: needed,
-        },
+        Identifier::NoRoom { needed } => room_told(needed),
     }
 }
 
@@ -198,21 +195,11 @@ pub(crate) fn writing_told(answer: Writing) -> Told
     ensures { λ r. ⌜ r ≡ writingTold answer ⌝ }
 {
     match answer {
-        Writing::Written { len } => Told {
-            number: 0,
-            how: 2,
-            first: 0,
-            second: len,
-        },
+        Writing::Written { len } => written_told(len),
         Writing::OverLimit => number_told(12),
         Writing::NotUtf8 => number_told(4),
         Writing::HoldsNul => number_told(11),
-        Writing::NoRoom { needed } => Told {
-            number: 9,
-            how: 0,
-            first: 0,
-            second: needed,
-        },
+        Writing::NoRoom { needed } => room_told(needed),
     }
 }
 

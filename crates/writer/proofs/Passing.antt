@@ -9,7 +9,7 @@ use lib.ListN.{length, getD, take, drop, set, length-append, length-take, length
 use lib.Seq.{drop-cons, drop-drop, take-add, take-append-seam, drop-append-seam, length-take-le, set-at, drop-set-lt}
 use Rattle.meaning.specs.Bytes.{if_then_else_, quote}
 use Rattle.laws.proofs.WriterText.{cost, cost-most}
-use Rattle.writer.specs.Texts.{begins, usedBehind, turn, turns, textBy, Put}
+use Rattle.writer.specs.Texts.{begins, usedBehind, turn, turns, textBy, PutBytes}
 use Rattle.writer.proofs.Turning.{turn-length, put-behind}
 
 module _ (bs : Bool) (w : ℕ) (v : List ℕ) where
@@ -131,7 +131,7 @@ module _ {bs : Bool} {w : ℕ} {v d out : List ℕ} {n k at : ℕ} (m : Writing 
     pub writing-room : length (turn bs x (getD v at 0)) ≤ length (take (length out - n) (drop n out))
     writing-room = omega (arith, fits, m .room, writing-same, length-take (length out - n) (drop n out), length-drop n out)
 
-    module _ (r : ℕ) (last : List ℕ) (p : Put (turn bs x (getD v at 0)) (take (length out - n) (drop n out)) r last) where
+    module _ (r : ℕ) (last : List ℕ) (p : PutBytes (turn bs x (getD v at 0)) (take (length out - n) (drop n out)) r last) where
       pub writing-turn : (u : ℕ) → u ≡ usedBehind x k
           → Writing bs w v d (take n out ++ (last ++ drop (length out - n) (drop n out))) (n + r) u (at + 1)
       writing-turn u f =
@@ -151,7 +151,7 @@ module _ {bs : Bool} {w : ℕ} {v d out : List ℕ} {n k at : ℕ} (m : Writing 
 
 -- behind the loop the last mark is put
 module _ {bs : Bool} {w : ℕ} {v : List ℕ} (d : List ℕ) {out : List ℕ} {n k at : ℕ} (m : Writing bs w v (set d 0 39) out n k at) where
-  pub writing-whole : length v ≤ at → Put (textBy bs w v) d (n + 1) (set out n 39)
+  pub writing-whole : length v ≤ at → PutBytes (textBy bs w v) d (n + 1) (set out n 39)
   writing-whole h =
       let l : 0 < length (textBy bs w v) = omega (arith, before m) in
       record { answer = omega (arith, ended m h .0); buffer = ended m h .1 ∙ ap (textBy bs w v ++_) (drop-set-lt (length (textBy bs w v)) d 0 39 l) }
@@ -163,5 +163,5 @@ module _ {bs : Bool} {w : ℕ} {v : List ℕ} (d : List ℕ) {out : List ℕ} {n
   writing-last = omega (arith, before m, m .room, length-set d 0 39)
 
   pub writing-fits : at < length v → (x : Bool) → x ≡ begins w k (getD v at 0) → (r : ℕ) (last : List ℕ)
-      → Put (turn bs x (getD v at 0)) (take (length out - n) (drop n out)) r last → n + r ≤ length d
+      → PutBytes (turn bs x (getD v at 0)) (take (length out - n) (drop n out)) r last → n + r ≤ length d
   writing-fits h x e r last p = omega (arith, fits m h x e, m .room, p .answer, length-set d 0 39)

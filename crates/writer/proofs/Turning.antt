@@ -14,7 +14,7 @@ use Rattle.meaning.specs.Chars.{width}
 use Rattle.meaning.specs.Writer.{spell}
 use Rattle.laws.proofs.Passes.{put-part}
 use Rattle.laws.proofs.WriterText.{cost, spell-length}
-use Rattle.writer.specs.Texts.{begins, turn, Put}
+use Rattle.writer.specs.Texts.{begins, turn, PutBytes}
 
 -- THE NEXT PART
 pub begins-is : (w k b r : ℕ) → r ≡ width b → (ltb 0 r && ltb w (k + r)) ≡ begins w k b
@@ -86,20 +86,20 @@ module _ (bs x : Bool) (b : ℕ) where
   turn-single h k = sym (counted ∙ rw (h, k))
 
 -- PUT at a buffer's start
-put-sets : (t out s : List ℕ) → t ≡ s → length t ≤ length out → Put t out (length s) (sets out 0 s)
+put-sets : (t out s : List ℕ) → t ≡ s → length t ≤ length out → PutBytes t out (length s) (sets out 0 s)
 put-sets t out s e h =
     let r : 0 + length s ≤ length out = omega (arith, ap length e) in
     let n : 0 + length s ≡ length s = omega arith in
     rw e (record { answer = refl; buffer = sets-eq s out 0 r ∙ ap (λ (k : ℕ). s ++ drop k out) n })
 
-pub put-one : (t out : List ℕ) (a : ℕ) → t ≡ a ∷ [] → length t ≤ length out → Put t out 1 (set out 0 a)
+pub put-one : (t out : List ℕ) (a : ℕ) → t ≡ a ∷ [] → length t ≤ length out → PutBytes t out 1 (set out 0 a)
 put-one t out a e h = put-sets t out (a ∷ []) e h
 
-pub put-two : (t out : List ℕ) (a b : ℕ) → t ≡ a ∷ b ∷ [] → length t ≤ length out → Put t out 2 (set (set out 0 a) 1 b)
+pub put-two : (t out : List ℕ) (a b : ℕ) → t ≡ a ∷ b ∷ [] → length t ≤ length out → PutBytes t out 2 (set (set out 0 a) 1 b)
 put-two t out a b e h = put-sets t out (a ∷ b ∷ []) e h
 
 -- behind p, of n bytes: the rest of the buffer was lent to a callee that put t there, and has come back
-pub put-behind : (p t d out last : List ℕ) (n r : ℕ) → length p ≡ n → out ≡ p ++ drop n d → Put t (take (length out - n) (drop n out)) r last
+pub put-behind : (p t d out last : List ℕ) (n r : ℕ) → length p ≡ n → out ≡ p ++ drop n d → PutBytes t (take (length out - n) (drop n out)) r last
     → take n out ++ (last ++ drop (length out - n) (drop n out)) ≡ (p ++ t) ++ drop (n + length t) d
 put-behind p t d out last n r e o q =
     let k : length (drop n out) ≡ length out - n = length-drop n out in
@@ -117,7 +117,7 @@ module _ (bs x : Bool) (b : ℕ) (out : List ℕ) (h : length (turn bs x b) ≤ 
   pub stays-room : x ≡ false → length (spell bs b) ≤ length out
   stays-room e = omega (arith, ap length (ap (λ (y : Bool). turn bs y b) e ∙ turn-stays bs b))
 
-  pub stays-put : x ≡ false → (r : ℕ) (after : List ℕ) → Put (spell bs b) out r after → Put (turn bs x b) out r after
+  pub stays-put : x ≡ false → (r : ℕ) (after : List ℕ) → PutBytes (spell bs b) out r after → PutBytes (turn bs x b) out r after
   stays-put e r after p = rw (e, turn-stays bs b) p
 
   module _ (e : x ≡ true) where
@@ -136,14 +136,14 @@ module _ (bs x : Bool) (b : ℕ) (out : List ℕ) (h : length (turn bs x b) ≤ 
     pub begins-lent : length (spell bs b) ≤ length (take (length (marked out) - 3) (drop 3 (marked out)))
     begins-lent = omega (arith, begins-room, long, length-take (length (marked out) - 3) (drop 3 (marked out)), length-drop 3 (marked out))
 
-    module _ (r : ℕ) (last : List ℕ) (p : Put (spell bs b) (take (length (marked out) - 3) (drop 3 (marked out))) r last) where
+    module _ (r : ℕ) (last : List ℕ) (p : PutBytes (spell bs b) (take (length (marked out) - 3) (drop 3 (marked out))) r last) where
       after-is : take 3 (marked out) ++ (last ++ drop (length (marked out) - 3) (drop 3 (marked out))) ≡ turn bs x b ++ drop (length (turn bs x b)) out
       after-is =
           let n : 3 + length (spell bs b) ≡ length (turn bs x b) = omega (arith, ap length is) in
           put-behind (39 ∷ 32 ∷ 39 ∷ []) (spell bs b) out (marked out) last 3 r refl three p
           ∙ ap (λ (m : ℕ). (39 ∷ 32 ∷ 39 ∷ spell bs b) ++ drop m out) n ∙ ap (_++ drop (length (turn bs x b)) out) (sym is)
 
-      pub begins-put : Put (turn bs x b) out (3 + r) (take 3 (marked out) ++ (last ++ drop (length (marked out) - 3) (drop 3 (marked out))))
+      pub begins-put : PutBytes (turn bs x b) out (3 + r) (take 3 (marked out) ++ (last ++ drop (length (marked out) - 3) (drop 3 (marked out))))
       begins-put = record { answer = omega (arith, p .answer, ap length is); buffer = after-is }
 
       pub begins-same : length (take 3 (marked out) ++ (last ++ drop (length (marked out) - 3) (drop 3 (marked out)))) ≡ length out

@@ -40,6 +40,6 @@ pub record Fits (v t : List ℕ) (n : ℕ) : Type 0 where
   pub room : length t ≤ n
 
 -- bytes are put at a buffer's start, and counted
-pub record Put (t out : List ℕ) (n : ℕ) (after : List ℕ) : Type 0 where
+pub record PutBytes (t out : List ℕ) (n : ℕ) (after : List ℕ) : Type 0 where
   pub answer : n ≡ length t
   pub buffer : after ≡ t ++ drop (length t) out

@@ -13,7 +13,7 @@ ghost use Prim.Native.Nat.{_≤_};
 ghost use lib.ListN.{length};
 ghost use Rattle.meaning.specs.Answers.{Meets};
 ghost use Rattle.meaning.specs.Writer.{overLimit, unwritableNul, writeQuestion};
-ghost use Rattle.writer.specs.Texts.{textBy, Fits, Put};
+ghost use Rattle.writer.specs.Texts.{textBy, Fits, PutBytes};
 
 // Whether a value is too long to be written, or the parts are too small.
 // Rules out: a limit one byte further (must-fail: quote_not_doubled).
@@ -65,7 +65,7 @@ fn text_len(value: &[u8], limit: usize, backslash: bool) -> usize
 // Writes the text, for which there is room, and says how long it is.
 fn write_text(value: &[u8], limit: usize, backslash: bool, out: &mut [u8]) -> usize
     requires { ⌜ Fits (now value) (textBy backslash limit (now value)) (length (now out)) ⌝ }
-    ensures { λ r. ⌜ Put (textBy backslash limit (now (value .entry))) (now (out .entry)) r (now (out .exit)) ⌝ }
+    ensures { λ r. ⌜ PutBytes (textBy backslash limit (now (value .entry))) (now (out .entry)) r (now (out .exit)) ⌝ }
 {
     out[0] = 39;
     let mut n: usize = 1;

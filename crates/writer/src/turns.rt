@@ -5,7 +5,7 @@ ghost use mathlib.Core.Path.{_≡_};
 ghost use Prim.Native.Nat.{_≤_};
 ghost use lib.ListN.{length};
 ghost use Rattle.meaning.specs.Writer.{spell};
-ghost use Rattle.writer.specs.Texts.{limitOf, begins, usedBehind, turn, Put};
+ghost use Rattle.writer.specs.Texts.{limitOf, begins, usedBehind, turn, PutBytes};
 
 // How many value bytes a part may have. A value that is written whole is a part without an end: no value has so many bytes.
 pub(crate) fn part_limit(size: PartSize) -> usize
@@ -60,7 +60,7 @@ pub(crate) fn turn_len(begins: bool, byte: u8, backslash: bool) -> usize
 // Rules out: a quote that is not doubled; a backslash doubled with the setting off (must-fail: backslash_always_doubled, quote_not_doubled).
 fn put_spelled(byte: u8, backslash: bool, out: &mut [u8]) -> usize
     requires { ⌜ length (spell backslash byte) ≤ length (now out) ⌝ }
-    ensures { λ r. ⌜ Put (spell backslash byte) (now (out .entry)) r (now (out .exit)) ⌝ }
+    ensures { λ r. ⌜ PutBytes (spell backslash byte) (now (out .entry)) r (now (out .exit)) ⌝ }
 {
     if byte == 39 {
         out[0] = 39;
@@ -85,7 +85,7 @@ fn put_spelled(byte: u8, backslash: bool, out: &mut [u8]) -> usize
 // Rules out: parts without a space between (must-fail: no_space_between).
 pub(crate) fn put_turn(begins: bool, byte: u8, backslash: bool, out: &mut [u8]) -> usize
     requires { ⌜ length (turn backslash begins byte) ≤ length (now out) ⌝ }
-    ensures { λ r. ⌜ Put (turn backslash begins byte) (now (out .entry)) r (now (out .exit)) ⌝ }
+    ensures { λ r. ⌜ PutBytes (turn backslash begins byte) (now (out .entry)) r (now (out .exit)) ⌝ }
 {
     if begins {
         out[0] = 39;

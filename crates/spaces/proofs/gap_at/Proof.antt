@@ -15,7 +15,8 @@ Inv-loop text at i₀ i = Spacing text at i
 abbrev μ-loop : tie.MeasureT-loop
 μ-loop text at i₀ i = length text - i
 
-room : (c : tie.After-space-at Inv-loop μ-loop) → c .before .before .loop .i + c .space-at .result ≤ length (now (c .before .before .before .before .args .text))
+room : (c : tie.After-space-at Inv-loop μ-loop)
+    → c .before .before .loop .i + c .space-at .result ≤ length (now (c .before .before .before .before .args .text))
 room c = search spacing-room
 
 loop-holds : tie.Need-loop-holds Inv-loop μ-loop

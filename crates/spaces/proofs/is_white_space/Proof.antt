@@ -2,7 +2,6 @@
 -- Assumes nothing.
 use mathlib.Core.Logic.{⊎-elim}
 use Prim.Native.Nat.{_-_}
-use borrow.Author.Needs.{needs}
 use native.Mathlib.Omega.{arith}
 use Rattle.spaces.proofs.Ranges.{Seeking, seek-start, seek-none, seek-found, seek-low, seek-high}
 use Rattle.spaces.proofs.is_white_space.Statement.{statement}

@@ -1,5 +1,5 @@
--- `leaves::blocks::is_free_block` meets its contract. The loop's invariant, `Counting`: so many of the first j bytes are none of the three. The measure is what is
--- left of n. Assumes nothing.
+-- `leaves::blocks::is_free_block` meets its contract. The loop's invariant, `Counting`: so many of the first j bytes are none of the three. The measure is
+-- what is left of n. Assumes nothing.
 use Prim.Native.Nat.{_-_}
 use Rattle.leaves.specs.Blocks.{freeOf}
 use Rattle.leaves.proofs.Scans.{one-most, Counting, counting-start, counting-on, counting-end}

@@ -1,5 +1,5 @@
--- `leaves::blocks::is_free_by` meets its contract. The loop's invariant, `Before`: no byte before i is one of the three. The measure is what is left of the length.
--- Assumes nothing.
+-- `leaves::blocks::is_free_by` meets its contract. The loop's invariant, `Before`: no byte before i is one of the three. The measure is what is left of the
+-- length. Assumes nothing.
 use Prim.Native.Nat.{_-_}
 use lib.ListN.{length}
 use Rattle.leaves.specs.Blocks.{freeOf}

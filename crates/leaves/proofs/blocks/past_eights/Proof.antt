@@ -1,5 +1,5 @@
--- `leaves::blocks::past_eights` meets its contract. The loop's invariant, `Past`: the bytes up to i are none of the three. The measure is what is left of the length.
--- Assumes nothing.
+-- `leaves::blocks::past_eights` meets its contract. The loop's invariant, `Past`: the bytes up to i are none of the three. The measure is what is left of the
+-- length. Assumes nothing.
 use Prim.Native.Nat.{_-_}
 use lib.ListN.{length}
 use Rattle.leaves.specs.Blocks.{freeOf, Past}

@@ -1,5 +1,5 @@
--- `leaves::blocks::past_plain` meets its contract. The loop's invariant, `Past`: the bytes up to i are none of the three. The measure is what is left of the length.
--- Assumes nothing.
+-- `leaves::blocks::past_plain` meets its contract. The loop's invariant, `Past`: the bytes up to i are none of the three. The measure is what is left of the
+-- length. Assumes nothing.
 use Prim.Native.Nat.{_-_}
 use borrow.Author.Needs.{needs}
 use native.Mathlib.Omega.{arith}

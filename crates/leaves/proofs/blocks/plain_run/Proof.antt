@@ -1,5 +1,5 @@
--- `leaves::blocks::plain_run` meets its contract. The loop's invariant, `Past`: the bytes from the place up to the end are none of the three. The measure is what is left of
--- the length. Assumes nothing.
+-- `leaves::blocks::plain_run` meets its contract. The loop's invariant, `Past`: the bytes from the place up to the end are none of the three. The measure is
+-- what is left of the length. Assumes nothing.
 use Prim.Native.Nat.{_-_}
 use lib.ListN.{length}
 use Rattle.leaves.specs.Blocks.{freeOf, plainStops, Past}

@@ -1,7 +1,6 @@
 -- `leaves::texts::string_literal_embeds_nul` meets its contract. A text that is not free of NUL holds one. Assumes nothing.
 use Rattle.leaves.proofs.Scans.{nul-found}
 use borrow.Author.Needs.{needs}
-use borrow.Author.Needs.{needs}
 use Rattle.leaves.proofs.texts.string_literal_embeds_nul.Statement.{statement}
 use Rattle.leaves.proofs.texts.string_literal_embeds_nul.Tie as tie
 

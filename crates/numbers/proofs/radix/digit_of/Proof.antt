@@ -1,7 +1,6 @@
 -- `numbers::radix::digit_of` meets its contract. Up to 9 it is a difference; above it, letters lie 32 apart. Assumes nothing.
 use borrow.Author.Needs.{needs}
 use Rattle.numbers.proofs.Radixes.{of-decimal, of-letter}
-use borrow.Author.Needs.{needs}
 use Rattle.numbers.proofs.radix.digit_of.Statement.{statement}
 use Rattle.numbers.proofs.radix.digit_of.Tie as tie
 

@@ -64,7 +64,8 @@ utf8-len-requires : tie.Need-utf8-len-requires
 utf8-len-requires c κs = search needs
 
 returns-2 : tie.Need-returns-2
-returns-2 c = no-room _ _ (sym (c .before .before .before .is-scalar .ensures) ∙ not-false _ (c .before .before .if1 .left)) (rw (c .before .utf8-len .ensures) at (c .if2 .taken))
+returns-2 c = no-room _ _ (sym (c .before .before .before .is-scalar .ensures) ∙ not-false _ (c .before .before .if1 .left))
+    (rw (c .before .utf8-len .ensures) at (c .if2 .taken))
 
 cast-out : tie.Need-cast-out
 cast-out c = search needs
@@ -178,4 +179,47 @@ returns-6 : tie.Need-returns-6
 returns-6 c = put (number (c .before .before .before)) (lent (c .before .before .before)) _ (scalar (c .before .before .before)) (spelled₄ c) (room₄ c)
 
 pub encode-utf8-spec : {M : Type 1} → statement M
-encode-utf8-spec = tie.close (tie.spec is-scalar-requires returns utf8-len-requires returns-2 cast-out slice-write-out same-length returns-3 add-out cast-out-2 slice-write-out-2 add-out-2 cast-out-3 slice-write-out-3 same-length-2 returns-4 add-out-3 cast-out-4 slice-write-out-4 add-out-4 cast-out-5 slice-write-out-5 add-out-5 cast-out-6 slice-write-out-6 same-length-3 returns-5 add-out-6 cast-out-7 slice-write-out-7 add-out-7 cast-out-8 slice-write-out-8 add-out-8 cast-out-9 slice-write-out-9 add-out-9 cast-out-10 slice-write-out-10 same-length-4 returns-6)
+encode-utf8-spec =
+    tie.close
+    (tie.spec
+    is-scalar-requires
+    returns
+    utf8-len-requires
+    returns-2
+    cast-out
+    slice-write-out
+    same-length
+    returns-3
+    add-out
+    cast-out-2
+    slice-write-out-2
+    add-out-2
+    cast-out-3
+    slice-write-out-3
+    same-length-2
+    returns-4
+    add-out-3
+    cast-out-4
+    slice-write-out-4
+    add-out-4
+    cast-out-5
+    slice-write-out-5
+    add-out-5
+    cast-out-6
+    slice-write-out-6
+    same-length-3
+    returns-5
+    add-out-6
+    cast-out-7
+    slice-write-out-7
+    add-out-7
+    cast-out-8
+    slice-write-out-8
+    add-out-8
+    cast-out-9
+    slice-write-out-9
+    add-out-9
+    cast-out-10
+    slice-write-out-10
+    same-length-4
+    returns-6)

@@ -5,7 +5,8 @@ use borrow.Author.Needs.{needs}
 use native.Mathlib.Omega.{arith}
 use lib.ListN.{length}
 use Rattle.utf8.specs.Tails.{dueOf}
-use Rattle.scalars.proofs.Gathering.{Gathering, gathering-none, gathering-start, gathering-low, gathering-short, gathering-on, gathering-whole, gathering-broken}
+use Rattle.scalars.proofs.Gathering.{Gathering, gathering-none, gathering-start, gathering-low, gathering-short, gathering-on, gathering-whole}
+use Rattle.scalars.proofs.Gathering.{gathering-broken}
 use Rattle.scalars.proofs.reading.scalar_at.Statement.{statement}
 use Rattle.scalars.proofs.reading.scalar_at.Tie as tie
 
@@ -76,4 +77,27 @@ returns-4 : tie.Need-returns-4 Inv-loop μ-loop
 returns-4 c = search gathering-broken
 
 pub scalar-at-spec : {M : Type 1} → statement M
-scalar-at-spec = tie.close (tie.spec Inv-loop μ-loop returns shared-slice-read-first utf8-tail-push-requires lead-bits-requires add-i loop-holds is-due-requires returns-2 shared-slice-read-byte utf8-tail-push-requires-2 mul-number cast-number add-number add-i-2 loop-less loop-again is-whole-requires returns-3 returns-4)
+scalar-at-spec =
+    tie.close
+    (tie.spec
+    Inv-loop
+    μ-loop
+    returns
+    shared-slice-read-first
+    utf8-tail-push-requires
+    lead-bits-requires
+    add-i
+    loop-holds
+    is-due-requires
+    returns-2
+    shared-slice-read-byte
+    utf8-tail-push-requires-2
+    mul-number
+    cast-number
+    add-number
+    add-i-2
+    loop-less
+    loop-again
+    is-whole-requires
+    returns-3
+    returns-4)

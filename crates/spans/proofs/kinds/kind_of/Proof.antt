@@ -1,5 +1,5 @@
 -- `spans::kinds::kind_of` meets its contract: each code is looked up. Assumes nothing.
-use mathlib.Core.Path.{_≡_, refl, sym, ap, subst}
+use mathlib.Core.Path.{_≡_, sym, ap}
 use Prim.Native.Nat.{ℕ, suc, _+_, _-_, _≤_}
 use native.Mathlib.Omega.{arith}
 use Rattle.meaning.specs.declared.LiteralKind.the-variants.{Null}

@@ -85,4 +85,32 @@ returns-9 : tie.Need-returns-9
 returns-9 c = search needs
 
 pub utf8-tail-push-spec : {M : Type 1} → statement M
-utf8-tail-push-spec = tie.close (tie.spec enum-told utf8-lead-requires enum-told-2 due-next-requires enum-told-3 due-next-requires-2 enum-told-4 due-next-requires-3 enum-told-5 due-next-requires-4 enum-told-6 due-next-requires-5 enum-told-7 due-next-requires-6 enum-told-8 due-next-requires-7 enum-told-9 returns returns-2 returns-3 returns-4 returns-5 returns-6 returns-7 returns-8 returns-9)
+utf8-tail-push-spec =
+    tie.close
+    (tie.spec
+    enum-told
+    utf8-lead-requires
+    enum-told-2
+    due-next-requires
+    enum-told-3
+    due-next-requires-2
+    enum-told-4
+    due-next-requires-3
+    enum-told-5
+    due-next-requires-4
+    enum-told-6
+    due-next-requires-5
+    enum-told-7
+    due-next-requires-6
+    enum-told-8
+    due-next-requires-7
+    enum-told-9
+    returns
+    returns-2
+    returns-3
+    returns-4
+    returns-5
+    returns-6
+    returns-7
+    returns-8
+    returns-9)

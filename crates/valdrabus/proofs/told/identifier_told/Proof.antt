@@ -1,5 +1,5 @@
 -- `valdrabus::told::identifier_told` meets its contract, by the answer. Assumes nothing.
-use Rattle.valdrabus.proofs.Telling.{identifier-borrowed, identifier-number, identifier-room, identifier-written}
+use Rattle.valdrabus.proofs.Telling.{identifier-by}
 use borrow.Author.Needs.{needs}
 use Rattle.valdrabus.proofs.told.identifier_told.Statement.{statement}
 use Rattle.valdrabus.proofs.told.identifier_told.Tie as tie
@@ -7,8 +7,14 @@ use Rattle.valdrabus.proofs.told.identifier_told.Tie as tie
 enum-known-answer : tie.Need-enum-known-answer
 enum-known-answer c = search needs
 
+borrowed-told-requires : tie.Need-borrowed-told-requires
+borrowed-told-requires c κs = search needs
+
 enum-known-answer-2 : tie.Need-enum-known-answer-2
 enum-known-answer-2 c = search needs
+
+written-told-requires : tie.Need-written-told-requires
+written-told-requires c κs = search needs
 
 enum-told : tie.Need-enum-told
 enum-told c = search needs
@@ -25,32 +31,38 @@ number-told-requires-2 c κs = search needs
 enum-known-answer-3 : tie.Need-enum-known-answer-3
 enum-known-answer-3 c = search needs
 
+room-told-requires : tie.Need-room-told-requires
+room-told-requires c κs = search needs
+
 returns : tie.Need-returns
-returns c = search identifier-borrowed
+returns c = search identifier-by
 
 returns-2 : tie.Need-returns-2
-returns-2 c = search identifier-written
+returns-2 c = search identifier-by
 
 returns-3 : tie.Need-returns-3
-returns-3 c = search identifier-number
+returns-3 c = search identifier-by
 
 returns-4 : tie.Need-returns-4
-returns-4 c = search identifier-number
+returns-4 c = search identifier-by
 
 returns-5 : tie.Need-returns-5
-returns-5 c = search identifier-room
+returns-5 c = search identifier-by
 
 pub identifier-told-spec : {M : Type 1} → statement M
 identifier-told-spec =
     tie.close
     (tie.spec
     enum-known-answer
+    borrowed-told-requires
     enum-known-answer-2
+    written-told-requires
     enum-told
     number-told-requires
     enum-told-2
     number-told-requires-2
     enum-known-answer-3
+    room-told-requires
     returns
     returns-2
     returns-3

@@ -1,5 +1,5 @@
 -- `valdrabus::told::nullness_told` meets its contract, by the answer. Assumes nothing.
-use Rattle.valdrabus.proofs.Telling.{nullness-null}
+use Rattle.valdrabus.proofs.Telling.{nullness-by}
 use borrow.Author.Needs.{needs}
 use Rattle.valdrabus.proofs.told.nullness_told.Statement.{statement}
 use Rattle.valdrabus.proofs.told.nullness_told.Tie as tie
@@ -17,10 +17,10 @@ refusal-told-requires : tie.Need-refusal-told-requires
 refusal-told-requires c κs = search needs
 
 returns : tie.Need-returns
-returns c = search nullness-null
+returns c = search nullness-by
 
 returns-2 : tie.Need-returns-2
-returns-2 c = search needs
+returns-2 c = search nullness-by
 
 pub nullness-told-spec : {M : Type 1} → statement M
 nullness-told-spec =

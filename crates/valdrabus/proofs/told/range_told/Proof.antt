@@ -1,11 +1,14 @@
 -- `valdrabus::told::range_told` meets its contract, by the answer. Assumes nothing.
-use Rattle.valdrabus.proofs.Telling.{range-found}
+use Rattle.valdrabus.proofs.Telling.{range-by}
 use borrow.Author.Needs.{needs}
 use Rattle.valdrabus.proofs.told.range_told.Statement.{statement}
 use Rattle.valdrabus.proofs.told.range_told.Tie as tie
 
 enum-known-answer : tie.Need-enum-known-answer
 enum-known-answer c = search needs
+
+borrowed-told-requires : tie.Need-borrowed-told-requires
+borrowed-told-requires c κs = search needs
 
 enum-known-answer-2 : tie.Need-enum-known-answer-2
 enum-known-answer-2 c = search needs
@@ -14,12 +17,18 @@ refusal-told-requires : tie.Need-refusal-told-requires
 refusal-told-requires c κs = search needs
 
 returns : tie.Need-returns
-returns c = search range-found
+returns c = search range-by
 
 returns-2 : tie.Need-returns-2
-returns-2 c = search needs
+returns-2 c = search range-by
 
 pub range-told-spec : {M : Type 1} → statement M
 range-told-spec =
     tie.close
-    (tie.spec enum-known-answer enum-known-answer-2 refusal-told-requires returns returns-2)
+    (tie.spec
+    enum-known-answer
+    borrowed-told-requires
+    enum-known-answer-2
+    refusal-told-requires
+    returns
+    returns-2)

@@ -1,5 +1,5 @@
 -- `valdrabus::told::refusal_told` meets its contract, by the refusal. Assumes nothing.
-use Rattle.valdrabus.proofs.Telling.{refusal-by, refusal-room, wrong-kind}
+use Rattle.valdrabus.proofs.Telling.{refusal-by, wrong-kind}
 use borrow.Author.Needs.{needs}
 use Rattle.valdrabus.proofs.told.refusal_told.Statement.{statement}
 use Rattle.valdrabus.proofs.told.refusal_told.Tie as tie
@@ -64,6 +64,9 @@ span-told-requires-7 c κs = search needs
 enum-known-refusal-9 : tie.Need-enum-known-refusal-9
 enum-known-refusal-9 c = search needs
 
+room-told-requires : tie.Need-room-told-requires
+room-told-requires c κs = search needs
+
 returns : tie.Need-returns
 returns c = search wrong-kind
 
@@ -89,7 +92,7 @@ returns-8 : tie.Need-returns-8
 returns-8 c = search refusal-by
 
 returns-9 : tie.Need-returns-9
-returns-9 c = search refusal-room
+returns-9 c = search refusal-by
 
 pub refusal-told-spec : {M : Type 1} → statement M
 refusal-told-spec =
@@ -115,6 +118,7 @@ refusal-told-spec =
     enum-known-refusal-8
     span-told-requires-7
     enum-known-refusal-9
+    room-told-requires
     returns
     returns-2
     returns-3

@@ -1,5 +1,5 @@
 -- `valdrabus::told::text_told` meets its contract, by the answer. Assumes nothing.
-use Rattle.valdrabus.proofs.Telling.{text-borrowed, text-written}
+use Rattle.valdrabus.proofs.Telling.{text-by}
 use borrow.Author.Needs.{needs}
 use Rattle.valdrabus.proofs.told.text_told.Statement.{statement}
 use Rattle.valdrabus.proofs.told.text_told.Tie as tie
@@ -7,8 +7,14 @@ use Rattle.valdrabus.proofs.told.text_told.Tie as tie
 enum-known-answer : tie.Need-enum-known-answer
 enum-known-answer c = search needs
 
+borrowed-told-requires : tie.Need-borrowed-told-requires
+borrowed-told-requires c κs = search needs
+
 enum-known-answer-2 : tie.Need-enum-known-answer-2
 enum-known-answer-2 c = search needs
+
+written-told-requires : tie.Need-written-told-requires
+written-told-requires c κs = search needs
 
 enum-known-answer-3 : tie.Need-enum-known-answer-3
 enum-known-answer-3 c = search needs
@@ -17,20 +23,22 @@ refusal-told-requires : tie.Need-refusal-told-requires
 refusal-told-requires c κs = search needs
 
 returns : tie.Need-returns
-returns c = search text-borrowed
+returns c = search text-by
 
 returns-2 : tie.Need-returns-2
-returns-2 c = search text-written
+returns-2 c = search text-by
 
 returns-3 : tie.Need-returns-3
-returns-3 c = search needs
+returns-3 c = search text-by
 
 pub text-told-spec : {M : Type 1} → statement M
 text-told-spec =
     tie.close
     (tie.spec
     enum-known-answer
+    borrowed-told-requires
     enum-known-answer-2
+    written-told-requires
     enum-known-answer-3
     refusal-told-requires
     returns

@@ -1,11 +1,14 @@
 -- `valdrabus::told::writing_told` meets its contract, by the answer. Assumes nothing.
-use Rattle.valdrabus.proofs.Telling.{writing-number, writing-room, writing-written}
+use Rattle.valdrabus.proofs.Telling.{writing-by}
 use borrow.Author.Needs.{needs}
 use Rattle.valdrabus.proofs.told.writing_told.Statement.{statement}
 use Rattle.valdrabus.proofs.told.writing_told.Tie as tie
 
 enum-known-answer : tie.Need-enum-known-answer
 enum-known-answer c = search needs
+
+written-told-requires : tie.Need-written-told-requires
+written-told-requires c κs = search needs
 
 enum-told : tie.Need-enum-told
 enum-told c = search needs
@@ -28,26 +31,30 @@ number-told-requires-3 c κs = search needs
 enum-known-answer-2 : tie.Need-enum-known-answer-2
 enum-known-answer-2 c = search needs
 
+room-told-requires : tie.Need-room-told-requires
+room-told-requires c κs = search needs
+
 returns : tie.Need-returns
-returns c = search writing-written
+returns c = search writing-by
 
 returns-2 : tie.Need-returns-2
-returns-2 c = search writing-number
+returns-2 c = search writing-by
 
 returns-3 : tie.Need-returns-3
-returns-3 c = search writing-number
+returns-3 c = search writing-by
 
 returns-4 : tie.Need-returns-4
-returns-4 c = search writing-number
+returns-4 c = search writing-by
 
 returns-5 : tie.Need-returns-5
-returns-5 c = search writing-room
+returns-5 c = search writing-by
 
 pub writing-told-spec : {M : Type 1} → statement M
 writing-told-spec =
     tie.close
     (tie.spec
     enum-known-answer
+    written-told-requires
     enum-told
     number-told-requires
     enum-told-2
@@ -55,6 +62,7 @@ writing-told-spec =
     enum-told-3
     number-told-requires-3
     enum-known-answer-2
+    room-told-requires
     returns
     returns-2
     returns-3
