@@ -4,8 +4,7 @@ use Prim.Native.Nat.{_≤_}
 use lib.ListN.{length, take}
 use lib.Seq.{length-take-le}
 use Rattle.meaning.specs.Chars.{pushes, encode}
-use Rattle.laws.proofs.Encode.{encode-fresh}
-use Rattle.escapes.proofs.Encodings.{encoded-part}
+use Rattle.escapes.proofs.Encodings.{encoded-part, encode-fresh}
 use borrow.Author.Needs.{needs}
 use Rattle.escapes.proofs.pieces.scalar_tail.Statement.{statement}
 use Rattle.escapes.proofs.pieces.scalar_tail.Tie as tie
