@@ -155,6 +155,10 @@ module _ (p : ℕ → Bool) (t : List ℕ) (at : ℕ) where
     pub past-end : length t ≤ i → i - at ≡ span p (drop at t)
     past-end h = whole (ap (span p) (drop-of-length-le t h))
 
+  -- none passes where the first does not
+  pub past-first : at < length t → (x : Bool) → x ≡ p (getD t at 0) → not x ≡ true → 0 ≡ span p (drop at t)
+  past-first h x e y = let z = past-stop at (past-none (omega arith)) h x e y in omega arith
+
   pub past-behind : length t ≤ at → 0 ≡ span p (drop at t)
   past-behind h = sym (ap (span p) (drop-of-length-le t h))
 

@@ -107,12 +107,15 @@ fn past_eights(text: &[u8], at: usize, stops: Stops) -> usize
     i
 }
 
-// How many bytes at a place are none of the three.
+// How many bytes at a place are none of the three. Between escapes the run is often empty, so the first byte is looked at alone.
 // Rules out: the place told for the number; every other byte passed over (must-fail: tag_from_81, tag_starts_with_dollar).
 pub fn free_run(text: &[u8], at: usize, stops: Stops) -> usize
     ensures { λ r. ⌜ r ≡ span (freeOf stops) (drop at (now (text .entry))) ⌝ }
 {
     if text.len() <= at {
+        return 0;
+    }
+    if !is_other(text[at], stops) {
         return 0;
     }
     let mut i = past_eights(text, at, stops);

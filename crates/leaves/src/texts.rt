@@ -3,7 +3,8 @@ use crate::blocks::Stops;
 use crate::blocks::is_free;
 ghost use mathlib.Core.Path.{_≡_};
 ghost use lib.ListN.{drop};
-ghost use Rattle.meaning.specs.Bytes.{has, starts};
+ghost use Rattle.meaning.specs.Bytes.{starts};
+ghost use Rattle.meaning.specs.Helpers.{embedsNul};
 ghost use Rattle.meaning.specs.Spelling.{encloses};
 
 // Whether a text stands at a place.
@@ -48,7 +49,7 @@ pub fn is_enclosed(text: &[u8], at: usize, mark: u8) -> bool
 // [`string_literal_embeds_nul`] Whether a text holds a raw NUL.
 // Rules out: another byte looked for; the answers exchanged (must-fail: first_of_each, second_of_each).
 pub fn string_literal_embeds_nul(text: &[u8]) -> bool
-    ensures { λ r. ⌜ r ≡ has 0 (now (text .entry)) ⌝ }
+    ensures { λ r. ⌜ r ≡ embedsNul (now (text .entry)) ⌝ }
 {
     !is_free(
         text,
