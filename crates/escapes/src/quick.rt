@@ -2,6 +2,7 @@
 // characters they leave the UTF-8 state as it is, so that a few of them are passed over at once.
 use crate::units::Family;
 use crate::units::is_octal;
+use leaves::blocks::one_if;
 use leaves::bytes::byte_at;
 use utf8::tail::Utf8Tail;
 ghost use mathlib.Core.Path.{_≡_};
@@ -30,7 +31,7 @@ fn is_quick_letter(letter: u8) -> bool
         & (letter != 85)
 }
 
-// How many bytes such a unit takes at a place, 1 or 2; 0 where none stands there. All is computed before the one choice.
+// How many bytes such a unit takes at a place, 1 or 2; 0 where none stands there. A sum, and no jump, so that units in any order are passed at one pace.
 // Rules out: \x taken for a letter; a mark alone passed over (must-fail: wrong_quick, wrong_digits).
 fn quick_len(body: &[u8], at: usize) -> usize
     requires { ⌜ at < length (now body) ⌝ }
@@ -41,16 +42,7 @@ fn quick_len(body: &[u8], at: usize) -> usize
     let plain = (byte < 128) & (byte != 92) & (byte != 39);
     let escaped = (byte == 92) & is_quick_letter(next);
     let doubled = (byte == 39) & (next == 39);
-    if plain {
-        return 1;
-    }
-    if escaped {
-        return 2;
-    }
-    if doubled {
-        return 2;
-    }
-    0
+    (one_if(plain) + one_if(escaped | doubled) * 2) as usize
 }
 
 // Passes over such units from a place on, 32 at the most: a longer run is taken by blocks.
