@@ -1,4 +1,5 @@
 -- `escapes::quick::quick_len` meets its contract: the sum is the law's, and at most two. Assumes nothing.
+use mathlib.Core.Path.{refl}
 use native.Mathlib.Omega.{arith}
 use denote.Ref.{now}
 use borrow.Author.Needs.{needs}
@@ -9,11 +10,11 @@ use Rattle.escapes.proofs.quick.quick_len.Tie as tie
 shared-slice-read-byte : tie.Need-shared-slice-read-byte
 shared-slice-read-byte c = search needs
 
-add-byte-at : tie.Need-add-byte-at
-add-byte-at c = search needs
+add-next : tie.Need-add-next
+add-next c = search needs
 
-byte-at-requires : tie.Need-byte-at-requires
-byte-at-requires c κs = search needs
+shared-slice-read-next : tie.Need-shared-slice-read-next
+shared-slice-read-next c = search needs
 
 is-quick-letter-requires : tie.Need-is-quick-letter-requires
 is-quick-letter-requires c κs = search needs
@@ -26,9 +27,8 @@ one-if-requires-2 c κs = search needs
 
 returns : tie.Need-returns
 returns c =
-    let b = c .before .before .before in
-    let s = b .before .before .before in
-    quick-sum (now (s .args .body)) (s .args .at) (s .pre) (b .byte-at .result) (c .before .before .is-quick-letter .result) (b .byte-at .ensures)
+    let s = c .before .before .before .before .before .before in
+    quick-sum (now (s .args .body)) (s .args .at) (omega (arith, s .pre)) _ (c .before .before .is-quick-letter .result) refl
     (c .before .before .is-quick-letter .ensures) _ (rw (c .before .one-if .ensures, c .one-if2 .ensures))
 
 mul-result : tie.Need-mul-result
@@ -45,8 +45,8 @@ quick-len-spec =
     tie.close
     (tie.spec
     shared-slice-read-byte
-    add-byte-at
-    byte-at-requires
+    add-next
+    shared-slice-read-next
     is-quick-letter-requires
     one-if-requires
     one-if-requires-2
