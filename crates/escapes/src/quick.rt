@@ -2,10 +2,10 @@
 // characters they leave the UTF-8 state as it is, so that a few of them are passed over at once.
 use crate::units::Family;
 use crate::units::is_octal;
-use leaves::bytes::byte_at;
+use leaves::blocks::one_if;
 use utf8::tail::Utf8Tail;
 ghost use mathlib.Core.Path.{_≡_};
-ghost use Prim.Native.Nat.{_≤_, _<_};
+ghost use Prim.Native.Nat.{_+_, _≤_, _<_};
 ghost use lib.ListN.{length, drop};
 ghost use Rattle.utf8.specs.Tails.{dueOf};
 ghost use Rattle.escapes.specs.Quick.{isQuick, Quick, Passes};
@@ -30,30 +30,22 @@ fn is_quick_letter(letter: u8) -> bool
         & (letter != 85)
 }
 
-// How many bytes such a unit takes at a place, 1 or 2; 0 where none stands there. All is computed before the one choice.
+// How many bytes such a unit takes at a place before the last, 1 or 2; 0 where none stands there. A sum, and no jump: no order of
+// units is slower than another.
 // Rules out: \x taken for a letter; a mark alone passed over (must-fail: wrong_quick, wrong_digits).
 fn quick_len(body: &[u8], at: usize) -> usize
-    requires { ⌜ at < length (now body) ⌝ }
+    requires { ⌜ at + 1 < length (now body) ⌝ }
     ensures { λ r. ⌜ Quick (drop at (now (body .entry))) r ⌝ }
 {
     let byte = body[at];
-    let next = byte_at(body, at + 1);
+    let next = body[at + 1];
     let plain = (byte < 128) & (byte != 92) & (byte != 39);
     let escaped = (byte == 92) & is_quick_letter(next);
     let doubled = (byte == 39) & (next == 39);
-    if plain {
-        return 1;
-    }
-    if escaped {
-        return 2;
-    }
-    if doubled {
-        return 2;
-    }
-    0
+    (one_if(plain) + one_if(escaped | doubled) * 2) as usize
 }
 
-// Passes over such units from a place on, 32 at the most: a longer run is taken by blocks.
+// Passes over such units from a place on, 32 at the most: a longer run is taken by blocks. A unit at the last byte is left, so that two bytes are always there.
 // Rules out: a unit counted twice (must-fail: counted_twice).
 fn pass_quick(body: &[u8], from: usize, escape: &[u8]) -> Passed
     requires { ⌜ from ≤ length (now body) ⌝ }
@@ -62,7 +54,7 @@ fn pass_quick(body: &[u8], from: usize, escape: &[u8]) -> Passed
     let mut at = from;
     let mut n: usize = 0;
     let mut plain = true;
-    while (at < body.len()) & (n < 32) {
+    while (1 < body.len() - at) & (n < 32) {
         let len = quick_len(body, at);
         if len == 0 {
             return Passed { at, n, plain };

@@ -21,18 +21,22 @@ Inv-loop body from escape at₀ n₀ plain₀ at n plain = Passes Escape escape 
 abbrev μ-loop : tie.MeasureT-loop
 μ-loop body from escape at₀ n₀ plain₀ at n plain = length body - at
 
-inside : (c : tie.In-loop Inv-loop μ-loop) → c .before .loop .at < length (now (c .before .before .before .before .args .body))
+inside : (c : tie.In-loop Inv-loop μ-loop) → c .before .loop .at + 1 < length (now (c .before .before .before .before .args .body))
 inside c =
-    ltb-true _ _
-    (and-left (ltb (c .before .loop .at) (length (now (c .before .before .before .before .args .body)))) (ltb (c .before .loop .n) 32) (c .loop-test .taken))
+    let o = c .before .loop in
+    let l = length (now (c .before .before .before .before .args .body)) in
+    omega (arith, ltb-true 1 (l - o .at) (and-left (ltb 1 (l - o .at)) (ltb (o .n) 32) (c .loop-test .taken)))
 
 turn : (c : tie.Else1 Inv-loop μ-loop) → let a = c .before .before .before .before .before .before .args in let o = c .before .before .before .loop in let k = c .before .quick-len .result in
     Passes Escape (now (a .escape)) (now (a .body)) fresh (a .from) (record { at = o .at + k; n = o .n + 1; plain = o .plain && eqb k 1 })
 turn c =
-    passes-turn _ _ _ (c .before .before .before .loop .inv) (inside (c .before .before)) (c .before .quick-len .result) (c .before .quick-len .ensures) (c .if1 .left)
+    passes-turn _ _ _ (c .before .before .before .loop .inv) (omega (arith, inside (c .before .before))) (c .before .quick-len .result) (c .before .quick-len .ensures) (c .if1 .left)
 
 loop-holds : tie.Need-loop-holds Inv-loop μ-loop
 loop-holds c = passes-none Escape _ _ fresh _ (search needs)
+
+sub-loop : tie.Need-sub-loop Inv-loop μ-loop
+sub-loop c = c .loop .inv .inside
 
 quick-len-requires : tie.Need-quick-len-requires Inv-loop μ-loop
 quick-len-requires c κs = inside c
@@ -41,7 +45,10 @@ returns : tie.Need-returns Inv-loop μ-loop
 returns c = c .before .before .before .loop .inv
 
 add-n : tie.Need-add-n Inv-loop μ-loop
-add-n c = omega (arith, ltb-true (c .before .before .before .loop .n) 32 (and-right (ltb (c .before .before .before .loop .at) (length (now (c .before .before .before .before .before .before .args .body)))) (ltb (c .before .before .before .loop .n) 32) (c .before .before .loop-test .taken)))
+add-n c =
+    let o = c .before .before .before .loop in
+    let l = length (now (c .before .before .before .before .before .before .args .body)) in
+    omega (arith, ltb-true (o .n) 32 (and-right (ltb 1 (l - o .at)) (ltb (o .n) 32) (c .before .before .loop-test .taken)))
 
 add-at : tie.Need-add-at Inv-loop μ-loop
 add-at c = omega (arith, turn c .inside)
@@ -62,6 +69,7 @@ pass-quick-spec =
     Inv-loop
     μ-loop
     loop-holds
+    sub-loop
     quick-len-requires
     returns
     add-n
