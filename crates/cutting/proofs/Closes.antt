@@ -82,7 +82,8 @@ module _ (h : Bool) (q : ℕ) (l : List ℕ) (at : ℕ) (i : at < length l) wher
   module _ (k : Stops) (ek : k ≡ stopsBy h q) (n : ℕ) (en : n ≡ span (freeOf k) (drop (at + 1) l)) where
     passed : (h && eqb (l ! at) backslash) ≡ false → (l ! at ≡ q → ⊥) → Kept (closingStep h q) l at (suc n)
     passed t a =
-        run-kept (freeOf (stopsBy h q)) (closingStep h q) (others-kept h q) l at i (step-other t a) n (en ∙ ap (λ (x : Stops). span (freeOf x) (drop (at + 1) l)) ek)
+        run-kept (freeOf (stopsBy h q)) (closingStep h q) (others-kept h q) l at i (step-other t a) n
+        (en ∙ ap (λ (x : Stops). span (freeOf x) (drop (at + 1) l)) ek)
 
     pub run-fits : (h && eqb (l ! at) backslash) ≡ false → (l ! at ≡ q → ⊥) → at + (1 + n) ≤ length l
     run-fits t a = omega (arith, passed t a .room)

@@ -70,7 +70,8 @@ pub record Searched (σ : Settings) (l : List ℕ) (o : ℕ) (r : Closing) : Typ
   pub some : o ≡ 0 → ⊥
   pub answers : r ≡ closedOf (walk (closingStep (hides σ l) (l ! (o - 1))) 0 (drop o l))
 
-pub searched : (σ : Settings) (l : List ℕ) (o : ℕ) (r : Closing) → o ≡ opening l → (o ≡ 0 → ⊥) → (m : Mark) → (isMark (l ! (o - 1)) ≡ true → markOf m ≡ l ! (o - 1))
+pub searched : (σ : Settings) (l : List ℕ) (o : ℕ) (r : Closing) → o ≡ opening l → (o ≡ 0 → ⊥) → (m : Mark)
+    → (isMark (l ! (o - 1)) ≡ true → markOf m ≡ l ! (o - 1))
     → (h : Bool) → h ≡ hides σ l → r ≡ closedOf (walk (closingStep h (markOf m)) 0 (take (length l - o) (drop o l))) → Searched σ l o r
 searched σ l o r e z m em h eh er = record {
   opens = e;

@@ -44,7 +44,8 @@ number-behind β (suc n) v [] h = absurd (omega arith)
 number-behind β (suc n) v (x ∷ t) h =
     let a : number β n (v * β + digit x) t ≡ (v * β + digit x) * β ^ n + number β n 0 t = number-behind β n (v * β + digit x) t (omega arith) in
     let b : number β n (0 * β + digit x) t ≡ (0 * β + digit x) * β ^ n + number β n 0 t = number-behind β n (0 * β + digit x) t (omega arith) in
-    let p : (v * β + digit x) * β ^ n ≡ v * (β * β ^ n) + digit x * β ^ n = add-mul (v * β) (digit x) (β ^ n) ∙ ap (_+ digit x * β ^ n) (mul-assoc v β (β ^ n)) in
+    let p : (v * β + digit x) * β ^ n ≡ v * (β * β ^ n) + digit x * β ^ n =
+    add-mul (v * β) (digit x) (β ^ n) ∙ ap (_+ digit x * β ^ n) (mul-assoc v β (β ^ n)) in
     let q : (0 * β + digit x) * β ^ n ≡ digit x * β ^ n = ap (_* β ^ n) (omega arith) in
     let r : v * β ^ suc n ≡ v * (β * β ^ n) = ap (v *_) (pow-succ' β n) in
     omega arith

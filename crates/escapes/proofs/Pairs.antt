@@ -122,16 +122,19 @@ module _ (m : Mark) (q : ℕ) (eq : q ≡ markOf m) (bs : Bool) (l : List ℕ) w
         → Measuring step false l (at + (1 + u .more)) (n + (1 + u .wide)) (p && u .keep) fresh
     pair-measured u e h r =
         let t = pair-taken (v .so-far) u e h r in
-        measuring-turn v (stands (pairAt at) (l ! at)) (u .keep) (at + (1 + u .more)) (n + (1 + u .wide)) (p && u .keep) fresh (t .0) (ap (n +_) (t .1)) refl refl tt
+        measuring-turn v (stands (pairAt at) (l ! at)) (u .keep) (at + (1 + u .more)) (n + (1 + u .wide)) (p && u .keep) fresh (t .0)
+        (ap (n +_) (t .1)) refl refl tt
 
     pub eight-measured : (e : List ℕ) (st : Stops) → st ≡ stopsOf (Standard m bs) e → passes (freeOf st) 8 (drop at l) ≡ true
         → Measuring step false l (at + 8) (n + 8) p fresh
     eight-measured e st es h =
         let i : 8 ≤ length (drop at l) = passes-inside (freeOf st) 8 (drop at l) h in
-        measuring-turn v (take 8 (drop at l)) true (at + 8) (n + 8) p fresh (eight-taken e st es (v .so-far) h) (ap (n +_) (length-take-le 8 (drop at l) i)) (and-true p) refl tt
+        measuring-turn v (take 8 (drop at l)) true (at + 8) (n + 8) p fresh (eight-taken e st es (v .so-far) h) (ap (n +_) (length-take-le 8 (drop at l) i))
+        (and-true p) refl tt
 
 -- by the family: a standard body, or nothing yet
-pub front-none : (f : Family) (e l : List ℕ) (r : Ahead) → r ≡ record { at = 0; n = 0; plain = true } → Measuring (stepOf f e) (checks f) l (r .at) (r .n) (r .plain) fresh
+pub front-none : (f : Family) (e l : List ℕ) (r : Ahead) → r ≡ record { at = 0; n = 0; plain = true }
+    → Measuring (stepOf f e) (checks f) l (r .at) (r .n) (r .plain) fresh
 front-none f e l r q = rw q (measuring-none (stepOf f e) (checks f) l)
 
 pub front-standard : (f : Family) (e l : List ℕ) (m : Mark) (bs : Bool) → f ≡ Standard m bs → (r : Ahead)

@@ -167,10 +167,12 @@ pub passes-none : (f : Family) (e l : List ℕ) (d : Due) (from : ℕ) → from 
 passes-none f e l d from h = record {
   inside = h;
   onward = omega arith;
-  goes = λ m p g. subst (λ (k : ℕ). Measuring (stepOf f e) (checks f) l from k (p && true) d) (sym (add-zero m)) (subst (λ (q : Bool). Measuring (stepOf f e) (checks f) l from m q d) (sym (and-true p)) g);
+  goes = λ m p g. subst (λ (k : ℕ). Measuring (stepOf f e) (checks f) l from k (p && true) d) (sym (add-zero m))
+      (subst (λ (q : Bool). Measuring (stepOf f e) (checks f) l from m q d) (sym (and-true p)) g);
 }
 
-module _ (e l : List ℕ) (from : ℕ) {at n : ℕ} {plain : Bool} (r : Passes Escape e l fresh from (record { at = at; n = n; plain = plain })) (h : at < length l) where
+module _ (e l : List ℕ) (from : ℕ) {at n : ℕ} {plain : Bool} (r : Passes Escape e l fresh from (record { at = at; n = n; plain = plain }))
+    (h : at < length l) where
   pub passes-turn : (k : ℕ) → Quick (drop at l) k → (k ≡ 0 → ⊥)
       → Passes Escape e l fresh from (record { at = at + k; n = n + 1; plain = plain && eqb k 1 })
   passes-turn k q o = record {

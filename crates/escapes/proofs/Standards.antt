@@ -54,7 +54,14 @@ module _ (bs : Bool) (q b c : ℕ) where
         mark false y m w em ew = rw (em, ew)
 
         go : (x : Bool) (m w : ℕ) → m ≡ (if x || (not x && eqb b q) then 1 else 0) → w ≡ (if x && wild c then 1 else 0)
-            → _≡_ {A = StandardUnit} (record { refused = (not x && eqb b q) && not (eqb c q); keep = not (x || (not x && eqb b q)); escapes = x; more = m; wide = w })
+            → _≡_ {A = StandardUnit} (record {
+              refused = (not x && eqb b q) && not (eqb c q);
+              keep = not (x || (not x && eqb b q));
+              escapes = x;
+              more =
+                  m;
+              wide = w;
+            })
             (unitBy x (if x then mysql (c ∷ []) else (if eqb b q then doubled q (c ∷ []) else keep)))
         go true m w em ew = letter (ltb (byteOf mysqlTable c) 256) refl (wild c) refl m w em ew
         go false m w em ew = mark (eqb b q) (eqb c q) m w em ew

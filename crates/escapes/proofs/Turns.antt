@@ -109,12 +109,14 @@ module _ (f : Family) (e l : List ℕ) {at : ℕ} (s : SoFar (stepOf f e) l at) 
       → Taken s (stands (meaningOf e p) (l ! at)) (isKept (meaningOf e p)) z
   unit p g i z ez = unit-taken s (steady f e) (meaningOf e p) h (sym i) g z ez
 
-  pub turn-taken : (p : Piece) → IsBy e p (stepOf f e (drop at l)) → Goes (meaningOf e p) → (k : ℕ) → k ≡ moreBy p (span (freeOf (stopsOf f e)) (drop (at + 1) l))
+  pub turn-taken : (p : Piece) → IsBy e p (stepOf f e (drop at l)) → Goes (meaningOf e p) → (k : ℕ)
+      → k ≡ moreBy p (span (freeOf (stopsOf f e)) (drop (at + 1) l))
       → (z : ℕ) → z ≡ at + 1 + k → Taken s (bytesOf p (partTo z) e) (isKeep p) z
   turn-taken Piece′.Keep i g k ek z ez =
       let a : at + suc k ≡ z = omega arith in
       let b : suc k ≡ z - at = omega arith in
-      subst (λ (n : ℕ). Taken s (take n (drop at l)) true z) b (subst (λ (n : ℕ). Taken s (take (suc k) (drop at l)) true n) a (kept-taken s (suc k) (run (sym (i .means)) k ek)))
+      subst (λ (n : ℕ). Taken s (take n (drop at l)) true z) b
+      (subst (λ (n : ℕ). Taken s (take (suc k) (drop at l)) true n) a (kept-taken s (suc k) (run (sym (i .means)) k ek)))
   turn-taken (Piece′.Byte m b) i g k ek z ez = unit (Piece′.Byte m b) g (i .means) z (omega arith)
   turn-taken (Piece′.Two m b c) i g k ek z ez = unit (Piece′.Two m b c) g (i .means) z (omega arith)
   turn-taken (Piece′.Scalar m c) i g k ek z ez = unit (Piece′.Scalar m c) g (i .means) z (omega arith)
@@ -122,7 +124,8 @@ module _ (f : Family) (e l : List ℕ) {at : ℕ} (s : SoFar (stepOf f e) l at) 
   turn-taken Piece′.Refused i g k ek z ez = absurd g
 
 -- where a turn's bytes break the text: at its first byte, or at the byte of a run that does
-module _ (f : Family) (e l : List ℕ) {at n : ℕ} {pl : Bool} (tail : Utf8Tail) (m : Measuring (stepOf f e) true l at n pl (dueOf tail)) (h : at < length l) (k q : ℕ) where
+module _ (f : Family) (e l : List ℕ) {at n : ℕ} {pl : Bool} (tail : Utf8Tail) (m : Measuring (stepOf f e) true l at n pl (dueOf tail)) (h : at < length l)
+    (k q : ℕ) where
   abbrev own : List ℕ
   own = take (at + 1 + k - at) (drop at l)
 
@@ -140,7 +143,8 @@ module _ (f : Family) (e l : List ℕ) {at n : ℕ} {pl : Bool} (tail : Utf8Tail
       let byte : l ! (at + q) ≡ own ! q = sym (getD-take (at + 1 + k - at) (drop at l) q 0 less ∙ getD-drop at l q 0) in
       let t = kept-taken (m .so-far) q (record { room = omega (arith, c .room); each = λ j o. c .each j (omega arith) }) in
       let goes : pushes (dueOf tail) c′ ≡ broken → ⊥ = λ b. w .before (ap (pushes (dueOf tail)) same ∙ b) in
-      let m′ = measuring-turn m c′ true (at + q) (n + length c′) (pl && true) (pushes (dueOf tail) c′) t refl refl refl (unbroken-not (pushes (dueOf tail) c′) goes) in
+      let m′ = measuring-turn m c′ true (at + q) (n + length c′) (pl && true) (pushes (dueOf tail) c′) t refl refl refl
+      (unbroken-not (pushes (dueOf tail) c′) goes) in
       measuring-broken m′ keep (omega (arith, c .room)) (c .each q (omega arith)) tt
       (sym (ap (push (pushes (dueOf tail) c′)) byte ∙ ap (λ (x : Due). push x (own ! q)) (ap (pushes (dueOf tail)) (sym same)) ∙ w .there))
 

@@ -14,7 +14,8 @@ use lib.Seq.{drop-cons, drop-drop, getD-drop}
 use Rattle.meaning.specs.Bytes.{if_then_else_, _!_, ascii, has, starts, within, backslash, digit, digits, number}
 use Rattle.meaning.specs.Chars.{encode, isScalar}
 use Rattle.meaning.specs.Walk.{Step, keep, give, stop}
-use Rattle.meaning.specs.Steps.{byteOf, mysqlTable, escapeTable, doubled, mysql, oneByte, mayEscape, scalarBy, escaped, pair, lowHalf, uescaped, standardStep, escapeStep, unicodeStep}
+use Rattle.meaning.specs.Steps.{byteOf, mysqlTable, escapeTable, doubled, mysql, oneByte, mayEscape, scalarBy, escaped, pair, lowHalf, uescaped, standardStep}
+use Rattle.meaning.specs.Steps.{escapeStep, unicodeStep}
 use Rattle.laws.proofs.Tests.{and-left, and-right, eqb-sym, within-yes, within-below, within-above, within-bounds}
 use Rattle.laws.proofs.Encode.{isScalar-yes}
 use Rattle.laws.proofs.Digits.{digits-le, digits-length, number-digits-lt}
@@ -218,7 +219,8 @@ letter-last c t h x u w =
   where
     go : (x y z w u : Bool)
         → (if ltb (toldBy x y z w u) 256 then give 1 (toldBy x y z w u ∷ []) else if eqb c 0 then stop else give 1 (c ∷ []))
-        ≡ (if eqb (if ltb (toldBy x y z w u) 256 then toldBy x y z w u else c) 0 then stop else give 1 ((if ltb (toldBy x y z w u) 256 then toldBy x y z w u else c) ∷ []))
+        ≡ (if eqb (if ltb (toldBy x y z w u) 256 then toldBy x y z w u else c) 0 then stop
+        else give 1 ((if ltb (toldBy x y z w u) 256 then toldBy x y z w u else c) ∷ []))
     go true y z w u = refl
     go false true z w u = refl
     go false false true w u = refl
@@ -244,7 +246,8 @@ module _ (l : List ℕ) (at : ℕ) (h : at < length l) where
 
   module _ (c : l ! at ≡ 120) (x : Digits) (s : Run 16 2 (drop (at + 1) l) x) where
     x-here : escaped (l ! at ∷ drop (at + 1) l)
-        ≡ (if ltb 0 (digits 16 2 (drop (at + 1) l)) then oneByte (suc (digits 16 2 (drop (at + 1) l))) (number 16 (digits 16 2 (drop (at + 1) l)) 0 (drop (at + 1) l))
+        ≡ (if ltb 0 (digits 16 2 (drop (at + 1) l)) then oneByte (suc (digits 16 2 (drop (at + 1) l)))
+        (number 16 (digits 16 2 (drop (at + 1) l)) 0 (drop (at + 1) l))
         else oneByte 1 120)
     unfolding digit within
     x-here = rw c
@@ -322,7 +325,8 @@ module _ (e l : List ℕ) (at : ℕ) where
       pub uescaped-plus : (p : Piece) (n : ℕ) → n ≡ length e + 6 → Is p (scalarOf n v) → IsBy e p (uescaped e (drop at l))
       unfolding uescaped
       uescaped-plus p n f i =
-          is-by e i (rw (f, s, front l at, eq-eqb (l ! at) 43 c, drop-drop) (sym (scalar-by 6 (length e + 6) (drop (at + 1) l) ∙ ap (scalarOf (length e + 6)) (sym r))))
+          is-by e i (rw (f, s, front l at, eq-eqb (l ! at) 43 c, drop-drop)
+          (sym (scalar-by 6 (length e + 6) (drop (at + 1) l) ∙ ap (scalarOf (length e + 6)) (sym r))))
 
       pub uescaped-no-plus : v ≡ 0 → IsBy e Refused (uescaped e (drop at l))
       uescaped-no-plus z = uescaped-plus Refused (length e + 6) refl (scalar-zero (length e + 6) v z)
@@ -331,10 +335,12 @@ module _ (e l : List ℕ) (at : ℕ) where
       four-here : uescaped e (drop at l) ≡ (if within 0xD800 0xDBFF v then lowHalf e v (drop (at + 4) l) else scalarOf (length e + 3) v)
       unfolding uescaped hexBy within
       four-here =
-          rw (s, front l at, ne-eqb (l ! at) 43 c, drop-drop, scalar-by 4 (length e + 3) (drop at l), r) (go (eqb (digits 16 4 (drop at l)) 4) (number 16 4 0 (drop at l)))
+          rw (s, front l at, ne-eqb (l ! at) 43 c, drop-drop, scalar-by 4 (length e + 3) (drop at l), r)
+          (go (eqb (digits 16 4 (drop at l)) 4) (number 16 4 0 (drop at l)))
         where
           go : (x : Bool) (k : ℕ) → (if x && within 0xD800 0xDBFF k then lowHalf e k (drop (at + 4) l) else scalarOf (length e + 3) (if x then k else 0))
-              ≡ (if within 0xD800 0xDBFF (if x then k else 0) then lowHalf e (if x then k else 0) (drop (at + 4) l) else scalarOf (length e + 3) (if x then k else 0))
+              ≡ (if within 0xD800 0xDBFF (if x then k else 0) then lowHalf e (if x then k else 0) (drop (at + 4) l)
+              else scalarOf (length e + 3) (if x then k else 0))
           go true k = refl
           go false k = refl
 
@@ -342,7 +348,8 @@ module _ (e l : List ℕ) (at : ℕ) where
       unfolding within
       uescaped-high w p i = is-by e i (sym (four-here ∙ rw w))
 
-      pub uescaped-four : (leb 0xD800 v && leb v 0xDBFF) ≡ false → (p : Piece) (m : ℕ) → m ≡ length e + 3 → Is p (scalarOf m v) → IsBy e p (uescaped e (drop at l))
+      pub uescaped-four : (leb 0xD800 v && leb v 0xDBFF) ≡ false → (p : Piece) (m : ℕ) → m ≡ length e + 3 → Is p (scalarOf m v)
+          → IsBy e p (uescaped e (drop at l))
       unfolding within
       uescaped-four w p m f i = is-by e i (rw f (sym (four-here ∙ rw w)))
 
@@ -386,7 +393,8 @@ module _ (e l : List ℕ) (at : ℕ) (h : at < length l) where
         ≡ (if eqb (l ! at) q then doubled q (drop (at + 1) l) else if starts e (drop at l) then uescaped e (drop (at + length e) l) else keep)
     unicode-here =
         ap (unicodeStep e q) (cut l at h)
-        ∙ ap (λ (t : List ℕ). if eqb (l ! at) q then doubled q (drop (at + 1) l) else if starts e t then uescaped e (drop (length e) t) else keep) (sym (cut l at h))
+        ∙ ap (λ (t : List ℕ). if eqb (l ! at) q then doubled q (drop (at + 1) l) else if starts e t then uescaped e (drop (length e) t) else keep)
+        (sym (cut l at h))
         ∙ rw drop-drop refl
 
     pub unicode-mark : l ! at ≡ q → (p : Piece) → Is p (doubled q (drop (at + 1) l)) → IsBy e p (unicodeStep e q (drop at l))

@@ -60,7 +60,10 @@ loop-less-2 c = omega arith
 
 loop-again-2 : tie.Need-loop-again-2 Inv-loop μ-loop
 loop-again-2 c =
-    turn-doubled _ _ _ _ (c .before .before .before .before .before .loop-test .taken) (c .before .before .before .before .before .before .loop .inv) (c .before .before .before .before .before .before .before .before .before .before .args .mark) (c .before .before .before .before .before .before .before .before .mark-byte .ensures) (c .before .before .before .if1 .left) (c .before .before .if3 .taken) _ (c .before .byte-at .ensures) (c .if4 .left)
+    turn-doubled _ _ _ _ (c .before .before .before .before .before .loop-test .taken) (c .before .before .before .before .before .before .loop .inv)
+    (c .before .before .before .before .before .before .before .before .before .before .args .mark)
+    (c .before .before .before .before .before .before .before .before .mark-byte .ensures) (c .before .before .before .if1 .left)
+    (c .before .before .if3 .taken) _ (c .before .byte-at .ensures) (c .if4 .left)
 
 add-free-run : tie.Need-add-free-run Inv-loop μ-loop
 add-free-run c = omega arith
@@ -69,13 +72,19 @@ free-run-requires : tie.Need-free-run-requires Inv-loop μ-loop
 free-run-requires c κs = search needs
 
 add-at-3 : tie.Need-add-at-3 Inv-loop μ-loop
-add-at-3 c = let f = run-fits _ _ _ _ (c .before .before .before .before .loop-test .taken) _ (c .before .before .before .before .before .before .closing-stops .ensures) _ (c .free-run .ensures) (c .before .before .if1 .left) (c .before .if3 .left) in omega (arith, f)
+add-at-3 c = let f = run-fits _ _ _ _ (c .before .before .before .before .loop-test .taken) _
+    (c .before .before .before .before .before .before .closing-stops .ensures) _ (c .free-run .ensures) (c .before .before .if1 .left)
+    (c .before .if3 .left) in omega (arith, f)
 
 add-at-4 : tie.Need-add-at-4 Inv-loop μ-loop
-add-at-4 c = let f = run-fits _ _ _ _ (c .before .before .before .before .loop-test .taken) _ (c .before .before .before .before .before .before .closing-stops .ensures) _ (c .free-run .ensures) (c .before .before .if1 .left) (c .before .if3 .left) in omega (arith, f)
+add-at-4 c = let f = run-fits _ _ _ _ (c .before .before .before .before .loop-test .taken) _
+    (c .before .before .before .before .before .before .closing-stops .ensures) _ (c .free-run .ensures) (c .before .before .if1 .left)
+    (c .before .if3 .left) in omega (arith, f)
 
 loop-less-3 : tie.Need-loop-less-3 Inv-loop μ-loop
-loop-less-3 c = let f = run-fits _ _ _ _ (c .before .before .before .before .loop-test .taken) _ (c .before .before .before .before .before .before .closing-stops .ensures) _ (c .free-run .ensures) (c .before .before .if1 .left) (c .before .if3 .left) in omega (arith, f)
+loop-less-3 c = let f = run-fits _ _ _ _ (c .before .before .before .before .loop-test .taken) _
+    (c .before .before .before .before .before .before .closing-stops .ensures) _ (c .free-run .ensures) (c .before .before .if1 .left)
+    (c .before .if3 .left) in omega (arith, f)
 
 loop-again-3 : tie.Need-loop-again-3 Inv-loop μ-loop
 loop-again-3 c = search turn-other

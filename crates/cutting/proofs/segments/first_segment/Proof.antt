@@ -11,7 +11,8 @@ use Rattle.cutting.proofs.segments.first_segment.Tie as tie
 abbrev start : tie.After-closing-mark → tie.Start
 start c = c .before .before .before .before .before .before .before .before
 
-behind : (c : tie.After-closing-mark) → Searched (start c .args .settings) (now (start c .args .text)) (c .before .before .before .before .before .before .opening-len .result) (c .closing-mark .result)
+behind : (c : tie.After-closing-mark) → Searched (start c .args .settings) (now (start c .args .text))
+    (c .before .before .before .before .before .before .opening-len .result) (c .closing-mark .result)
 behind c = search searched
 
 opening-len-requires : tie.Need-opening-len-requires

@@ -19,7 +19,11 @@ there c = leb-true _ _ (sym (c .before .are-there .ensures) ∙ not-false _ (c .
 -- both groups, as one
 group : (c : tie.After-four-hexes2) → let a = c .before .before .before .before .before .args in
     Group 8 (drop (a .at) (now (a .body)))
-    (record { whole = c .before .four-hexes .result .whole && c .four-hexes2 .result .whole; value = c .before .four-hexes .result .value * 65536 + c .four-hexes2 .result .value })
+    (record {
+      whole = c .before .four-hexes .result .whole && c .four-hexes2 .result .whole;
+      value = c .before .four-hexes .result .value
+          * 65536 + c .four-hexes2 .result .value;
+    })
 group c =
     let a = c .before .before .before .before .before .args in
     group-beside 4 4 (now (a .body)) (a .at) _ _ (there (c .before .before)) (c .before .four-hexes .ensures) (c .four-hexes2 .ensures)
@@ -28,7 +32,8 @@ are-there-requires : tie.Need-are-there-requires
 are-there-requires c κs = search needs
 
 returns : tie.Need-returns
-returns c = let a = c .before .before .before .args in hex-short 8 (now (a .body)) (a .at) (omega arith) (sym (c .before .are-there .ensures) ∙ not-true _ (c .if1 .taken))
+returns c = let a = c .before .before .before .args in
+    hex-short 8 (now (a .body)) (a .at) (omega arith) (sym (c .before .are-there .ensures) ∙ not-true _ (c .if1 .taken))
 
 four-hexes-requires : tie.Need-four-hexes-requires
 four-hexes-requires c κs = omega (arith, there c)
@@ -40,10 +45,24 @@ four-hexes-requires-2 : tie.Need-four-hexes-requires-2
 four-hexes-requires-2 c κs = omega (arith, there (c .before))
 
 mul-result : tie.Need-mul-result
-mul-result c = omega (arith, group-small (c .before .before .before .before .before .four-hexes .ensures) (and-left (c .before .before .before .before .before .four-hexes .result .whole) (c .before .before .before .before .four-hexes2 .result .whole) (c .before .if2 .taken)))
+mul-result c = omega (
+  arith,
+  group-small (c .before .before .before .before .before .four-hexes .ensures)
+      (and-left (c .before .before .before .before .before .four-hexes .result .whole) (c .before .before .before .before .four-hexes2 .result .whole)
+      (c .before .if2 .taken)),
+)
 
 add-result : tie.Need-add-result
-add-result c = omega (arith, group-small (c .before .before .before .before .before .before .four-hexes .ensures) (and-left (c .before .before .before .before .before .before .four-hexes .result .whole) (c .before .before .before .before .before .four-hexes2 .result .whole) (c .before .before .if2 .taken)), group-small (c .before .before .before .before .before .four-hexes2 .ensures) (and-right (c .before .before .before .before .before .before .four-hexes .result .whole) (c .before .before .before .before .before .four-hexes2 .result .whole) (c .before .before .if2 .taken)))
+add-result c = omega (
+  arith,
+  group-small (c .before .before .before .before .before .before .four-hexes .ensures)
+      (and-left (c .before .before .before .before .before .before .four-hexes .result .whole)
+      (c .before .before .before .before .before .four-hexes2 .result .whole) (c .before .before .if2 .taken)),
+  group-small
+      (c .before .before .before .before .before .four-hexes2 .ensures)
+      (and-right (c .before .before .before .before .before .before .four-hexes .result .whole)
+      (c .before .before .before .before .before .four-hexes2 .result .whole) (c .before .before .if2 .taken)),
+)
 
 returns-2 : tie.Need-returns-2
 returns-2 c = hex-whole (group (c .before .before .before .before .before)) (c .before .before .if2 .taken)

@@ -12,7 +12,8 @@ are-there-requires : tie.Need-are-there-requires
 are-there-requires c κs = search needs
 
 returns : tie.Need-returns
-returns c = let a = c .before .before .before .args in hex-short 4 (now (a .body)) (a .at) (omega arith) (sym (c .before .are-there .ensures) ∙ not-true _ (c .if1 .taken))
+returns c = let a = c .before .before .before .args in
+    hex-short 4 (now (a .body)) (a .at) (omega arith) (sym (c .before .are-there .ensures) ∙ not-true _ (c .if1 .taken))
 
 four-hexes-requires : tie.Need-four-hexes-requires
 four-hexes-requires c κs = leb-true _ _ (sym (c .before .are-there .ensures) ∙ not-false _ (c .if1 .left))

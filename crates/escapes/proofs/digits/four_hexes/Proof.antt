@@ -19,7 +19,12 @@ mul-t7 : tie.Need-mul-t7
 mul-t7 c = omega (arith, group-two-most (c .before .before .before .before .two-hexes .ensures))
 
 add-t8 : tie.Need-add-t8
-add-t8 c = omega (arith, group-two-most (c .before .before .before .before .before .two-hexes .ensures), group-two-most (c .before .before .before .before .two-hexes2 .ensures))
+add-t8 c = omega (
+  arith,
+  group-two-most (c .before .before .before .before .before .two-hexes .ensures),
+  group-two-most
+      (c .before .before .before .before .two-hexes2 .ensures),
+)
 
 returns : tie.Need-returns
 returns c =

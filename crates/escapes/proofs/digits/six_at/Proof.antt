@@ -19,7 +19,11 @@ there c = leb-true _ _ (sym (c .before .are-there .ensures) ∙ not-false _ (c .
 -- both groups, as one
 group : (c : tie.After-four-hexes) → let a = c .before .before .before .before .before .args in
     Group 6 (drop (a .at) (now (a .body)))
-    (record { whole = c .before .two-hexes .result .whole && c .four-hexes .result .whole; value = c .before .two-hexes .result .value * 65536 + c .four-hexes .result .value })
+    (record {
+      whole = c .before .two-hexes .result .whole && c .four-hexes .result .whole;
+      value = c .before .two-hexes .result .value
+          * 65536 + c .four-hexes .result .value;
+    })
 group c =
     let a = c .before .before .before .before .before .args in
     group-beside 2 4 (now (a .body)) (a .at) _ _ (there (c .before .before)) (c .before .two-hexes .ensures) (c .four-hexes .ensures)
@@ -28,7 +32,8 @@ are-there-requires : tie.Need-are-there-requires
 are-there-requires c κs = search needs
 
 returns : tie.Need-returns
-returns c = let a = c .before .before .before .args in hex-short 6 (now (a .body)) (a .at) (omega arith) (sym (c .before .are-there .ensures) ∙ not-true _ (c .if1 .taken))
+returns c = let a = c .before .before .before .args in
+    hex-short 6 (now (a .body)) (a .at) (omega arith) (sym (c .before .are-there .ensures) ∙ not-true _ (c .if1 .taken))
 
 two-hexes-requires : tie.Need-two-hexes-requires
 two-hexes-requires c κs = omega (arith, there c)
@@ -43,7 +48,14 @@ mul-result : tie.Need-mul-result
 mul-result c = omega (arith, group-two-most (c .before .before .before .before .before .two-hexes .ensures))
 
 add-result : tie.Need-add-result
-add-result c = omega (arith, group-two-most (c .before .before .before .before .before .before .two-hexes .ensures), group-small (c .before .before .before .before .before .four-hexes .ensures) (and-right (c .before .before .before .before .before .before .two-hexes .result .whole) (c .before .before .before .before .before .four-hexes .result .whole) (c .before .before .if2 .taken)))
+add-result c = omega (
+  arith,
+  group-two-most (c .before .before .before .before .before .before .two-hexes .ensures),
+  group-small
+      (c .before .before .before .before .before .four-hexes .ensures)
+      (and-right (c .before .before .before .before .before .before .two-hexes .result .whole)
+      (c .before .before .before .before .before .four-hexes .result .whole) (c .before .before .if2 .taken)),
+)
 
 returns-2 : tie.Need-returns-2
 returns-2 c = hex-whole (group (c .before .before .before .before .before)) (c .before .before .if2 .taken)

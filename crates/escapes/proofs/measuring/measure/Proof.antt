@@ -18,7 +18,8 @@ use Rattle.utf8.specs.Tails.{dueOf}
 use Rattle.escapes.specs.declared.pieces.Piece.the-variants.{Refused}
 use Rattle.escapes.specs.Pieces.{moreBy}
 use Rattle.escapes.specs.Families.{stepOf, stopsOf}
-use Rattle.escapes.proofs.Turns.{more-by, broken-inside, measured-plain, measured-length, measured-stop, measured-refused, measured-fits, measured-room, measured-breaks, measured-broken, measured-turn, measured-passed}
+use Rattle.escapes.proofs.Turns.{more-by, broken-inside, measured-plain, measured-length, measured-stop, measured-refused, measured-fits, measured-room}
+use Rattle.escapes.proofs.Turns.{measured-breaks, measured-broken, measured-turn, measured-passed}
 use Rattle.escapes.proofs.measuring.measure.Statement.{statement}
 use Rattle.escapes.proofs.measuring.measure.Tie as tie
 
@@ -37,15 +38,21 @@ not-broken c q = miss (0 ∷ 1 ∷ 2 ∷ 3 ∷ 4 ∷ 5 ∷ 6 ∷ 7 ∷ []) 8 tt 
 
 -- what it takes behind its first byte, by the family's stops; and that this is there
 more : (c : tie.After-turn-more Inv-loop μ-loop) → let s = c .before .before .before .before .before .before .before .before .before .before .args in
-    c .turn-more .result ≡ moreBy (c .before .before .unit-at .result) (span (freeOf (stopsOf (s .family) (now (s .escape)))) (drop (c .before .before .before .before .loop .at + 1) (now (s .body))))
+    c .turn-more .result ≡ moreBy (c .before .before .unit-at .result)
+    (span (freeOf (stopsOf (s .family) (now (s .escape)))) (drop (c .before .before .before .before .loop .at + 1) (now (s .body))))
 more c =
     let s = c .before .before .before .before .before .before .before .before .before .before .args in
-    more-by (c .before .before .unit-at .result) (c .turn-more .result) (c .before .before .before .before .before .before .run-stops .result) (stopsOf (s .family) (now (s .escape))) (drop (c .before .before .before .before .loop .at + 1) (now (s .body))) (c .turn-more .ensures) (c .before .before .before .before .before .before .run-stops .ensures)
+    more-by (c .before .before .unit-at .result) (c .turn-more .result) (c .before .before .before .before .before .before .run-stops .result)
+    (stopsOf (s .family) (now (s .escape))) (drop (c .before .before .before .before .loop .at + 1) (now (s .body))) (c .turn-more .ensures)
+    (c .before .before .before .before .before .before .run-stops .ensures)
 
-fits : (c : tie.After-turn-more Inv-loop μ-loop) → c .before .before .before .before .loop .at + 1 + c .turn-more .result ≤ length (now (c .before .before .before .before .before .before .before .before .before .before .args .body))
+fits : (c : tie.After-turn-more Inv-loop μ-loop) → c .before .before .before .before .loop .at + 1 + c .turn-more .result ≤ length
+    (now (c .before .before .before .before .before .before .before .before .before .before .args .body))
 fits c =
     let s = c .before .before .before .before .before .before .before .before .before .before .args in
-    measured-fits (s .family) (now (s .escape)) (now (s .body)) _ (c .before .before .before .before .before .before .before .is-checked .ensures) (c .before .before .before .before .loop .tail) (c .before .before .before .before .loop .inv) (c .before .before .before .loop-test .taken) _ (c .before .before .unit-at .ensures) (not-refused (c .before)) _ (more c)
+    measured-fits (s .family) (now (s .escape)) (now (s .body)) _ (c .before .before .before .before .before .before .before .is-checked .ensures)
+    (c .before .before .before .before .loop .tail) (c .before .before .before .before .loop .inv) (c .before .before .before .loop-test .taken) _
+    (c .before .before .unit-at .ensures) (not-refused (c .before)) _ (more c)
 
 is-checked-requires : tie.Need-is-checked-requires Inv-loop μ-loop
 is-checked-requires c κs = search needs
@@ -68,7 +75,9 @@ enum-told c = search needs
 returns : tie.Need-returns Inv-loop μ-loop
 returns c =
     let s = c .before .before .before .before .before .before .before .before .before .before .args in
-    measured-refused (s .family) (now (s .escape)) (now (s .body)) _ (c .before .before .before .before .before .before .before .is-checked .ensures) (c .before .before .before .before .loop .tail) (c .before .before .before .before .loop .inv) (c .before .before .before .loop-test .taken) _ (c .before .before .unit-at .ensures) (c .enum-told .given .1)
+    measured-refused (s .family) (now (s .escape)) (now (s .body)) _ (c .before .before .before .before .before .before .before .is-checked .ensures)
+    (c .before .before .before .before .loop .tail) (c .before .before .before .before .loop .inv) (c .before .before .before .loop-test .taken) _
+    (c .before .before .unit-at .ensures) (c .enum-told .given .1)
 
 add-end : tie.Need-add-end Inv-loop μ-loop
 add-end c = omega arith
@@ -100,7 +109,13 @@ enum-told-2 c = search needs
 broken-at-requires : tie.Need-broken-at-requires Inv-loop μ-loop
 broken-at-requires c κs =
     let s = c .before .before .before .before .before .before .before .before .before .before .before .before .before .before .args in
-    measured-breaks (s .family) (now (s .escape)) (now (s .body)) _ (c .before .before .before .before .before .before .before .before .before .before .before .is-checked .ensures) (c .before .before .before .before .before .before .before .before .loop .tail) (c .before .before .before .before .before .before .before .before .loop .inv) (c .before .before .before .before .before .before .before .loop-test .taken) _ (c .before .before .before .before .before .before .unit-at .ensures) (not-refused (c .before .before .before .before .before)) _ (more (c .before .before .before .before)) _ (c .before .before .next-tail .ensures) (c .enum-told2 .given .1)
+    measured-breaks (s .family) (now (s .escape)) (now (s .body)) _
+    (c .before .before .before .before .before .before .before .before .before .before .before .is-checked .ensures)
+    (c .before .before .before .before .before .before .before .before .loop .tail)
+    (c .before .before .before .before .before .before .before .before .loop .inv)
+    (c .before .before .before .before .before .before .before .loop-test .taken) _ (c .before .before .before .before .before .before .unit-at .ensures)
+    (not-refused (c .before .before .before .before .before)) _ (more (c .before .before .before .before)) _ (c .before .before .next-tail .ensures)
+    (c .enum-told2 .given .1)
 
 add-place : tie.Need-add-place Inv-loop μ-loop
 add-place c =
@@ -114,7 +129,14 @@ add-place c =
 returns-2 : tie.Need-returns-2 Inv-loop μ-loop
 returns-2 c =
     let s = c .before .before .before .before .before .before .before .before .before .before .before .before .before .before .before .args in
-    measured-broken (s .family) (now (s .escape)) (now (s .body)) _ (c .before .before .before .before .before .before .before .before .before .before .before .before .is-checked .ensures) (c .before .before .before .before .before .before .before .before .before .loop .tail) (c .before .before .before .before .before .before .before .before .before .loop .inv) (c .before .before .before .before .before .before .before .before .loop-test .taken) _ (c .before .before .before .before .before .before .before .unit-at .ensures) (not-refused (c .before .before .before .before .before .before)) _ (more (c .before .before .before .before .before)) _ (c .before .before .before .next-tail .ensures) (c .before .enum-told2 .given .1) _ (c .broken-at .ensures)
+    measured-broken (s .family) (now (s .escape)) (now (s .body)) _
+    (c .before .before .before .before .before .before .before .before .before .before .before .before .is-checked .ensures)
+    (c .before .before .before .before .before .before .before .before .before .loop .tail)
+    (c .before .before .before .before .before .before .before .before .before .loop .inv)
+    (c .before .before .before .before .before .before .before .before .loop-test .taken) _
+    (c .before .before .before .before .before .before .before .unit-at .ensures) (not-refused (c .before .before .before .before .before .before)) _
+    (more (c .before .before .before .before .before)) _ (c .before .before .before .next-tail .ensures) (c .before .enum-told2 .given .1) _
+    (c .broken-at .ensures)
 
 is-keep-requires : tie.Need-is-keep-requires Inv-loop μ-loop
 is-keep-requires c κs = search needs
@@ -125,23 +147,46 @@ piece-len-requires c κs = search needs
 add-n : tie.Need-add-n Inv-loop μ-loop
 add-n c =
     let s = c .before .before .before .before .before .before .before .before .before .before .before .before .before .before .before .args in
-    let f = measured-room (s .family) (now (s .escape)) (now (s .body)) _ (c .before .before .before .before .before .before .before .before .before .before .before .before .is-checked .ensures) (c .before .before .before .before .before .before .before .before .before .loop .tail) (c .before .before .before .before .before .before .before .before .before .loop .inv) (c .before .before .before .before .before .before .before .before .loop-test .taken) _ (c .before .before .before .before .before .before .before .unit-at .ensures) (not-refused (c .before .before .before .before .before .before)) _ (more (c .before .before .before .before .before)) in
+    let f = measured-room (s .family) (now (s .escape)) (now (s .body)) _
+    (c .before .before .before .before .before .before .before .before .before .before .before .before .is-checked .ensures)
+    (c .before .before .before .before .before .before .before .before .before .loop .tail)
+    (c .before .before .before .before .before .before .before .before .before .loop .inv)
+    (c .before .before .before .before .before .before .before .before .loop-test .taken) _
+    (c .before .before .before .before .before .before .before .unit-at .ensures) (not-refused (c .before .before .before .before .before .before)) _
+    (more (c .before .before .before .before .before)) in
     omega (arith, f, c .piece-len .ensures, c .before .before .before .before .before .before .before .before .before .before .before .before .before .before .before .good .0 .0)
 
-turned : (c : tie.After-piece-len Inv-loop μ-loop) → let s = c .before .before .before .before .before .before .before .before .before .before .before .before .before .before .before .args in let o = c .before .before .before .before .before .before .before .before .before .loop in
-    Measuring (stepOf (s .family) (now (s .escape))) (c .before .before .before .before .before .before .before .before .before .before .before .before .is-checked .result) (now (s .body)) (o .at + 1 + c .before .before .before .before .before .turn-more .result) (o .n + c .piece-len .result) (o .plain && c .before .is-keep .result) (dueOf (c .before .before .before .next-tail .result))
+turned : (c : tie.After-piece-len Inv-loop μ-loop)
+    → let s = c .before .before .before .before .before .before .before .before .before .before .before .before .before .before .before .args in let o = c .before .before .before .before .before .before .before .before .before .loop in
+    Measuring (stepOf (s .family) (now (s .escape)))
+    (c .before .before .before .before .before .before .before .before .before .before .before .before .is-checked .result) (now (s .body))
+    (o .at + 1 + c .before .before .before .before .before .turn-more .result) (o .n + c .piece-len .result) (o .plain && c .before .is-keep .result)
+    (dueOf (c .before .before .before .next-tail .result))
 turned c =
     let s = c .before .before .before .before .before .before .before .before .before .before .before .before .before .before .before .args in
-    measured-turn (s .family) (now (s .escape)) (now (s .body)) _ (c .before .before .before .before .before .before .before .before .before .before .before .before .is-checked .ensures) (c .before .before .before .before .before .before .before .before .before .loop .tail) (c .before .before .before .before .before .before .before .before .before .loop .inv) (c .before .before .before .before .before .before .before .before .loop-test .taken) _ (c .before .before .before .before .before .before .before .unit-at .ensures) (not-refused (c .before .before .before .before .before .before)) _ (more (c .before .before .before .before .before)) _ (c .before .before .before .next-tail .ensures) (not-broken (c .before .before)) _ (c .before .is-keep .ensures) _ (c .piece-len .ensures)
+    measured-turn (s .family) (now (s .escape)) (now (s .body)) _
+    (c .before .before .before .before .before .before .before .before .before .before .before .before .is-checked .ensures)
+    (c .before .before .before .before .before .before .before .before .before .loop .tail)
+    (c .before .before .before .before .before .before .before .before .before .loop .inv)
+    (c .before .before .before .before .before .before .before .before .loop-test .taken) _
+    (c .before .before .before .before .before .before .before .unit-at .ensures) (not-refused (c .before .before .before .before .before .before)) _
+    (more (c .before .before .before .before .before)) _ (c .before .before .before .next-tail .ensures) (not-broken (c .before .before)) _
+    (c .before .is-keep .ensures) _ (c .piece-len .ensures)
 
 pass-from-requires : tie.Need-pass-from-requires Inv-loop μ-loop
 pass-from-requires c κs = fits (c .before .before .before .before .before)
 
-passed : (c : tie.After-pass-from Inv-loop μ-loop) → let s = c .before .before .before .before .before .before .before .before .before .before .before .before .before .before .before .before .args in let o = c .before .before .before .before .before .before .before .before .before .before .loop in let r = c .pass-from .result in
-    Measuring (stepOf (s .family) (now (s .escape))) (c .before .before .before .before .before .before .before .before .before .before .before .before .before .is-checked .result) (now (s .body)) (r .at) (o .n + c .before .piece-len .result + r .n) (o .plain && c .before .before .is-keep .result && r .plain) (dueOf (c .before .before .before .before .next-tail .result))
+passed : (c : tie.After-pass-from Inv-loop μ-loop)
+    → let s = c .before .before .before .before .before .before .before .before .before .before .before .before .before .before .before .before .args in let o = c .before .before .before .before .before .before .before .before .before .before .loop in let r = c .pass-from .result in
+    Measuring (stepOf (s .family) (now (s .escape)))
+    (c .before .before .before .before .before .before .before .before .before .before .before .before .before .is-checked .result) (now (s .body)) (r .at)
+    (o .n + c .before .piece-len .result + r .n) (o .plain && c .before .before .is-keep .result && r .plain)
+    (dueOf (c .before .before .before .before .next-tail .result))
 passed c =
     let s = c .before .before .before .before .before .before .before .before .before .before .before .before .before .before .before .before .args in
-    measured-passed (s .family) (now (s .escape)) (now (s .body)) _ (c .before .before .before .before .before .before .before .before .before .before .before .before .before .is-checked .ensures) (c .pass-from .result) (c .pass-from .ensures) (turned (c .before))
+    measured-passed (s .family) (now (s .escape)) (now (s .body)) _
+    (c .before .before .before .before .before .before .before .before .before .before .before .before .before .is-checked .ensures) (c .pass-from .result)
+    (c .pass-from .ensures) (turned (c .before))
 
 add-n-2 : tie.Need-add-n-2 Inv-loop μ-loop
 add-n-2 c = omega (arith, passed (c .before .before) .short, c .before .before .pass-from .ensures .inside)
@@ -159,19 +204,22 @@ returns-3 : tie.Need-returns-3 Inv-loop μ-loop
 returns-3 c =
     let s = c .before .before .before .before .before .before .before .before .before .args in
     measured-stop (s .family) (now (s .escape)) (now (s .body)) _ (c .before .before .before .before .before .before .is-checked .ensures) _
-    (measuring-unfinished (c .before .before .before .loop .inv) (c .before .before .loop-test .left) (sym (c .before .is-whole .ensures) ∙ not-true _ (c .if1 .taken)))
+    (measuring-unfinished (c .before .before .before .loop .inv) (c .before .before .loop-test .left)
+    (sym (c .before .is-whole .ensures) ∙ not-true _ (c .if1 .taken)))
 
 returns-4 : tie.Need-returns-4 Inv-loop μ-loop
 returns-4 c =
     let s = c .before .before .before .before .before .before .before .before .before .before .args in
     measured-plain (s .family) (now (s .escape)) (now (s .body)) _ (c .before .before .before .before .before .before .before .is-checked .ensures) _
-    (rw (c .if2 .taken) at (measuring-end (c .before .before .before .before .loop .inv) (c .before .before .before .loop-test .left) (sym (c .before .before .is-whole .ensures) ∙ not-false _ (c .before .if1 .left))))
+    (rw (c .if2 .taken) at (measuring-end (c .before .before .before .before .loop .inv) (c .before .before .before .loop-test .left)
+    (sym (c .before .before .is-whole .ensures) ∙ not-false _ (c .before .if1 .left))))
 
 returns-5 : tie.Need-returns-5 Inv-loop μ-loop
 returns-5 c =
     let s = c .before .before .before .before .before .before .before .before .before .before .args in
     measured-length (s .family) (now (s .escape)) (now (s .body)) _ (c .before .before .before .before .before .before .before .is-checked .ensures) _
-    (rw (c .if2 .left) at (measuring-end (c .before .before .before .before .loop .inv) (c .before .before .before .loop-test .left) (sym (c .before .before .is-whole .ensures) ∙ not-false _ (c .before .if1 .left))))
+    (rw (c .if2 .left) at (measuring-end (c .before .before .before .before .loop .inv) (c .before .before .before .loop-test .left)
+    (sym (c .before .before .is-whole .ensures) ∙ not-false _ (c .before .if1 .left))))
 
 pub measure-spec : {M : Type 1} → statement M
 measure-spec =

@@ -45,7 +45,8 @@ loop-less : tie.Need-loop-less Inv-loop μ-loop
 loop-less c = omega arith
 
 loop-again : tie.Need-loop-again Inv-loop μ-loop
-loop-again c = going-on (c .before .before .before .before .loop .inv) (c .before .before .before .loop-test .taken) _ (c .before .utf8-tail-push .ensures) (not-broken c)
+loop-again c = going-on (c .before .before .before .before .loop .inv) (c .before .before .before .loop-test .taken) _ (c .before .utf8-tail-push .ensures)
+    (not-broken c)
 
 returns-2 : tie.Need-returns-2 Inv-loop μ-loop
 returns-2 c = going-end (c .before .loop .inv) (c .before .before .before .pre) (c .loop-test .left)

@@ -30,7 +30,8 @@ inside c =
 turn : (c : tie.Else1 Inv-loop μ-loop) → let a = c .before .before .before .before .before .before .args in let o = c .before .before .before .loop in let k = c .before .quick-len .result in
     Passes Escape (now (a .escape)) (now (a .body)) fresh (a .from) (record { at = o .at + k; n = o .n + 1; plain = o .plain && eqb k 1 })
 turn c =
-    passes-turn _ _ _ (c .before .before .before .loop .inv) (omega (arith, inside (c .before .before))) (c .before .quick-len .result) (c .before .quick-len .ensures) (c .if1 .left)
+    passes-turn _ _ _ (c .before .before .before .loop .inv) (omega (arith, inside (c .before .before))) (c .before .quick-len .result)
+    (c .before .quick-len .ensures) (c .if1 .left)
 
 loop-holds : tie.Need-loop-holds Inv-loop μ-loop
 loop-holds c = passes-none Escape _ _ fresh _ (search needs)

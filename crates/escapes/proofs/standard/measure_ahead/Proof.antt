@@ -22,17 +22,28 @@ abbrev μ-loop : tie.MeasureT-loop
 
 -- past eight bytes: where that leads
 eight : (c : tie.Then1 Inv-loop μ-loop) → let i = c .before .before .before .loop in
-    Measuring (standardStep (c .before .before .before .before .before .before .before .args .backslash) (c .before .before .before .before .before .mark-byte .result)) false (now (c .before .before .before .before .before .before .before .args .body)) (i .at + 8) (i .n + 8) (i .plain) fresh
+    Measuring (standardStep (c .before .before .before .before .before .before .before .args .backslash)
+    (c .before .before .before .before .before .mark-byte .result)) false (now (c .before .before .before .before .before .before .before .args .body))
+    (i .at + 8) (i .n + 8) (i .plain) fresh
 eight c =
     let s = c .before .before .before .before .before .before .before .args in
-    eight-measured (s .mark) _ (c .before .before .before .before .before .mark-byte .ensures) (s .backslash) (now (s .body)) (c .before .before .before .loop .inv) (now (s .body)) _ (c .before .before .before .before .run-stops .ensures) (here-free (c .before .before .before .loop .at) _ _ (c .before .is-free-here .ensures) (c .if1 .taken))
+    eight-measured (s .mark) _ (c .before .before .before .before .before .mark-byte .ensures) (s .backslash) (now (s .body))
+    (c .before .before .before .loop .inv) (now (s .body)) _ (c .before .before .before .before .run-stops .ensures)
+    (here-free (c .before .before .before .loop .at) _ _ (c .before .is-free-here .ensures) (c .if1 .taken))
 
 -- past a unit: where that leads
-pair : (c : tie.After-struct-known2 Inv-loop μ-loop) → let i = c .before .before .before .before .before .before .before .before .before .loop in let u = c .before .before .before .standard-unit .result in
-    Measuring (standardStep (c .before .before .before .before .before .before .before .before .before .before .before .before .before .args .backslash) (c .before .before .before .before .before .before .before .before .before .before .before .mark-byte .result)) false (now (c .before .before .before .before .before .before .before .before .before .before .before .before .before .args .body)) (i .at + (1 + u .more)) (i .n + (1 + u .wide)) (i .plain && u .keep) fresh
+pair : (c : tie.After-struct-known2 Inv-loop μ-loop)
+    → let i = c .before .before .before .before .before .before .before .before .before .loop in let u = c .before .before .before .standard-unit .result in
+    Measuring (standardStep (c .before .before .before .before .before .before .before .before .before .before .before .before .before .args .backslash)
+    (c .before .before .before .before .before .before .before .before .before .before .before .mark-byte .result)) false
+    (now (c .before .before .before .before .before .before .before .before .before .before .before .before .before .args .body)) (i .at + (1 + u .more))
+    (i .n + (1 + u .wide)) (i .plain && u .keep) fresh
 pair c =
     let s = c .before .before .before .before .before .before .before .before .before .before .before .before .before .args in
-    pair-measured (s .mark) _ (c .before .before .before .before .before .before .before .before .before .before .before .mark-byte .ensures) (s .backslash) (now (s .body)) (c .before .before .before .before .before .before .before .before .before .loop .inv) _ (c .before .before .before .standard-unit .ensures) (c .before .before .before .before .before .before .before .before .loop-test .taken) (c .before .before .if2 .left)
+    pair-measured (s .mark) _ (c .before .before .before .before .before .before .before .before .before .before .before .mark-byte .ensures) (s .backslash)
+    (now (s .body)) (c .before .before .before .before .before .before .before .before .before .loop .inv) _
+    (c .before .before .before .standard-unit .ensures) (c .before .before .before .before .before .before .before .before .loop-test .taken)
+    (c .before .before .if2 .left)
 
 mark-byte-requires : tie.Need-mark-byte-requires Inv-loop μ-loop
 mark-byte-requires c κs = search needs
@@ -74,7 +85,8 @@ standard-unit-requires : tie.Need-standard-unit-requires Inv-loop μ-loop
 standard-unit-requires c κs = search needs
 
 returns : tie.Need-returns Inv-loop μ-loop
-returns c = rw (sym (c .before .before .before .before .before .before .before .before .before .mark-byte .ensures)) (c .before .before .before .before .before .before .before .loop .inv)
+returns c = rw (sym (c .before .before .before .before .before .before .before .before .before .mark-byte .ensures))
+    (c .before .before .before .before .before .before .before .loop .inv)
 
 add-n-2 : tie.Need-add-n-2 Inv-loop μ-loop
 add-n-2 c = omega (arith, pair c .short, pair c .so-far .inside)

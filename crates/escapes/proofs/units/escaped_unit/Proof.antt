@@ -30,7 +30,9 @@ byte-unit-requires c κs = search needs
 returns-2 : tie.Need-returns-2
 returns-2 c =
     let a = c .before .before .before .before .before .before .before .before .args in
-    escaped-octal (now (a .body)) (a .at) (c .before .before .before .before .before .before .if1 .left) (ltb-true _ _ (sym (c .before .before .before .before .is-octal .ensures) ∙ c .before .before .before .if2 .taken)) _ (c .before .before .digits-at .ensures) _ (c .byte-unit .ensures)
+    escaped-octal (now (a .body)) (a .at) (c .before .before .before .before .before .before .if1 .left)
+    (ltb-true _ _ (sym (c .before .before .before .before .is-octal .ensures) ∙ c .before .before .before .if2 .taken)) _
+    (c .before .before .digits-at .ensures) _ (c .byte-unit .ensures)
 
 add-digits-at : tie.Need-add-digits-at
 add-digits-at c = search needs
@@ -52,7 +54,9 @@ byte-unit-requires-2 c κs = search needs
 returns-3 : tie.Need-returns-3
 returns-3 c =
     let a = c .before .before .before .before .before .before .before .before .before .before .args in
-    escaped-hex (now (a .body)) (a .at) (c .before .before .before .before .before .before .before .before .if1 .left) (c .before .before .before .before .if3 .taken) _ (c .before .before .before .digits-at2 .ensures) (c .before .before .if4 .taken) _ (c .byte-unit2 .ensures)
+    escaped-hex (now (a .body)) (a .at) (c .before .before .before .before .before .before .before .before .if1 .left)
+    (c .before .before .before .before .if3 .taken) _ (c .before .before .before .digits-at2 .ensures) (c .before .before .if4 .taken) _
+    (c .byte-unit2 .ensures)
 
 byte-unit-requires-3 : tie.Need-byte-unit-requires-3
 byte-unit-requires-3 c κs = search needs
@@ -60,7 +64,8 @@ byte-unit-requires-3 c κs = search needs
 returns-4 : tie.Need-returns-4
 returns-4 c =
     let a = c .before .before .before .before .before .before .before .before .before .args in
-    escaped-x (now (a .body)) (a .at) (c .before .before .before .before .before .before .before .if1 .left) (c .before .before .before .if3 .taken) _ (c .before .before .digits-at2 .ensures) (c .before .if4 .left) _ (c .byte-unit3 .ensures)
+    escaped-x (now (a .body)) (a .at) (c .before .before .before .before .before .before .before .if1 .left) (c .before .before .before .if3 .taken) _
+    (c .before .before .digits-at2 .ensures) (c .before .if4 .left) _ (c .byte-unit3 .ensures)
 
 add-four-at : tie.Need-add-four-at
 add-four-at c = search needs
@@ -74,7 +79,8 @@ scalar-unit-requires c κs = search needs
 returns-5 : tie.Need-returns-5
 returns-5 c =
     let a = c .before .before .before .before .before .before .before .before .before .args in
-    escaped-four (now (a .body)) (a .at) (c .before .before .before .before .before .before .before .if1 .left) (c .before .before .if5 .taken) _ (c .before .four-at .ensures) _ (c .scalar-unit .ensures)
+    escaped-four (now (a .body)) (a .at) (c .before .before .before .before .before .before .before .if1 .left) (c .before .before .if5 .taken) _
+    (c .before .four-at .ensures) _ (c .scalar-unit .ensures)
 
 add-eight-at : tie.Need-add-eight-at
 add-eight-at c = search needs
@@ -88,7 +94,8 @@ scalar-unit-requires-2 c κs = search needs
 returns-6 : tie.Need-returns-6
 returns-6 c =
     let a = c .before .before .before .before .before .before .before .before .before .before .args in
-    escaped-eight (now (a .body)) (a .at) (c .before .before .before .before .before .before .before .before .if1 .left) (c .before .before .if6 .taken) _ (c .before .eight-at .ensures) _ (c .scalar-unit2 .ensures)
+    escaped-eight (now (a .body)) (a .at) (c .before .before .before .before .before .before .before .before .if1 .left) (c .before .before .if6 .taken) _
+    (c .before .eight-at .ensures) _ (c .scalar-unit2 .ensures)
 
 escape-letter-requires : tie.Need-escape-letter-requires
 escape-letter-requires c κs = search needs
@@ -99,7 +106,9 @@ byte-unit-requires-4 c κs = search needs
 returns-7 : tie.Need-returns-7
 returns-7 c =
     let a = c .before .before .before .before .before .before .before .before .before .before .args in
-    escaped-letter (now (a .body)) (a .at) (c .before .before .before .before .before .before .before .before .if1 .left) (ltb-false _ _ (sym (c .before .before .before .before .before .before .is-octal .ensures) ∙ c .before .before .before .before .before .if2 .left)) (c .before .before .before .before .if3 .left) (c .before .before .before .if5 .left) (c .before .before .if6 .left) _
+    escaped-letter (now (a .body)) (a .at) (c .before .before .before .before .before .before .before .before .if1 .left)
+    (ltb-false _ _ (sym (c .before .before .before .before .before .before .is-octal .ensures) ∙ c .before .before .before .before .before .if2 .left))
+    (c .before .before .before .before .if3 .left) (c .before .before .before .if5 .left) (c .before .before .if6 .left) _
     (c .before .escape-letter .ensures) _ (c .byte-unit4 .ensures)
 
 pub escaped-unit-spec : {M : Type 1} → statement M

@@ -15,7 +15,8 @@ shared-slice-read-result-2 : tie.Need-shared-slice-read-result-2
 shared-slice-read-result-2 c = search needs
 
 returns-2 : tie.Need-returns-2
-returns-2 c = let a = c .before .before .before .before .before .before .args in stands-byte (now (a .escape)) (now (a .body)) (a .at) (c .before .before .before .if1 .taken) (c .before .before .if2 .left)
+returns-2 c = let a = c .before .before .before .before .before .before .args in
+    stands-byte (now (a .escape)) (now (a .body)) (a .at) (c .before .before .before .if1 .taken) (c .before .before .if2 .left)
 
 starts-at-requires : tie.Need-starts-at-requires
 starts-at-requires c κs = search needs

@@ -14,10 +14,12 @@ use Rattle.escapes.proofs.units.uescaped_unit.Tie as tie
 
 -- digits that make a number are there
 there : (c : tie.Else5) → let a = c .before .before .before .before .before .before .before .before .args in 4 ≤ length (now (a .body)) - a .at
-there c = let a = c .before .before .before .before .before .before .before .before .args in hex-there 4 (now (a .body)) (a .at) (c .before .four-at .result) (c .before .four-at .ensures) (c .if5 .left)
+there c = let a = c .before .before .before .before .before .before .before .before .args in
+    hex-there 4 (now (a .body)) (a .at) (c .before .four-at .result) (c .before .four-at .ensures) (c .if5 .left)
 
 wide-there : (c : tie.Else4) → let a = c .before .before .before .before .before .before .before .before .args in 6 ≤ length (now (a .body)) - (a .at + 1)
-wide-there c = let a = c .before .before .before .before .before .before .before .before .args in hex-there 6 (now (a .body)) (a .at + 1) (c .before .six-at .result) (c .before .six-at .ensures) (c .if4 .left)
+wide-there c = let a = c .before .before .before .before .before .before .before .before .args in
+    hex-there 6 (now (a .body)) (a .at + 1) (c .before .six-at .result) (c .before .six-at .ensures) (c .if4 .left)
 
 stands-at-requires : tie.Need-stands-at-requires
 stands-at-requires c κs = search needs
@@ -50,7 +52,9 @@ six-at-requires c κs = search needs
 returns-3 : tie.Need-returns-3
 returns-3 c =
     let a = c .before .before .before .before .before .before .before .before .args in
-    uescaped-no-plus (now (a .escape)) (now (a .body)) (a .at) (sym (c .before .before .before .before .before .stands-at .ensures) ∙ c .before .before .before .before .if1 .left) (sym (c .before .before .before .byte-at .ensures) ∙ c .before .before .if3 .taken) _ (c .before .six-at .ensures) (c .if4 .taken)
+    uescaped-no-plus (now (a .escape)) (now (a .body)) (a .at)
+    (sym (c .before .before .before .before .before .stands-at .ensures) ∙ c .before .before .before .before .if1 .left)
+    (sym (c .before .before .before .byte-at .ensures) ∙ c .before .before .if3 .taken) _ (c .before .six-at .ensures) (c .if4 .taken)
 
 add-scalar-unit : tie.Need-add-scalar-unit
 add-scalar-unit c = omega (arith, wide-there c)
@@ -64,8 +68,12 @@ scalar-unit-requires c κs = search needs
 returns-4 : tie.Need-returns-4
 returns-4 c =
     let a = c .before .before .before .before .before .before .before .before .before .args in
-    let w : a .at + 6 - a .start ≡ length (now (a .escape)) + 6 = omega (arith, c .before .before .before .before .before .before .before .before .before .pre) in
-    uescaped-plus (now (a .escape)) (now (a .body)) (a .at) (sym (c .before .before .before .before .before .before .stands-at .ensures) ∙ c .before .before .before .before .before .if1 .left) (sym (c .before .before .before .before .byte-at .ensures) ∙ c .before .before .before .if3 .taken) _ (c .before .before .six-at .ensures) _ _ w (c .scalar-unit .ensures)
+    let w : a .at + 6 - a .start ≡ length (now (a .escape)) + 6 = omega
+    (arith, c .before .before .before .before .before .before .before .before .before .pre) in
+    uescaped-plus (now (a .escape)) (now (a .body)) (a .at)
+    (sym (c .before .before .before .before .before .before .stands-at .ensures) ∙ c .before .before .before .before .before .if1 .left)
+    (sym (c .before .before .before .before .byte-at .ensures) ∙ c .before .before .before .if3 .taken) _ (c .before .before .six-at .ensures) _ _ w
+    (c .scalar-unit .ensures)
 
 four-at-requires : tie.Need-four-at-requires
 four-at-requires c κs = search needs
@@ -73,7 +81,9 @@ four-at-requires c κs = search needs
 returns-5 : tie.Need-returns-5
 returns-5 c =
     let a = c .before .before .before .before .before .before .before .before .args in
-    uescaped-none (now (a .escape)) (now (a .body)) (a .at) (sym (c .before .before .before .before .before .stands-at .ensures) ∙ c .before .before .before .before .if1 .left) (λ e. c .before .before .if3 .left (c .before .before .before .byte-at .ensures ∙ e)) _ (c .before .four-at .ensures) (c .if5 .taken)
+    uescaped-none (now (a .escape)) (now (a .body)) (a .at)
+    (sym (c .before .before .before .before .before .stands-at .ensures) ∙ c .before .before .before .before .if1 .left)
+    (λ e. c .before .before .if3 .left (c .before .before .before .byte-at .ensures ∙ e)) _ (c .before .four-at .ensures) (c .if5 .taken)
 
 add-low-half-unit : tie.Need-add-low-half-unit
 add-low-half-unit c = omega (arith, there (c .before))
@@ -81,13 +91,21 @@ add-low-half-unit c = omega (arith, there (c .before))
 low-half-unit-requires : tie.Need-low-half-unit-requires
 low-half-unit-requires c κs =
     let p = c .before .before .before .before .before .before .before .before .before .pre in
-    let v = c .before .before .four-at .result in
-    (omega (arith, p), omega (arith, there (c .before)), leb-true 0xD800 v (and-left (leb 0xD800 v) (leb v 0xDBFF) (c .if6 .taken)), leb-true v 0xDBFF (and-right (leb 0xD800 v) (leb v 0xDBFF) (c .if6 .taken)))
+    let v = c .before .before .four-at .result in (
+      omega (arith, p),
+      omega (arith, there (c .before)),
+      leb-true 0xD800 v (and-left (leb 0xD800 v) (leb v 0xDBFF) (c .if6 .taken)),
+      leb-true v 0xDBFF
+          (and-right (leb 0xD800 v) (leb v 0xDBFF) (c .if6 .taken)),
+    )
 
 returns-6 : tie.Need-returns-6
 returns-6 c =
     let a = c .before .before .before .before .before .before .before .before .before .before .args in
-    uescaped-high (now (a .escape)) (now (a .body)) (a .at) (sym (c .before .before .before .before .before .before .before .stands-at .ensures) ∙ c .before .before .before .before .before .before .if1 .left) (λ e. c .before .before .before .before .if3 .left (c .before .before .before .before .before .byte-at .ensures ∙ e)) _ (c .before .before .before .four-at .ensures) (c .before .if6 .taken) _ (c .low-half-unit .ensures)
+    uescaped-high (now (a .escape)) (now (a .body)) (a .at)
+    (sym (c .before .before .before .before .before .before .before .stands-at .ensures) ∙ c .before .before .before .before .before .before .if1 .left)
+    (λ e. c .before .before .before .before .if3 .left (c .before .before .before .before .before .byte-at .ensures ∙ e)) _
+    (c .before .before .before .four-at .ensures) (c .before .if6 .taken) _ (c .low-half-unit .ensures)
 
 add-scalar-unit-2 : tie.Need-add-scalar-unit-2
 add-scalar-unit-2 c = omega (arith, there (c .before))
@@ -101,8 +119,12 @@ scalar-unit-requires-2 c κs = search needs
 returns-7 : tie.Need-returns-7
 returns-7 c =
     let a = c .before .before .before .before .before .before .before .before .before .before .args in
-    let w : a .at + 3 - a .start ≡ length (now (a .escape)) + 3 = omega (arith, c .before .before .before .before .before .before .before .before .before .before .pre) in
-    uescaped-four (now (a .escape)) (now (a .body)) (a .at) (sym (c .before .before .before .before .before .before .before .stands-at .ensures) ∙ c .before .before .before .before .before .before .if1 .left) (λ e. c .before .before .before .before .if3 .left (c .before .before .before .before .before .byte-at .ensures ∙ e)) _ (c .before .before .before .four-at .ensures) (c .before .if6 .left) _ _ w (c .scalar-unit2 .ensures)
+    let w : a .at + 3 - a .start ≡ length (now (a .escape)) + 3 = omega
+    (arith, c .before .before .before .before .before .before .before .before .before .before .pre) in
+    uescaped-four (now (a .escape)) (now (a .body)) (a .at)
+    (sym (c .before .before .before .before .before .before .before .stands-at .ensures) ∙ c .before .before .before .before .before .before .if1 .left)
+    (λ e. c .before .before .before .before .if3 .left (c .before .before .before .before .before .byte-at .ensures ∙ e)) _
+    (c .before .before .before .four-at .ensures) (c .before .if6 .left) _ _ w (c .scalar-unit2 .ensures)
 
 pub uescaped-unit-spec : {M : Type 1} → statement M
 uescaped-unit-spec =

@@ -14,7 +14,8 @@ end-inside : (c : tie.After-known-told) → c .before .before .before .before .b
     ≤ length (now (c .before .before .before .before .before .before .before .args .text))
 end-inside c = search segment-inside
 
-next-inside : (c : tie.After-gap-at) → c .before .before .before .before .before .before .before .before .args .self .at + c .before .before .«open» .given .0 .1 .0 + c .gap-at .result
+next-inside : (c : tie.After-gap-at) → c .before .before .before .before .before .before .before .before .args .self .at + c .before .before
+    .«open» .given .0 .1 .0 + c .gap-at .result
     ≤ length (now (c .before .before .before .before .before .before .before .before .args .text))
 next-inside c = search gap-inside
 
