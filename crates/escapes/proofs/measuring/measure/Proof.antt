@@ -122,9 +122,10 @@ add-place c =
     let t = c .before .before .before .before .before in
     let a = t .before .before .before .before .loop .at in
     let k = a + 1 + t .turn-more .result - a in
-    let l = drop a (now (c .before .before .before .before .before .before .before .before .before .before .before .before .before .before .before .args .body)) in
+    let u = c .before .before .before .before .before .before .before .before .before .before .before .before .before .before .before in
+    let l = drop a (now (u .args .body)) in
     let q = broken-inside (t .before .before .unit-at .result) (dueOf (t .before .before .before .before .loop .tail)) (take k l) _ (c .broken-at .ensures) in
-    omega (arith, fits t, q, length-take k l, c .before .before .before .before .before .before .before .before .before .before .before .before .before .before .before .good .0 .0)
+    omega (arith, fits t, q, length-take k l, u .good .0 .0)
 
 returns-2 : tie.Need-returns-2 Inv-loop μ-loop
 returns-2 c =
@@ -154,10 +155,12 @@ add-n c =
     (c .before .before .before .before .before .before .before .before .loop-test .taken) _
     (c .before .before .before .before .before .before .before .unit-at .ensures) (not-refused (c .before .before .before .before .before .before)) _
     (more (c .before .before .before .before .before)) in
-    omega (arith, f, c .piece-len .ensures, c .before .before .before .before .before .before .before .before .before .before .before .before .before .before .before .good .0 .0)
+    let u = c .before .before .before .before .before .before .before .before .before .before .before .before .before .before .before in
+    omega (arith, f, c .piece-len .ensures, u .good .0 .0)
 
 turned : (c : tie.After-piece-len Inv-loop μ-loop)
-    → let s = c .before .before .before .before .before .before .before .before .before .before .before .before .before .before .before .args in let o = c .before .before .before .before .before .before .before .before .before .loop in
+    → let s = c .before .before .before .before .before .before .before .before .before .before .before .before .before .before .before .args in
+    let o = c .before .before .before .before .before .before .before .before .before .loop in
     Measuring (stepOf (s .family) (now (s .escape)))
     (c .before .before .before .before .before .before .before .before .before .before .before .before .is-checked .result) (now (s .body))
     (o .at + 1 + c .before .before .before .before .before .turn-more .result) (o .n + c .piece-len .result) (o .plain && c .before .is-keep .result)
@@ -177,7 +180,8 @@ pass-from-requires : tie.Need-pass-from-requires Inv-loop μ-loop
 pass-from-requires c κs = fits (c .before .before .before .before .before)
 
 passed : (c : tie.After-pass-from Inv-loop μ-loop)
-    → let s = c .before .before .before .before .before .before .before .before .before .before .before .before .before .before .before .before .args in let o = c .before .before .before .before .before .before .before .before .before .before .loop in let r = c .pass-from .result in
+    → let s = c .before .before .before .before .before .before .before .before .before .before .before .before .before .before .before .before .args in
+    let o = c .before .before .before .before .before .before .before .before .before .before .loop in let r = c .pass-from .result in
     Measuring (stepOf (s .family) (now (s .escape)))
     (c .before .before .before .before .before .before .before .before .before .before .before .before .before .is-checked .result) (now (s .body)) (r .at)
     (o .n + c .before .piece-len .result + r .n) (o .plain && c .before .before .is-keep .result && r .plain)

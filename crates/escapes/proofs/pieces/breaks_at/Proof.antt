@@ -1,5 +1,5 @@
--- `escapes::pieces::breaks_at` meets its contract. The loop's invariant, `Going`: the state behind the first i bytes is not broken. The measure is what is left of
--- the length. Assumes nothing.
+-- `escapes::pieces::breaks_at` meets its contract. The loop's invariant, `Going`: the state behind the first i bytes is not broken. The measure is what is
+-- left of the length. Assumes nothing.
 use mathlib.Core.Path.{_≡_}
 use mathlib.Core.List.{[], _∷_}
 use Prim.Native.Nat.{_-_}

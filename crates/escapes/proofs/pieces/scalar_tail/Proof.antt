@@ -1,4 +1,5 @@
--- `escapes::pieces::scalar_tail` meets its contract: between characters a whole one leaves the state as it is; inside one, the part of the array that was written is the encoding. Assumes nothing.
+-- `escapes::pieces::scalar_tail` meets its contract: between characters a whole one leaves the state as it is; inside one, the part of the array
+-- that was written is the encoding. Assumes nothing.
 use mathlib.Core.Path.{_≡_, sym, ap, _∙_}
 use Prim.Native.Nat.{_≤_}
 use lib.ListN.{length, take}

@@ -1,4 +1,5 @@
--- `escapes::quick::pass_quick` meets its contract. The loop's invariant is the contract up to the place so far; the measure is what is left of the body. Assumes nothing.
+-- `escapes::quick::pass_quick` meets its contract. The loop's invariant is the contract up to the place so far; the measure is what is left of the
+-- body. Assumes nothing.
 use mathlib.Core.Bool.{_&&_}
 use Prim.Native.Nat.{_+_, _-_, _<_}
 use native.Mathlib.Omega.{arith}
@@ -27,7 +28,8 @@ inside c =
     let l = length (now (c .before .before .before .before .args .body)) in
     omega (arith, ltb-true 1 (l - o .at) (and-left (ltb 1 (l - o .at)) (ltb (o .n) 32) (c .loop-test .taken)))
 
-turn : (c : tie.Else1 Inv-loop μ-loop) → let a = c .before .before .before .before .before .before .args in let o = c .before .before .before .loop in let k = c .before .quick-len .result in
+turn : (c : tie.Else1 Inv-loop μ-loop) → let a = c .before .before .before .before .before .before .args in
+    let o = c .before .before .before .loop in let k = c .before .quick-len .result in
     Passes Escape (now (a .escape)) (now (a .body)) fresh (a .from) (record { at = o .at + k; n = o .n + 1; plain = o .plain && eqb k 1 })
 turn c =
     passes-turn _ _ _ (c .before .before .before .loop .inv) (omega (arith, inside (c .before .before))) (c .before .quick-len .result)

@@ -22,7 +22,13 @@ choose-requires-5 c κs = search needs
 
 returns : tie.Need-returns
 returns c =
-    rw (c .choose5 .ensures, c .before .choose4 .ensures, c .before .before .choose3 .ensures, c .before .before .before .choose2 .ensures, c .before .before .before .before .choose .ensures)
+    rw (
+      c .choose5 .ensures,
+      c .before .choose4 .ensures,
+      c .before .before .choose3 .ensures,
+      c .before .before .before .choose2 .ensures,
+      c .before .before .before .before .choose .ensures,
+    )
     (letter-of (c .before .before .before .before .before .args .letter))
 
 pub escape-letter-spec : {M : Type 1} → statement M

@@ -1,5 +1,5 @@
--- `cutting::cursor::Cursor::next` meets its contract. Each way out has its law, by what the first segment from the cursor is; its end and the white space behind it
--- lie inside the text, so no sum wraps. Assumes nothing.
+-- `cutting::cursor::Cursor::next` meets its contract. Each way out has its law, by what the first segment from the cursor is; its end and the white space
+-- behind it lie inside the text, so no sum wraps. Assumes nothing.
 use borrow.Author.Needs.{needs}
 use Prim.Native.Nat.{_+_, _≤_}
 use native.Mathlib.Omega.{arith}
