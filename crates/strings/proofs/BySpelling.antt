@@ -3,22 +3,20 @@
 use mathlib.Core.Path.{_≡_, refl, ap, sym, _∙_, subst}
 use mathlib.Core.Bool.{Bool, true, false}
 use mathlib.Core.List.{List, [], _∷_}
-use Prim.Native.Nat.{ℕ, _-_, _≤_}
-use native.Mathlib.Omega.{arith}
-use lib.Dec.{eqb}
+use Prim.Native.Nat.{ℕ, _-_}
 use lib.ListN.{length, take, drop}
 use borrow.Author.Tests.{eq-eqb, ne-eqb}
 use Rattle.meaning.specs.declared.Settings.{Settings}
-use Rattle.meaning.specs.Bytes.{if_then_else_, part, has, backslash}
+use Rattle.meaning.specs.Bytes.{part, has, backslash}
 use Rattle.meaning.specs.Spelling.{Spelling, unicode, spelling}
 use Rattle.meaning.specs.declared.Read.{Read}
 use Rattle.meaning.specs.declared.Read.the-variants as Read′
 use Rattle.meaning.specs.Reads.{Reads}
-use Rattle.meaning.specs.Reading.{Answer, Value, means, refused, valueOf, answer, read-as, one, alone}
+use Rattle.meaning.specs.Reading.{Answer, means, valueOf, answer, read-as, one, alone}
 use Rattle.laws.proofs.Joining.{fails≢means}
 use Rattle.laws.proofs.Ranges.{BodyIn, spelling-body}
 use Rattle.cutting.specs.declared.marks.Mark.{Mark}
-use Rattle.cutting.specs.declared.marks.Mark.the-variants.{Quote, DoubleQuote}
+use Rattle.cutting.specs.declared.marks.Mark.the-variants.{Quote}
 use Rattle.escapes.specs.declared.units.Family.the-variants as Family′
 use Rattle.strings.specs.declared.one.One.{One}
 use Rattle.strings.specs.declared.one.One.the-variants as One′

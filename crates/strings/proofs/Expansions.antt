@@ -1,8 +1,8 @@
 -- One pass over a body into a buffer that may be too small: a law for a turn that put something, and for the end. Assumes nothing.
-use mathlib.Core.Path.{_≡_, refl, ap, sym, _∙_, subst}
+use mathlib.Core.Path.{_≡_, refl, ap, sym, _∙_}
 use mathlib.Core.Bool.{Bool, true, false, _&&_}
-use mathlib.Core.List.{List, [], _++_, append-nil}
-use Prim.Native.Nat.{ℕ, zero, suc, _+_, _-_, _≤_, _<_}
+use mathlib.Core.List.{List, _++_, append-nil}
+use Prim.Native.Nat.{ℕ, _+_, _-_, _≤_, _<_}
 use native.Mathlib.Nat.{le-of-eq}
 use native.Mathlib.Omega.{arith}
 use lib.Dec.{leb}
@@ -10,16 +10,16 @@ use lib.ListN.{length, take, drop, length-append, length-take, length-drop, drop
 use lib.Seq.{take-all}
 use borrow.Author.Tests.{leb-true}
 use Rattle.meaning.specs.Bytes.{if_then_else_, span}
-use Rattle.meaning.specs.Walk.{Step, Trace, walk, stops, plain, value}
+use Rattle.meaning.specs.Walk.{Step, walk, stops, plain, value}
 use Rattle.meaning.specs.Answers.{filled}
-use Rattle.laws.proofs.Courses.{SoFar, so-far-none, so-far-end, Goes, Taken}
+use Rattle.laws.proofs.Courses.{so-far-none, so-far-end, Taken}
 use Rattle.laws.proofs.Passes.{Writing, put-part}
 use Rattle.leaves.specs.Blocks.{freeOf}
 use Rattle.leaves.specs.Puts.{Puts}
 use Rattle.escapes.specs.declared.pieces.Piece.{Piece}
 use Rattle.escapes.specs.declared.pieces.Piece.the-variants as Piece′
 use Rattle.escapes.specs.declared.units.Family.{Family}
-use Rattle.escapes.specs.Pieces.{meaningOf, moreBy, isKeep, bytesOf, IsBy}
+use Rattle.escapes.specs.Pieces.{moreBy, isKeep, bytesOf, IsBy}
 use Rattle.escapes.specs.Families.{stepOf, stopsOf}
 use Rattle.escapes.proofs.Turns.{goes-by, turn-taken}
 use Rattle.strings.specs.Rooms.{Written}

@@ -27,7 +27,7 @@ use Rattle.cutting.specs.declared.cursor.Next.{Next}
 use Rattle.cutting.specs.declared.cursor.Next.the-variants as Next′
 use Rattle.strings.specs.declared.gathering.Gathered.{Gathered}
 use Rattle.strings.specs.declared.gathering.Gathered.the-variants as Gathered′
-use Rattle.strings.specs.Answers.{Holds, valueIn, Put}
+use Rattle.strings.specs.Answers.{valueIn}
 use Rattle.strings.specs.Gathering.{Gathering, Gathers}
 use Rattle.strings.specs.Plain.{SaysPlain}
 use Rattle.strings.proofs.Ones.{puts-as}

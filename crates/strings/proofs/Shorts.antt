@@ -1,19 +1,19 @@
 -- A short body, read by one pass: what its value in the scratch buffer says of the body. Assumes nothing.
 use mathlib.Core.Path.{_≡_, refl, ap, sym, _∙_, subst}
 use mathlib.Core.Bool.{Bool, true, false, not, false≢true}
-use mathlib.Core.List.{List, _++_}
+use mathlib.Core.List.{List}
 use Prim.Native.Nat.{ℕ, _-_, _≤_, _<_}
 use native.Mathlib.Omega.{arith}
 use lib.ListN.{length, take, drop, length-append}
 use lib.Seq.{take-at}
-use borrow.Author.Tests.{le-leb, not-false}
+use borrow.Author.Tests.{not-false}
 use Rattle.meaning.specs.declared.Read.{Read}
 use Rattle.meaning.specs.declared.Read.the-variants as Read′
 use Rattle.meaning.specs.Bytes.{if_then_else_, part}
 use Rattle.meaning.specs.Chars.{Due, due, broken, fresh, pushes, whole, utf8}
-use Rattle.meaning.specs.Walk.{Trace, ended, walk, stops, plain, value}
+use Rattle.meaning.specs.Walk.{Trace, ended, walk, stops, value}
 use Rattle.meaning.specs.Steps.{checked}
-use Rattle.meaning.specs.Reading.{Answer, borrowed, written, answer}
+use Rattle.meaning.specs.Reading.{Answer, written, answer}
 use Rattle.meaning.specs.Reads.{Reads}
 use Rattle.laws.proofs.Walks.{graft}
 use Rattle.laws.proofs.Courses.{graft-ended, checked-graft}
@@ -22,7 +22,7 @@ use Rattle.leaves.specs.Puts.{Puts}
 use Rattle.escapes.specs.declared.units.Family.{Family}
 use Rattle.escapes.specs.Families.{stepOf, checks, courseOf}
 use Rattle.strings.specs.declared.expanding.Expanded.{Expanded}
-use Rattle.strings.specs.declared.expanding.Expanded.the-variants.{Nothing, All}
+use Rattle.strings.specs.declared.expanding.Expanded.the-variants.{All}
 use Rattle.strings.specs.declared.bodies.Short.{Short}
 use Rattle.strings.specs.declared.bodies.Short.the-variants as Short′
 use Rattle.strings.specs.Expanding.{Expansion, Expands, sound, ShortReads}

@@ -1,7 +1,6 @@
 -- `strings::plain::goes_on` meets its contract: the plain segment is the first, at either setting. Assumes nothing.
 use mathlib.Core.Bool.{false≢true}
 use native.Mathlib.Omega.{arith}
-use denote.Ref.{now}
 use Rattle.strings.proofs.Plains.{first-goes-on, first-inside}
 use borrow.Author.Needs.{needs}
 use Rattle.strings.proofs.plain.goes_on.Statement.{statement}
