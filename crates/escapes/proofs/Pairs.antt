@@ -11,9 +11,9 @@ use lib.Seq.{drop-cons, getD-drop, length-take-le}
 use Rattle.meaning.specs.Bytes.{if_then_else_, _!_, ascii, has, backslash}
 use Rattle.meaning.specs.Chars.{fresh}
 use Rattle.meaning.specs.Walk.{Step, keep, give, stop}
-use Rattle.meaning.specs.Steps.{byteOf, mysqlTable, mysql, doubled, standardStep}
+use Rattle.meaning.specs.Steps.{byteOf, mysqlTable, doubled, standardStep}
 use Rattle.laws.proofs.Tests.{and-left, and-right}
-use Rattle.laws.proofs.Courses.{SoFar, Kept, Taken, Goes, taken, stands, isKept, kept-taken}
+use Rattle.laws.proofs.Courses.{SoFar, Taken, Goes, taken, stands, isKept, kept-taken}
 use Rattle.laws.proofs.StepBounds.{Steady}
 use Rattle.laws.proofs.Passes.{unit-taken, Measuring, measuring-none, measuring-turn}
 use Rattle.leaves.specs.declared.blocks.Stops.{Stops}

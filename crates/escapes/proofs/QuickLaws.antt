@@ -2,23 +2,22 @@
 use mathlib.Core.Path.{_≡_, refl, ap, sym, _∙_, subst}
 use mathlib.Core.Bool.{Bool, true, false, _&&_, _||_, not, and-true, and-assoc, false≢true}
 use mathlib.Core.List.{List, [], _∷_}
-use Prim.Native.Nat.{ℕ, suc, _+_, _-_, _*_, _≤_, _<_}
+use Prim.Native.Nat.{ℕ, _+_, _-_, _*_, _≤_, _<_}
 use native.Mathlib.Nat.{add-zero}
 use native.Mathlib.Omega.{arith}
-use borrow.Author.Tests.{eq-eqb, ne-eqb, eqb-true, eqb-false, ltb-true, ltb-false, not-true}
+use borrow.Author.Tests.{ne-eqb, eqb-true, eqb-false, ltb-true, ltb-false, not-true}
 use lib.Dec.{eqb, ltb}
 use lib.ListN.{length, drop, length-drop, List·getD-eq-default}
 use lib.Seq.{getD-drop}
 use Rattle.meaning.specs.Bytes.{if_then_else_, _!_, digit}
-use Rattle.meaning.specs.Chars.{Due, fresh, pushes}
-use Rattle.meaning.specs.Walk.{Step, keep, give, stop}
+use Rattle.meaning.specs.Chars.{Due, fresh}
+use Rattle.meaning.specs.Walk.{keep, give}
 use Rattle.meaning.specs.Steps.{oneByte, escaped, doubled, escapeStep}
 use Rattle.laws.proofs.Tests.{and-left, and-right}
 use Rattle.laws.proofs.Utf8.{low-lead}
 use Rattle.laws.proofs.Passes.{Measuring, measuring-turn, unit-taken}
 use Rattle.escapes.specs.declared.units.Family.{Family}
 use Rattle.escapes.specs.declared.units.Family.the-variants.{Escape}
-use Rattle.escapes.specs.declared.quick.Passed.{Passed}
 use Rattle.escapes.specs.Pieces.{letterOf}
 use Rattle.escapes.specs.Families.{stepOf, checks}
 use Rattle.escapes.specs.Quick.{isQuick, quickByte, Quick, Passes}

@@ -1,7 +1,7 @@
 -- The measuring pass over a body by the pieces that are read: a piece takes and stands for what its step does, and every family's step is steady.
 -- A law for a turn and for each way out, as the code counts. Assumes nothing.
 use mathlib.Core.Path.{_≡_, refl, ap, sym, _∙_, subst}
-use mathlib.Core.Bool.{Bool, true, false, _&&_, not, false≢true}
+use mathlib.Core.Bool.{Bool, true, false, _&&_, not}
 use mathlib.Core.List.{List, [], _∷_}
 use Prim.Native.Nat.{ℕ, suc, _+_, _-_, _≤_, _<_}
 use native.Mathlib.Omega.{arith}
@@ -9,8 +9,8 @@ use lib.Dec.{eqb}
 use lib.ListN.{length, take, drop, length-take, drop-of-length-le}
 use lib.Seq.{drop-cons, take-take, getD-take, getD-drop}
 use borrow.Author.Tests.{not-true}
-use Rattle.meaning.specs.Bytes.{if_then_else_, _!_, starts, span, quote, backslash}
-use Rattle.meaning.specs.Chars.{Due, due, broken, push, pushes}
+use Rattle.meaning.specs.Bytes.{if_then_else_, _!_, span, quote, backslash}
+use Rattle.meaning.specs.Chars.{Due, broken, push, pushes}
 use Rattle.meaning.specs.Walk.{Step, keep, give, stop, walk}
 use Rattle.meaning.specs.Steps.{doubled, uescaped}
 use Rattle.laws.proofs.Tests.{and-left, and-right, eqb-sym}

@@ -6,7 +6,7 @@ use Prim.Native.Nat.{ℕ, _<_}
 use lib.Dec.{ltb}
 use lib.ListN.{length, take, getD}
 use Rattle.meaning.specs.Bytes.{if_then_else_}
-use Rattle.meaning.specs.Chars.{Due, due, broken, push, pushes, encode, isScalar}
+use Rattle.meaning.specs.Chars.{Due, broken, push, pushes, encode, isScalar}
 use Rattle.meaning.specs.Walk.{Step, keep, give, stop}
 use Rattle.meaning.specs.Steps.{byteOf, escapeTable, mayEscape}
 use Rattle.escapes.specs.declared.pieces.Piece.{Piece}

@@ -1,4 +1,5 @@
-// How long a body's value is: one pass for every family, a unit or a run of bytes that stand for themselves at each turn. E's expansion is checked to be UTF-8 on the way, so that the first of all refusals is found.
+// How long a body's value is: one pass for every family, a unit or a run of bytes that stand for themselves at each turn. E's expansion is checked to be
+// UTF-8 on the way, so that the first of all refusals is found.
 use crate::pieces::Piece;
 use crate::pieces::broken_at;
 use crate::pieces::is_keep;

@@ -9,7 +9,6 @@ ghost use Prim.Native.Nat.{_+_, _≤_, _<_};
 ghost use lib.ListN.{length, drop};
 ghost use Rattle.utf8.specs.Tails.{dueOf};
 ghost use Rattle.escapes.specs.Quick.{isQuick, Quick, Passes};
-ghost use Rattle.escapes.specs.Families.{stepOf, checks};
 
 // What was passed over: the place behind it, how many bytes it stands for, and whether each byte stood for itself.
 pub struct Passed {

@@ -1,6 +1,6 @@
 -- `escapes::standard::measure_ahead` meets its contract. The loop's invariant, `Measuring`: the units so far stand for n bytes. The measure is what is left of
 -- the body. Assumes nothing.
-use mathlib.Core.Path.{_≡_, sym}
+use mathlib.Core.Path.{sym}
 use mathlib.Core.Bool.{false, _&&_}
 use Prim.Native.Nat.{_+_, _-_}
 use borrow.Author.Needs.{needs}

@@ -1,5 +1,4 @@
 -- `escapes::units::escape_letter` meets its contract: five choices, as the table has them. Assumes nothing.
-use mathlib.Core.Path.{_∙_}
 use Rattle.escapes.proofs.UnitLaws.{letter-of}
 use borrow.Author.Needs.{needs}
 use Rattle.escapes.proofs.units.escape_letter.Statement.{statement}

@@ -1,5 +1,4 @@
 -- `leaves::digits::hex_value` meets its contract, by what `loose_digit` ensures. Assumes nothing.
-use mathlib.Core.Path.{_≡_}
 use borrow.Author.Tests.{lt-ltb, le-ltb}
 use borrow.Author.Needs.{needs}
 use Rattle.leaves.proofs.digits.hex_value.Statement.{statement}
