@@ -2,6 +2,8 @@
 pub mod WriteTurns
 pub mod Letters
 pub mod WritePairs
+pub mod QuickLetters
+pub mod QuickWrites
 pub mod Expansions
 pub mod Ones
 pub mod Shorts

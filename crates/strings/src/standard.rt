@@ -15,7 +15,6 @@ ghost use Rattle.meaning.specs.Steps.{standardStep};
 ghost use Rattle.laws.proofs.Passes.{Writing};
 ghost use Rattle.leaves.specs.Puts.{Puts};
 ghost use Rattle.cutting.specs.Marks.{markOf};
-ghost use Rattle.escapes.specs.Families.{stepOf, courseOf};
 ghost use Rattle.strings.specs.Rooms.{Room, twoBy};
 
 // How far a body is written: up to a place, so many bytes.
@@ -285,7 +284,7 @@ const LETTERS: [u8; 256] = [
 ];
 
 // One of two bytes.
-fn choose(test: bool, yes: u8, no: u8) -> u8
+pub(crate) fn choose(test: bool, yes: u8, no: u8) -> u8
     ensures { λ r. ⌜ r ≡ (if test then yes else no) ⌝ }
 {
     if test { yes } else { no }
@@ -306,7 +305,7 @@ fn put_pair(wide: usize, first: u8, last: u8, out: &mut [u8]) -> usize
 }
 
 // Writes a standard body, for which there is room, up to its last byte; whoever asks writes what is left.
-fn write_ahead(body: &[u8], mark: Mark, backslash: bool, out: &mut [u8]) -> Front
+pub(crate) fn write_ahead(body: &[u8], mark: Mark, backslash: bool, out: &mut [u8]) -> Front
     requires { ⌜ Room (walk (standardStep backslash (markOf mark)) 0 (now body)) (length (now out)) ⌝ }
     ensures { λ r. ⌜ Writing (standardStep backslash (markOf mark)) (now (body .entry)) (now (out .entry)) (now (out .exit)) (r .at) (r .n) ⌝ }
 {
@@ -332,16 +331,4 @@ fn write_ahead(body: &[u8], mark: Mark, backslash: bool, out: &mut [u8]) -> Fron
         }
     }
     Front { at, n }
-}
-
-// Writes the front of a body of a family before its units are written one by one: a standard body nearly to its end, any other not at all.
-pub(crate) fn write_front(body: &[u8], family: Family, escape: &[u8], out: &mut [u8]) -> Front
-    requires { ⌜ Room (courseOf family (now escape) (now body)) (length (now out)) ⌝ }
-    ensures { λ r. ⌜ Writing (stepOf family (now (escape .entry))) (now (body .entry)) (now (out .entry)) (now (out .exit)) (r .at) (r .n) ⌝ }
-{
-    match family {
-        Family::Standard { mark, backslash } => write_ahead(body, mark, backslash, out),
-        Family::Escape => Front { at: 0, n: 0 },
-        Family::Unicode { mark: _ } => Front { at: 0, n: 0 },
-    }
 }

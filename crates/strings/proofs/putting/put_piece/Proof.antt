@@ -1,9 +1,9 @@
--- `strings::writing::put_piece` meets its contract: in each arm the piece is known, and a leaf puts its bytes. Assumes nothing.
+-- `strings::putting::put_piece` meets its contract: in each arm the piece is known, and a leaf puts its bytes. Assumes nothing.
 use Rattle.leaves.proofs.Putting.{puts-nothing}
 use Rattle.escapes.proofs.Encodings.{puts-encoded}
 use borrow.Author.Needs.{needs}
-use Rattle.strings.proofs.writing.put_piece.Statement.{statement}
-use Rattle.strings.proofs.writing.put_piece.Tie as tie
+use Rattle.strings.proofs.putting.put_piece.Statement.{statement}
+use Rattle.strings.proofs.putting.put_piece.Tie as tie
 
 enum-told : tie.Need-enum-told
 enum-told c = search needs
