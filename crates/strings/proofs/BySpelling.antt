@@ -12,7 +12,7 @@ use Rattle.meaning.specs.Spelling.{Spelling, unicode, spelling}
 use Rattle.meaning.specs.declared.Read.{Read}
 use Rattle.meaning.specs.declared.Read.the-variants as Read′
 use Rattle.meaning.specs.Reads.{Reads}
-use Rattle.meaning.specs.Reading.{Answer, means, valueOf, answer, read-as, one, alone}
+use Rattle.meaning.specs.Reading.{Answer, valueOf, answer, read-as, one, alone}
 use Rattle.laws.proofs.Joining.{fails≢means}
 use Rattle.laws.proofs.Ranges.{BodyIn, spelling-body}
 use Rattle.cutting.specs.declared.marks.Mark.{Mark}
@@ -166,7 +166,8 @@ module _ (σ : Settings) (t : List ℕ) (s : Spelled) (spells : Spells t s (spel
       unicode-put : (f u a z : ℕ) (e : List ℕ) → escapeOf t a z ≡ e → s ≡ Unicode f u a z
           → Put (valueOf t (answer f u (courseOf (Family′.Unicode Quote) e (part f u t)))) out r after → Put (alone σ t) out r after
       unicode-put f u a z e k q p =
-          spelled-put σ t s spells n h (Unicode f u a z) q out after r (subst (λ (y : List ℕ). Put (valueOf t (read-as σ t (unicode y f u))) out r after) (sym k) p)
+          spelled-put σ t s spells n h (Unicode f u a z) q out after r
+          (subst (λ (y : List ℕ). Put (valueOf t (read-as σ t (unicode y f u))) out r after) (sym k) p)
 
       pub default-put : (f u a z : ℕ) → s ≡ Unicode f u a z → a ≡ z
           → Put (valueOf t (answer f u (courseOf (Family′.Unicode Quote) (backslash ∷ []) (part f u t)))) out r after → Put (alone σ t) out r after

@@ -56,7 +56,8 @@ module _ (σ : Settings) (t out after : List ℕ) (r : Read) (g : Reads (one σ 
     shown = go (one σ t) refl (sym (g .answer) ∙ q)
       where
         go : (a : Answer) → one σ t ≡ a → readOf (length out) (one σ t) ≡ Read′.Borrowed f u → one σ t ≡ borrowed f u
-        go (borrowed f′ u′) e k = let z : Read′.Borrowed f′ u′ ≡ Read′.Borrowed f u = ap (readOf (length out)) (sym e) ∙ k in let x : f′ ≡ f = cc in let y : u′ ≡ u = cc in rw (← x, ← y) e
+        go (borrowed f′ u′) e k = let z : Read′.Borrowed f′ u′ ≡ Read′.Borrowed f u = ap (readOf (length out)) (sym e)
+            ∙ k in let x : f′ ≡ f = cc in let y : u′ ≡ u = cc in rw (← x, ← y) e
         go (written v) e k = absurd (room-borrowed v f u (leb (length v) (length out)) (ap (readOf (length out)) (sym e) ∙ k))
         go (refused p) e k =
             let z : Read′.Refused p ≡ Read′.Borrowed f u = ap (readOf (length out)) (sym e) ∙ k in let y : _≡_ {A = ℕ} 0 1 = cc in absurd (omega arith)

@@ -95,7 +95,8 @@ module _ {σ : Settings} {t : List ℕ} {i n : ℕ} (v : JoinsAt σ t i n) (r : 
 
       pub refused-fits : (p : ℕ) → k ≡ Joined′.Refused p → s + p ≤ length t
       refused-fits p h =
-          let b : Bound (fails p) (length text) = subst (λ (y : Value). Bound y (length text)) (length-fails (alone σ text) p (sym ek ∙ h)) (alone-bound σ text) in
+          let b : Bound (fails p) (length text) = subst (λ (y : Value). Bound y (length text)) (length-fails (alone σ text) p (sym ek ∙ h))
+          (alone-bound σ text) in
           omega (arith, b, text-length, unit .some, unit .ends, unit .inside)
 
       pub joins-refused : (p : ℕ) → k ≡ Joined′.Refused p → Joined′.Refused (s + p) ≡ lengthOf (joined σ (cut σ t))
@@ -134,7 +135,8 @@ module _ {σ : Settings} {t d out : List ℕ} {i n : ℕ} (w : WritesAt σ t d o
       (record { answer = sym (j .count); buffer = w .put ∙ ap (λ (k : ℕ). j .got ++ drop k d) (sym (j .count)) })
 
   -- a segment more, which means v
-  module _ (s o u : ℕ) (c : Cursor) (q : r ≡ Next′.Segment s o u c) (v : List ℕ) (x : alone σ (take (u - s) (drop s t)) ≡ means v) (lent : n + length v ≤ length d) where
+  module _ (s o u : ℕ) (c : Cursor) (q : r ≡ Next′.Segment s o u c) (v : List ℕ) (x : alone σ (take (u - s) (drop s t)) ≡ means v)
+      (lent : n + length v ≤ length d) where
     pub writes-more : (k : ℕ) (last : List ℕ) → Put (alone σ (take (u - s) (drop s t))) (take (length out - n) (drop n out)) k last
         → WritesAt σ t d (take n out ++ (last ++ drop (length out - n) (drop n out))) (c .at) (n + k)
     unfolding joins.joined-more turn
@@ -156,10 +158,12 @@ module _ {σ : Settings} {t d out : List ℕ} {i n : ℕ} (w : WritesAt σ t d o
             short = omega (arith, brief (w .joins) r e s o u c q v x, w .joins .short);
           };
           put = put;
-          same = ap length put ∙ length-append (g ++ v) (drop (n + length v) d) ∙ omega (arith, length-append g v, w .joins .so-far .count, length-drop (n + length v) d, lent);
+          same = ap length put ∙ length-append (g ++ v) (drop (n + length v) d)
+              ∙ omega (arith, length-append g v, w .joins .so-far .count, length-drop (n + length v) d, lent);
         })
 
-module _ {σ : Settings} {t d out : List ℕ} {i n : ℕ} (w : WritesAt σ t d out i n) (h : Holds (joined σ (cut σ t)) (length d)) (r : Next) (e : r ≡ nextOf σ t i) where
+module _ {σ : Settings} {t d out : List ℕ} {i n : ℕ} (w : WritesAt σ t d out i n) (h : Holds (joined σ (cut σ t)) (length d)) (r : Next)
+    (e : r ≡ nextOf σ t i) where
   pub writes-remainder : r ≡ Next′.Remainder → Put (joined σ (cut σ t)) d n out
   unfolding cut
   writes-remainder q =

@@ -1,6 +1,6 @@
 -- The table of what MySQL's backslash makes of a byte, looked at entry by entry; and what two bytes of a standard body stand for by it. Assumes nothing.
 use mathlib.Core.Path.{_≡_, refl, ap, sym, _∙_}
-use mathlib.Core.Bool.{Bool, true, false, _&&_, _||_, false≢true}
+use mathlib.Core.Bool.{Bool, true, false, _&&_, false≢true}
 use mathlib.Core.List.{List, [], _∷_}
 use Prim.Native.Nat.{ℕ, zero, suc, _<_}
 use native.Mathlib.Omega.{arith}
@@ -8,7 +8,7 @@ use borrow.Author.Tests.{eqb-true, eqb-false}
 use lib.Dec.{eqb, ltb}
 use lib.ListN.{getD}
 use Rattle.meaning.specs.Bytes.{if_then_else_, ascii, has}
-use Rattle.meaning.specs.Walk.{Step, keep, give, stop}
+use Rattle.meaning.specs.Walk.{keep, give, stop}
 use Rattle.meaning.specs.Steps.{byteOf, mysqlTable, mysql, doubled, standardStep}
 use Rattle.laws.proofs.Tests.{and-left, and-right}
 use Rattle.laws.proofs.Courses.{stands}

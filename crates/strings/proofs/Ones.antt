@@ -1,23 +1,21 @@
 -- One segment's answer by what measuring its body says, by its spelling, and what writing it owes. Assumes nothing.
 use mathlib.Core.Path.{_≡_, refl, ap, sym, _∙_, subst}
-use mathlib.Core.Bool.{Bool, true, false, false≢true}
-use mathlib.Core.List.{List, [], _∷_, _++_}
+use mathlib.Core.Bool.{Bool, true, false}
+use mathlib.Core.List.{List, _++_}
 use Prim.Native.Nat.{ℕ, _+_, _-_, _≤_}
 use native.Mathlib.Omega.{arith}
-use lib.Dec.{leb}
-use lib.ListN.{length, take, drop, length-take, length-drop}
+use lib.ListN.{length, drop, length-take, length-drop}
 use borrow.Author.Tests.{le-leb}
 use Rattle.meaning.specs.declared.Settings.{Settings}
 use Rattle.meaning.specs.Bytes.{if_then_else_, part, has}
-use Rattle.meaning.specs.Walk.{Trace, size, stops, plain, value, walk}
+use Rattle.meaning.specs.Walk.{Trace, size, stops, plain, value}
 use Rattle.meaning.specs.Spelling.{Spelling, spelling}
-use Rattle.meaning.specs.Reading.{Answer, borrowed, written, refused, Value, means, fails, valueOf, answer, read-as, one, alone}
+use Rattle.meaning.specs.Reading.{Answer, borrowed, written, refused, Value, means, valueOf, answer, read-as, one, alone}
 use Rattle.meaning.specs.Answers.{filled}
 use Rattle.laws.proofs.Joining.{fails≢means}
 use Rattle.laws.proofs.Ranges.{Bounds, BodyIn, AnswerIn, one-inside}
 use Rattle.laws.proofs.Short.{course-size, body-means, body-goes}
 use Rattle.laws.proofs.StepBounds.{Steady, standard-steady, escape-steady, unicode-steady}
-use Rattle.cutting.specs.Marks.{markOf}
 use Rattle.cutting.specs.declared.marks.Mark.the-variants.{Quote, DoubleQuote}
 use Rattle.escapes.specs.declared.units.Family.{Family}
 use Rattle.escapes.specs.declared.units.Family.the-variants as Family′
@@ -25,14 +23,13 @@ use Rattle.escapes.specs.declared.measuring.Measured.{Measured}
 use Rattle.escapes.specs.declared.measuring.Measured.the-variants as Measured′
 use Rattle.strings.specs.declared.one.One.{One}
 use Rattle.strings.specs.declared.one.One.the-variants as One′
-use Rattle.strings.specs.declared.joined.Joined.{Joined}
 use Rattle.strings.specs.declared.joined.Joined.the-variants as Joined′
 use Rattle.spellings.specs.declared.spelling.Spelled.{Spelled}
 use Rattle.escapes.specs.Families.{stepOf, checks, courseOf, measuredOf}
 use Rattle.strings.specs.Rooms.{Room, Written}
 use Rattle.leaves.specs.Puts.{Puts}
 use Rattle.spellings.specs.Spelled.{spelledOf, Spells}
-use Rattle.strings.specs.Answers.{Inside, oneOf, lengthOf, Holds, valueIn, Put}
+use Rattle.strings.specs.Answers.{Inside, oneOf, lengthOf, Holds, Put}
 
 -- MEASURING A BODY. Its measure, as an answer on the text that holds it from f to u
 abbrev pub bodyBy : ℕ → ℕ → Measured → One
@@ -77,7 +74,8 @@ measured-place f e b m p em q = go (plain c) (stops c) (sym em ∙ q)
     c : Trace
     c = courseOf f e b
 
-    go : (x y : Bool) → (if x then Measured′.Plain else if y then Measured′.Refused (size c) else Measured′.Length (length (value c))) ≡ Measured′.Refused p → p ≤ length b
+    go : (x y : Bool) → (if x then Measured′.Plain else if y then Measured′.Refused (size c) else Measured′.Length (length (value c))) ≡ Measured′.Refused p
+        → p ≤ length b
     go true y h = let z : _≡_ {A = ℕ} 0 1 = cc in absurd (omega arith)
     go false true h = let z : size c ≡ p = cc in omega (arith, course-size (checks f) (stepOf f e) (family-steady f e) b)
     go false false h = let z : _≡_ {A = ℕ} 0 1 = cc in absurd (omega arith)
@@ -119,7 +117,8 @@ module _ (σ : Settings) (t : List ℕ) (s : Spelled) (spells : Spells t s (spel
   unfolding one
   spelled-means v e s′ q = go (has 0 t) refl e
     where
-      go : (x : Bool) → has 0 t ≡ x → valueOf t (if x then refused 0 else read-as σ t (spelling t)) ≡ means v → alone σ t ≡ valueOf t (read-as σ t (spelledOf t s′))
+      go : (x : Bool) → has 0 t ≡ x → valueOf t (if x then refused 0 else read-as σ t (spelling t)) ≡ means v
+          → alone σ t ≡ valueOf t (read-as σ t (spelledOf t s′))
       go true h g = absurd (fails≢means 0 v g)
       go false h g = ap (valueOf t) (one-spelled h) ∙ ap (λ (x : Spelled). valueOf t (read-as σ t (spelledOf t x))) q
 
@@ -150,7 +149,8 @@ module _ (σ : Settings) (t : List ℕ) (r : One) (f u : ℕ) (e : r ≡ oneOf (
   as-borrowed : (f ≤ u) × (Joined′.Length (u - f) ≡ lengthOf (alone σ t))
   as-borrowed = go (one σ t) refl (sym e ∙ q) (one-inside σ t)
     where
-      go : (a : Answer) → one σ t ≡ a → oneOf a ≡ One′.Borrowed f u → AnswerIn (length t) a → (f ≤ u) × (Joined′.Length (u - f) ≡ lengthOf (valueOf t (one σ t)))
+      go : (a : Answer) → one σ t ≡ a → oneOf a ≡ One′.Borrowed f u → AnswerIn (length t) a → (f ≤ u)
+          × (Joined′.Length (u - f) ≡ lengthOf (valueOf t (one σ t)))
       go (borrowed g w) k h b =
           let x : g ≡ f = cc in let y : w ≡ u = cc in
           (omega (arith, b .ordered), rw k (ap Joined′.Length (omega (arith, length-take (w - g) (drop g t), length-drop g t, b .ordered, b .inside))))

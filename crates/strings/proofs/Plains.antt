@@ -1,6 +1,6 @@
 -- A string in ' whose body is free of marks, NULs and active backslashes is one segment, and its body is borrowed. Assumes nothing.
 use mathlib.Core.Path.{_≡_, refl, ap, sym, _∙_, subst}
-use mathlib.Core.Bool.{Bool, true, false, _&&_, not, and-false, or-false, false≢true}
+use mathlib.Core.Bool.{Bool, true, false, _&&_, not, and-false, false≢true}
 use mathlib.Core.List.{List, [], _∷_, _++_, append-nil, append-assoc}
 use Prim.Native.Nat.{ℕ, zero, suc, _+_, _-_, _≤_, _<_}
 use native.Mathlib.Omega.{arith}
@@ -43,11 +43,13 @@ use Rattle.strings.proofs.Cuts.{goes-on}
 module _ (σ : Settings) (b : ℕ) (f : freeOf (stopsOf σ) b ≡ true) where
   no-quote : eqb b quote ≡ false
   unfolding freeOf
-  no-quote = not-true (eqb b quote) (and-left (not (eqb b quote)) (not (eqb b (stopsOf σ .second))) (and-left (not (eqb b quote) && not (eqb b (stopsOf σ .second))) (not (eqb b 0)) f))
+  no-quote = not-true (eqb b quote) (and-left (not (eqb b quote)) (not (eqb b (stopsOf σ .second)))
+      (and-left (not (eqb b quote) && not (eqb b (stopsOf σ .second))) (not (eqb b 0)) f))
 
   no-escape : (σ .backslash && eqb b backslash) ≡ false
   unfolding freeOf
-  no-escape = go (σ .backslash) (not-true (eqb b (stopsOf σ .second)) (and-right (not (eqb b quote)) (not (eqb b (stopsOf σ .second))) (and-left (not (eqb b quote) && not (eqb b (stopsOf σ .second))) (not (eqb b 0)) f)))
+  no-escape = go (σ .backslash) (not-true (eqb b (stopsOf σ .second))
+      (and-right (not (eqb b quote)) (not (eqb b (stopsOf σ .second))) (and-left (not (eqb b quote) && not (eqb b (stopsOf σ .second))) (not (eqb b 0)) f)))
     where
       go : (x : Bool) → eqb b (if x then backslash else quote) ≡ false → (x && eqb b backslash) ≡ false
       go true e = e
@@ -68,7 +70,8 @@ module _ (σ : Settings) (b : ℕ) (f : freeOf (stopsOf σ) b ≡ true) where
 module _ (σ : Settings) where
   free-plain : (v : List ℕ) → freeBody σ v ≡ true → plain (walk (standardStep (σ .backslash) quote) 0 v) ≡ true
   free-plain [] h = refl
-  free-plain (b ∷ v) h = rw (free-keep σ b (and-left (freeOf (stopsOf σ) b) (freeBody σ v) h) v) (free-plain v (and-right (freeOf (stopsOf σ) b) (freeBody σ v) h))
+  free-plain (b ∷ v) h = rw (free-keep σ b (and-left (freeOf (stopsOf σ) b) (freeBody σ v) h) v)
+      (free-plain v (and-right (freeOf (stopsOf σ) b) (freeBody σ v) h))
 
   free-spells : (v : List ℕ) → freeBody σ v ≡ true → spells (σ .backslash) v ≡ v
   free-spells [] h = refl
@@ -87,7 +90,8 @@ module _ (σ : Settings) where
 
     free-segment : segment σ text ≡ length text
     free-segment =
-        let e : literal (σ .backslash) v ++ [] ≡ text = append-nil (literal (σ .backslash) v) ∙ ap (λ (x : List ℕ). quote ∷ (x ++ (quote ∷ []))) (free-spells v h) in
+        let e : literal (σ .backslash) v ++ [] ≡ text =
+        append-nil (literal (σ .backslash) v) ∙ ap (λ (x : List ℕ). quote ∷ (x ++ (quote ∷ []))) (free-spells v h) in
         let l : literal (σ .backslash) v ≡ text = ap (λ (x : List ℕ). quote ∷ (x ++ (quote ∷ []))) (free-spells v h) in
         sym (ap (segment σ) e) ∙ literal-segment σ v [] refl ∙ ap length l
 
@@ -173,10 +177,12 @@ module _ (σ : Settings) (t : List ℕ) (x : Bool) (e : SaysPlain σ t x) (y : x
   pub plain-length : Joined′.Length (length t - 2) ≡ lengthOf (alone σ t)
   plain-length = rw plain-alone (ap Joined′.Length (omega (arith, body-long, length-take (length t - 1 - 1) (drop 1 t), length-drop 1 t)))
 
-  pub plain-put : (out after : List ℕ) (r : ℕ) → Holds (alone σ t) (length out) → Puts (take (length t - 1 - 1) (drop 1 t)) out r after → Put (alone σ t) out r after
+  pub plain-put : (out after : List ℕ) (r : ℕ) → Holds (alone σ t) (length out) → Puts (take (length t - 1 - 1) (drop 1 t)) out r after
+      → Put (alone σ t) out r after
   plain-put out after r h p =
       let k = plain-alone in
-      subst (λ (z : Value). Put z out r after) (sym k) (means-put (take (length t - 1 - 1) (drop 1 t)) out after r (subst (λ (z : Value). Holds z (length out)) k h) p)
+      subst (λ (z : Value). Put z out r after) (sym k)
+      (means-put (take (length t - 1 - 1) (drop 1 t)) out after r (subst (λ (z : Value). Holds z (length out)) k h) p)
 
 -- A PLAIN SEGMENT that others may follow; what is free with the setting on is free
 made : (b s : ℕ) → eqb b quote ≡ false → eqb b s ≡ false → eqb b 0 ≡ false → freeOf (record { first = quote; second = s; third = 0 }) b ≡ true
@@ -208,7 +214,8 @@ module _ (σ : Settings) (t : List ℕ) (at n : ℕ) (q : PlainAt (drop at t) n)
   segment-plain =
       let f = on-free σ (p .body) (p .free) in
       let l : literal (σ .backslash) (p .body) ++ p .rest ≡ drop at t =
-      ap (λ (x : List ℕ). quote ∷ ((x ++ (quote ∷ [])) ++ p .rest)) (free-spells σ (p .body) f) ∙ ap (quote ∷_) (append-assoc (p .body) (quote ∷ []) (p .rest)) ∙ sym (p .is) in
+      ap (λ (x : List ℕ). quote ∷ ((x ++ (quote ∷ [])) ++ p .rest)) (free-spells σ (p .body) f) ∙ ap (quote ∷_) (append-assoc (p .body) (quote ∷ []) (p .rest))
+      ∙ sym (p .is) in
       let k : length (literal (σ .backslash) (p .body)) ≡ n =
       ap (λ (x : List ℕ). length (quote ∷ (x ++ (quote ∷ [])))) (free-spells σ (p .body) f) ∙ omega (arith, length-append (p .body) (quote ∷ []), p .long) in
       sym (ap (segment σ) l) ∙ literal-segment σ (p .body) (p .rest) (p .apart) ∙ k
@@ -277,7 +284,8 @@ mark-inside t i b e q = inside (λ b. eqb b 39) refl t i (eq-eqb (t ! i) 39 (sym
 pub run-room : (f : ℕ → Bool) (t : List ℕ) (at r : ℕ) → at < length t → r ≡ span f (drop (at + 1) t) → at + 1 + r ≤ length t
 run-room f t at r h e = omega (arith, span-length f (drop (at + 1) t), length-drop (at + 1) t)
 
-pub plain-found : (t : List ℕ) (at : ℕ) → at < length t → t ! at ≡ 39 → (run : ℕ) → run ≡ span (freeOf (record { first = 39; second = 92; third = 0 })) (drop (at + 1) t)
+pub plain-found : (t : List ℕ) (at : ℕ) → at < length t → t ! at ≡ 39 → (run : ℕ)
+    → run ≡ span (freeOf (record { first = 39; second = 92; third = 0 })) (drop (at + 1) t)
     → (b : ℕ) → b ≡ t ! (at + 1 + run) → b ≡ 39 → (d : ℕ) → d ≡ t ! (at + 1 + run + 1) → (d ≡ 39 → ⊥) → PlainAt (drop at t) (run + 2)
 plain-found t at h m run er b eb qb d ed nd =
     let f = freeOf (stopsOf on) in

@@ -1,5 +1,5 @@
 -- The writing pass over an E body by what two bytes tell: a turn over a unit that stands for one byte. Assumes nothing.
-use mathlib.Core.Path.{_≡_, refl, ap, sym, _∙_, subst}
+use mathlib.Core.Path.{_≡_, ap, sym, _∙_, subst}
 use mathlib.Core.Bool.{Bool, true, false, _&&_, _||_, not}
 use mathlib.Core.List.{List, [], _∷_, _++_}
 use Prim.Native.Nat.{ℕ, suc, _+_, _-_, _≤_, _<_}
@@ -21,10 +21,11 @@ use Rattle.escapes.proofs.UnitLaws.{cut}
 use Rattle.escapes.proofs.Turns.{steady}
 use Rattle.strings.specs.declared.standard.Front.{Front}
 use Rattle.strings.specs.Rooms.{Room}
-use Rattle.strings.proofs.QuickLetters.{letters, Short, short-pair}
+use Rattle.strings.proofs.QuickLetters.{letters, short-pair}
 
 -- one byte is stored behind what is written
-pub stored : {step : List ℕ → Step} {l d out : List ℕ} {at n : ℕ} (w : Writing step l d out at n) (v : ℕ) (y : Bool) (at′ : ℕ) → Taken (w .so-far) (v ∷ []) y at′
+pub stored : {step : List ℕ → Step} {l d out : List ℕ} {at n : ℕ} (w : Writing step l d out at n) (v : ℕ) (y : Bool) (at′ : ℕ)
+    → Taken (w .so-far) (v ∷ []) y at′
     → n < length d → Writing step l d (set out n v) at′ (n + 1)
 stored {step} {l} {d} {out} {at} {n} w v y at′ f h =
     let c = value (w .so-far .course) in
@@ -60,7 +61,8 @@ module _ (e l d : List ℕ) (room : Room (courseOf Escape e l) (length d)) {out 
       let roomy = course-roomy true (walk escapeStep 0 l) (length d) (room .goes) (room .fits) in
       let a : at + taken s ≡ at + (1 + k) = ap (at +_) (rw ek (p .takes)) in
       let f : Taken (w .so-far) (v ∷ []) (isKept s) (at + (1 + k)) =
-      subst (λ (x : List ℕ). Taken (w .so-far) x (isKept s) (at + (1 + k))) (p .one) (unit-taken (w .so-far) (steady Escape e) s (omega arith) here (p .goes) (at + (1 + k)) a) in
+      subst (λ (x : List ℕ). Taken (w .so-far) x (isKept s) (at + (1 + k))) (p .one)
+      (unit-taken (w .so-far) (steady Escape e) s (omega arith) here (p .goes) (at + (1 + k)) a) in
       let m : n + 1 ≤ length d = taken-room w roomy (v ∷ []) (isKept s) (at + (1 + k)) f in
       record {
         inside = f .next .inside;

@@ -100,7 +100,8 @@ module _ (m : Mark) (q : ℕ) (eq : q ≡ markOf m) (bs : Bool) (l d : List ℕ)
       let t = pair-taken m q eq bs l (w .so-far) u e h g in
       let k : stands (pairAt m q eq bs l at) (l ! at) ≡ twoBy (u .wide) (l ! at) v =
       rw (ev, e, unit-escapes (bs && eqb (l ! at) 92) (pairAt m q eq bs l at)) (pair-stands bs q (l ! at) (l ! (at + 1)) b (rw e at g)) in
-      let f : Taken (w .so-far) (twoBy (u .wide) (l ! at) v) (u .keep) (at + (1 + u .more)) = subst (λ (x : List ℕ). Taken (w .so-far) x (u .keep) (at + (1 + u .more))) k (t .0) in
+      let f : Taken (w .so-far) (twoBy (u .wide) (l ! at) v) (u .keep) (at + (1 + u .more)) = subst
+      (λ (x : List ℕ). Taken (w .so-far) x (u .keep) (at + (1 + u .more))) k (t .0) in
       let y = twoBy (u .wide) (l ! at) v in
       let c = counts w room′ y (u .keep) (at + (1 + u .more)) f r last p in
       record {
@@ -125,7 +126,13 @@ eight-inside p l at h = omega (arith, length-drop at l, passes-inside p 8 (drop 
 pub again : {step : List ℕ → Step} {l d out : List ℕ} {at n : ℕ} → Writing step l d out at n → Writing step l out out at n
 again {step} {l} {d} {out} {at} {n} w =
     let c = value (w .so-far .course) in
-    record { so-far = w .so-far; counted = w .counted; put = w .put ∙ ap (c ++_) (sym (ap (drop n) (w .put) ∙ drop-at c (drop n d) n (w .counted))); same = refl }
+    record {
+      so-far = w .so-far;
+      counted = w .counted;
+      put = w .put
+          ∙ ap (c ++_) (sym (ap (drop n) (w .put) ∙ drop-at c (drop n d) n (w .counted)));
+      same = refl;
+    }
 
 pub back : {step : List ℕ → Step} {l d out : List ℕ} {at n : ℕ} → Writing step l d out at n → (r : Trace) → n ≤ length (value r) → (k : ℕ) (after : List ℕ)
     → Written r out k after → Written r d k after

@@ -38,7 +38,8 @@ module _ (f : Family) (e l d : List ℕ) (room : Room (courseOf f e l) (length d
       let c = sym (course-same (checks f) (walk (stepOf f e) 0 l) (room .goes)) in
       record { answer = rw c at (s .0); buffer = rw c at (s .1) }
 
-  module _ (h : at < length l) (p : Piece) (i : IsBy e p (stepOf f e (drop at l))) (k : ℕ) (ek : k ≡ moreBy p (span (freeOf (stopsOf f e)) (drop (at + 1) l))) where
+  module _ (h : at < length l) (p : Piece) (i : IsBy e p (stepOf f e (drop at l))) (k : ℕ)
+      (ek : k ≡ moreBy p (span (freeOf (stopsOf f e)) (drop (at + 1) l))) where
     abbrev own : List ℕ
     own = bytesOf p (take (at + 1 + k - at) (drop at l)) e
 

@@ -90,7 +90,8 @@ pub(crate) fn write_body(
 ) -> usize
     requires { ⌜ Inside (length (now text)) from until ⌝ }
     requires { ⌜ Holds (valueOf (now text) (bodyOf family (now escape) from until (now text))) (length (now out)) ⌝ }
-    ensures { λ r. ⌜ Put (valueOf (now (text .entry)) (bodyOf family (now (escape .entry)) from until (now (text .entry)))) (now (out .entry)) r (now (out .exit)) ⌝ }
+    ensures { λ r. ⌜ Put (valueOf (now (text .entry)) (bodyOf family (now (escape .entry)) from until (now (text .entry)))) (now (out .entry)) r
+        (now (out .exit)) ⌝ }
 {
     write(&text[from..until], family, escape, out)
 }

@@ -274,8 +274,8 @@ const LETTERS: [u8; 256] = [
     255,
 ];
 
-// Writes an E body, for which there is room, up to its last byte; whoever asks writes what is left. Behind four bytes that stood for themselves (`seen` has a bit
-// for each unit, 0 for such a byte) a turn is taken, since it copies a run at once.
+// Writes an E body, for which there is room, up to its last byte; whoever asks writes what is left. Behind four bytes that stood for themselves (`seen`
+// has a bit for each unit, 0 for such a byte) a turn is taken, since it copies a run at once.
 pub(crate) fn write_escape(body: &[u8], escape: &[u8], out: &mut [u8]) -> Front
     requires { ⌜ Room (courseOf Family.Escape (now escape) (now body)) (length (now out)) ⌝ }
     ensures { λ r. ⌜ Writing (stepOf Family.Escape (now (escape .entry))) (now (body .entry)) (now (out .entry)) (now (out .exit)) (r .at) (r .n) ⌝ }

@@ -3,7 +3,8 @@ use native.Mathlib.Omega.{arith}
 use denote.Ref.{now}
 use lib.ListN.{length}
 use Rattle.strings.specs.Answers.{Inside}
-use Rattle.strings.proofs.BySpelling.{nul-reads, standard-inside, escape-inside, unicode-inside, character-inside, standard-reads, escape-reads, default-reads, chosen-reads, dollar-reads, unspelt-reads}
+use Rattle.strings.proofs.BySpelling.{nul-reads, standard-inside, escape-inside, unicode-inside, character-inside, standard-reads, escape-reads}
+use Rattle.strings.proofs.BySpelling.{default-reads, chosen-reads, dollar-reads, unspelt-reads}
 use borrow.Author.Needs.{needs}
 use Rattle.strings.proofs.alone.read_alone.Statement.{statement}
 use Rattle.strings.proofs.alone.read_alone.Tie as tie
@@ -45,7 +46,8 @@ returns-2 : tie.Need-returns-2
 returns-2 c = search default-reads
 
 -- the escape character's part lies in the text
-chosen : (c : tie.Else2) → Inside (length (now (c .before .before .before .before .before .before .before .before .before .args .text))) (c .before .before .from2 .given .0 .1 .1 .0) (c .before .before .from2 .given .0 .1 .1 .1 .0)
+chosen : (c : tie.Else2) → Inside (length (now (c .before .before .before .before .before .before .before .before .before .args .text)))
+    (c .before .before .from2 .given .0 .1 .1 .0) (c .before .before .from2 .given .0 .1 .1 .1 .0)
 chosen c = search character-inside
 
 sub-escape : tie.Need-sub-escape

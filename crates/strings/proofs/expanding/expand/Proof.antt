@@ -23,21 +23,30 @@ abbrev μ-loop : tie.MeasureT-loop
 
 -- in a turn: what it takes behind its first byte, by the family's stops; and that this is there
 more : (c : tie.After-turn-more Inv-loop μ-loop) → let s = c .before .before .before .before .before .before .before .before .args in
-    c .turn-more .result ≡ moreBy (c .before .unit-at .result) (span (freeOf (stopsOf (s .family) (now (s .escape)))) (drop (c .before .before .before .loop .at + 1) (now (s .body))))
+    c .turn-more .result ≡ moreBy (c .before .unit-at .result)
+    (span (freeOf (stopsOf (s .family) (now (s .escape)))) (drop (c .before .before .before .loop .at + 1) (now (s .body))))
 more c =
     let s = c .before .before .before .before .before .before .before .before .args in
-    more-by (c .before .unit-at .result) (c .turn-more .result) (c .before .before .before .before .run-stops .result) (stopsOf (s .family) (now (s .escape))) (drop (c .before .before .before .loop .at + 1) (now (s .body))) (c .turn-more .ensures) (c .before .before .before .before .run-stops .ensures)
+    more-by (c .before .unit-at .result) (c .turn-more .result) (c .before .before .before .before .run-stops .result) (stopsOf (s .family) (now (s .escape)))
+    (drop (c .before .before .before .loop .at + 1) (now (s .body))) (c .turn-more .ensures) (c .before .before .before .before .run-stops .ensures)
 
 fits : (c : tie.After-turn-more Inv-loop μ-loop) → let s = c .before .before .before .before .before .before .before .before .args in
     c .before .before .before .loop .at + 1 + c .turn-more .result ≤ length (now (s .body))
 fits c =
     let s = c .before .before .before .before .before .before .before .before .args in
-    expanded-fits (s .family) (now (s .escape)) (now (s .body)) (now (s .out)) (c .before .before .before .loop .inv) (c .before .before .loop-test .taken) _ (c .before .unit-at .ensures) _ (more c)
+    expanded-fits (s .family) (now (s .escape)) (now (s .body)) (now (s .out)) (c .before .before .before .loop .inv) (c .before .before .loop-test .taken) _
+    (c .before .unit-at .ensures) _ (more c)
 
-room : (c : tie.After-is-run Inv-loop μ-loop) → c .before .before .before .before .before .before .before .before .before .before .loop .n + c .before .before .before .before .put-piece .result ≤ length (c .before .before .before .before .before .before .before .before .before .before .loop .out)
+room : (c : tie.After-is-run Inv-loop μ-loop)
+    → c .before .before .before .before .before .before .before .before .before .before .loop .n + c .before .before .before .before .put-piece .result
+    ≤ length (c .before .before .before .before .before .before .before .before .before .before .loop .out)
 room c =
     let s = c .before .before .before .before .before .before .before .before .before .before .before .before .before .before .before .args in
-    expanded-room (s .family) (now (s .escape)) (now (s .body)) (now (s .out)) (c .before .before .before .before .before .before .before .before .before .before .loop .inv) (c .before .before .before .before .before .before .before .before .before .loop-test .taken) _ (c .before .before .before .before .before .before .before .before .unit-at .ensures) _ (more (c .before .before .before .before .before .before .before)) _ _ (c .before .before .before .before .put-piece .ensures) (c .before .if1 .left)
+    expanded-room (s .family) (now (s .escape)) (now (s .body)) (now (s .out))
+    (c .before .before .before .before .before .before .before .before .before .before .loop .inv)
+    (c .before .before .before .before .before .before .before .before .before .loop-test .taken) _
+    (c .before .before .before .before .before .before .before .before .unit-at .ensures) _
+    (more (c .before .before .before .before .before .before .before)) _ _ (c .before .before .before .before .put-piece .ensures) (c .before .if1 .left)
 
 run-stops-requires : tie.Need-run-stops-requires Inv-loop μ-loop
 run-stops-requires c κs = search needs
@@ -99,7 +108,12 @@ loop-less c = omega (arith, fits (c .before .before .before .before .before .bef
 loop-again : tie.Need-loop-again Inv-loop μ-loop
 loop-again c =
     let s = c .before .before .before .before .before .before .before .before .before .before .before .before .before .before .before .args in
-    expanded-turn (s .family) (now (s .escape)) (now (s .body)) (now (s .out)) (c .before .before .before .before .before .before .before .before .before .before .loop .inv) (c .before .before .before .before .before .before .before .before .before .loop-test .taken) _ (c .before .before .before .before .before .before .before .before .unit-at .ensures) _ (more (c .before .before .before .before .before .before .before)) _ _ (c .before .before .before .before .put-piece .ensures) (c .before .if1 .left) _ (c .is-run .ensures)
+    expanded-turn (s .family) (now (s .escape)) (now (s .body)) (now (s .out))
+    (c .before .before .before .before .before .before .before .before .before .before .loop .inv)
+    (c .before .before .before .before .before .before .before .before .before .loop-test .taken) _
+    (c .before .before .before .before .before .before .before .before .unit-at .ensures) _
+    (more (c .before .before .before .before .before .before .before)) _ _ (c .before .before .before .before .put-piece .ensures) (c .before .if1 .left) _
+    (c .is-run .ensures)
 
 same-length-2 : tie.Need-same-length-2 Inv-loop μ-loop
 same-length-2 c = c .before .loop .inv .writing .same

@@ -56,12 +56,15 @@ enum-told : tie.Need-enum-told Inv-loop μ-loop
 enum-told c = search needs
 
 same-length : tie.Need-same-length Inv-loop μ-loop
-same-length c = c .before .before .before .out .given .1 ∙ c .before .before .before .before .before .before .before .before .before .before .before .loop .inv .same
+same-length c = c .before .before .before .out .given .1
+    ∙ c .before .before .before .before .before .before .before .before .before .before .before .loop .inv .same
 
 returns : tie.Need-returns Inv-loop μ-loop
 returns c = tt
 
-fits : (c : tie.After-known-told2 Inv-loop μ-loop) → c .before .before .before .before .before .before .before .before .before .before .before .before .loop .n + c .before .put .given .0 .0 ≤ length (c .before .before .before .before .before .before .before .before .before .before .before .before .loop .out)
+fits : (c : tie.After-known-told2 Inv-loop μ-loop)
+    → c .before .before .before .before .before .before .before .before .before .before .before .before .loop .n + c .before .put .given .0 .0 ≤ length
+    (c .before .before .before .before .before .before .before .before .before .before .before .before .loop .out)
 fits c = search gathered-fits
 
 add-n : tie.Need-add-n Inv-loop μ-loop

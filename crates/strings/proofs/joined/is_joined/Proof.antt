@@ -15,7 +15,8 @@ gap-at-requires : tie.Need-gap-at-requires
 gap-at-requires c κs = search needs
 
 add-byte-at : tie.Need-add-byte-at
-add-byte-at c = let h = gap-inside _ _ _ (c .before .before .before .before .first-segment .ensures) _ _ (c .before .before .len .given .1) _ (c .gap-at .ensures) in omega (arith, h)
+add-byte-at c = let h = gap-inside _ _ _ (c .before .before .before .before .first-segment .ensures) _ _ (c .before .before .len .given .1) _
+    (c .gap-at .ensures) in omega (arith, h)
 
 byte-at-requires : tie.Need-byte-at-requires
 byte-at-requires c κs = search needs

@@ -5,7 +5,8 @@ use native.Mathlib.Omega.{arith}
 use Prim.Native.Nat.{_+_, _-_, _≤_}
 use denote.Ref.{now}
 use lib.ListN.{length}
-use Rattle.strings.proofs.Joinings.{JoinsAt, joins-start, joins-end, joins-remainder, segment-ordered, segment-inside, cursor-less, joins-turn, joins-fits, refused-fits, joins-refused}
+use Rattle.strings.proofs.Joinings.{JoinsAt, joins-start, joins-end, joins-remainder, segment-ordered, segment-inside, cursor-less, joins-turn}
+use Rattle.strings.proofs.Joinings.{joins-fits, refused-fits, joins-refused}
 use Rattle.strings.proofs.joined.measure_joined.Statement.{statement}
 use Rattle.strings.proofs.joined.measure_joined.Tie as tie
 
@@ -42,7 +43,9 @@ segment-length-requires c κs = c .before .before .before .before .next-segment 
 enum-known-k : tie.Need-enum-known-k Inv-loop μ-loop
 enum-known-k c = search needs
 
-fits : (c : tie.After-known-told2 Inv-loop μ-loop) → c .before .before .before .before .before .before .before .before .before .loop .n + c .before .k .given .0 .0 ≤ length (now (c .before .before .before .before .before .before .before .before .before .before .before .before .args .text))
+fits : (c : tie.After-known-told2 Inv-loop μ-loop)
+    → c .before .before .before .before .before .before .before .before .before .loop .n + c .before .k .given .0 .0 ≤ length
+    (now (c .before .before .before .before .before .before .before .before .before .before .before .before .args .text))
 fits c = search joins-fits
 
 add-n : tie.Need-add-n Inv-loop μ-loop
@@ -51,7 +54,9 @@ add-n c = let h = fits c in omega (arith, h)
 enum-known-p : tie.Need-enum-known-p Inv-loop μ-loop
 enum-known-p c = search needs
 
-placed : (c : tie.After-known-told3 Inv-loop μ-loop) → c .before .before .before .before .before .before .stands .given .0 .0 + c .before .p .given .0 .0 ≤ length (now (c .before .before .before .before .before .before .before .before .before .before .before .before .args .text))
+placed : (c : tie.After-known-told3 Inv-loop μ-loop)
+    → c .before .before .before .before .before .before .stands .given .0 .0 + c .before .p .given .0 .0 ≤ length
+    (now (c .before .before .before .before .before .before .before .before .before .before .before .before .args .text))
 placed c = search refused-fits
 
 add-t17 : tie.Need-add-t17 Inv-loop μ-loop

@@ -4,7 +4,8 @@ use borrow.Author.Needs.{needs}
 use native.Mathlib.Omega.{arith}
 use Prim.Native.Nat.{_+_, _-_, _≤_}
 use lib.ListN.{length}
-use Rattle.strings.proofs.Joinings.{WritesAt, writes-start, writes-end, writes-remainder, writes-within, segment-holds, writes-turn, writes-fits, segment-ordered, segment-inside, cursor-less}
+use Rattle.strings.proofs.Joinings.{WritesAt, writes-start, writes-end, writes-remainder, writes-within, segment-holds, writes-turn, writes-fits}
+use Rattle.strings.proofs.Joinings.{segment-ordered, segment-inside, cursor-less}
 use Rattle.strings.proofs.joined.write_joined.Statement.{statement}
 use Rattle.strings.proofs.joined.write_joined.Tie as tie
 
@@ -45,9 +46,15 @@ part-write-segment-end-2 : tie.Need-part-write-segment-end-2 Inv-loop μ-loop
 part-write-segment-end-2 c = search needs
 
 write-segment-requires : tie.Need-write-segment-requires Inv-loop μ-loop
-write-segment-requires c κs = (c .before .before .before .before .before .next-segment .ensures .says _ _ _ _ (c .before .before .before .stands .given .1), search segment-holds)
+write-segment-requires c κs = (
+  c .before .before .before .before .before .next-segment .ensures .says _ _ _ _
+      (c .before .before .before .stands .given .1),
+  search segment-holds,
+)
 
-fits : (c : tie.After-slice-known2 Inv-loop μ-loop) → c .before .before .before .before .before .before .before .before .before .loop .n + c .before .before .write-segment .result ≤ length (c .before .before .before .before .before .before .before .before .before .loop .out)
+fits : (c : tie.After-slice-known2 Inv-loop μ-loop)
+    → c .before .before .before .before .before .before .before .before .before .loop .n + c .before .before .write-segment .result ≤ length
+    (c .before .before .before .before .before .before .before .before .before .loop .out)
 fits c = search writes-fits
 
 add-n : tie.Need-add-n Inv-loop μ-loop

@@ -2,7 +2,7 @@
 use borrow.Author.Needs.{needs}
 use native.Mathlib.Omega.{arith}
 use Prim.Native.Nat.{_-_}
-use lib.ListN.{length, take, drop, length-take, length-drop}
+use lib.ListN.{take, drop, length-take, length-drop}
 use denote.Ref.{now}
 use Rattle.strings.proofs.Ones.{measured-plain, measured-length, measured-refused, measured-place}
 use Rattle.strings.proofs.one.measure_body.Statement.{statement}

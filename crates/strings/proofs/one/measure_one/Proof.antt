@@ -3,7 +3,8 @@ use native.Mathlib.Omega.{arith}
 use denote.Ref.{now}
 use lib.ListN.{length}
 use Rattle.strings.specs.Answers.{Inside}
-use Rattle.strings.proofs.BySpelling.{nul-one, standard-inside, escape-inside, unicode-inside, character-inside, standard-one, escape-one, default-one, chosen-one, dollar-one, unspelt-one}
+use Rattle.strings.proofs.BySpelling.{nul-one, standard-inside, escape-inside, unicode-inside, character-inside, standard-one, escape-one, default-one}
+use Rattle.strings.proofs.BySpelling.{chosen-one, dollar-one, unspelt-one}
 use borrow.Author.Needs.{needs}
 use Rattle.strings.proofs.one.measure_one.Statement.{statement}
 use Rattle.strings.proofs.one.measure_one.Tie as tie
@@ -42,7 +43,8 @@ returns-2 : tie.Need-returns-2
 returns-2 c = search default-one
 
 -- the escape character's part lies in the text
-chosen : (c : tie.Else2) → Inside (length (now (c .before .before .before .before .before .before .before .before .args .text))) (c .before .before .from2 .given .0 .1 .1 .0) (c .before .before .from2 .given .0 .1 .1 .1 .0)
+chosen : (c : tie.Else2) → Inside (length (now (c .before .before .before .before .before .before .before .before .args .text)))
+    (c .before .before .from2 .given .0 .1 .1 .0) (c .before .before .from2 .given .0 .1 .1 .1 .0)
 chosen c = search character-inside
 
 sub-escape : tie.Need-sub-escape

@@ -3,7 +3,8 @@ use native.Mathlib.Omega.{arith}
 use denote.Ref.{now}
 use lib.ListN.{length}
 use Rattle.strings.specs.Answers.{Inside}
-use Rattle.strings.proofs.BySpelling.{standard-inside, escape-inside, unicode-inside, dollar-inside, character-inside, standard-holds, escape-holds, default-holds, chosen-holds, standard-put, escape-put, default-put, chosen-put, dollar-put, unspelt-put}
+use Rattle.strings.proofs.BySpelling.{standard-inside, escape-inside, unicode-inside, dollar-inside, character-inside, standard-holds, escape-holds}
+use Rattle.strings.proofs.BySpelling.{default-holds, chosen-holds, standard-put, escape-put, default-put, chosen-put, dollar-put, unspelt-put}
 use borrow.Author.Needs.{needs}
 use Rattle.strings.proofs.one.write_one.Statement.{statement}
 use Rattle.strings.proofs.one.write_one.Tie as tie
@@ -39,10 +40,12 @@ returns : tie.Need-returns
 returns c = search default-put
 
 -- the escape character's part, and a dollar string's body, lie in the text
-chosen : (c : tie.Else1) → Inside (length (now (c .before .before .before .before .before .before .before .args .text))) (c .before .before .from2 .given .0 .1 .1 .0) (c .before .before .from2 .given .0 .1 .1 .1 .0)
+chosen : (c : tie.Else1) → Inside (length (now (c .before .before .before .before .before .before .before .args .text)))
+    (c .before .before .from2 .given .0 .1 .1 .0) (c .before .before .from2 .given .0 .1 .1 .1 .0)
 chosen c = search character-inside
 
-plain : (c : tie.After-known-told4) → Inside (length (now (c .before .before .before .before .before .before .args .text))) (c .before .from3 .given .0 .0) (c .before .from3 .given .0 .1 .0)
+plain : (c : tie.After-known-told4) → Inside (length (now (c .before .before .before .before .before .before .args .text))) (c .before .from3 .given .0 .0)
+    (c .before .from3 .given .0 .1 .0)
 plain c = search dollar-inside
 
 sub-escape : tie.Need-sub-escape

@@ -27,7 +27,8 @@ gap-at-requires c κs = search needs
 add-past : tie.Need-add-past
 add-past c =
     let s = c .before .before .before .before .args in
-    let f = gap-inside (s .settings) (now (s .text)) (s .cursor .at) _ (c .before .before .plain-segment .ensures) (c .before .if1 .left) _ (c .gap-at .ensures) in
+    let f = gap-inside (s .settings) (now (s .text)) (s .cursor .at) _ (c .before .before .plain-segment .ensures) (c .before .if1 .left) _
+    (c .gap-at .ensures) in
     omega (arith, f)
 
 returns-2 : tie.Need-returns-2

@@ -46,7 +46,8 @@ returns-4 c = search needs
 add-result : tie.Need-add-result
 add-result c =
     let s = c .before .before .before .before .before .before .before .before .before .args in
-    let f = mark-inside (now (s .text)) (s .at + 1 + c .before .before .before .before .plain-run .result) _ (c .before .before .before .byte-at .ensures) (c .before .before .if3 .left) in omega (arith, f)
+    let f = mark-inside (now (s .text)) (s .at + 1 + c .before .before .before .before .plain-run .result) _ (c .before .before .before .byte-at .ensures)
+    (c .before .before .if3 .left) in omega (arith, f)
 
 returns-5 : tie.Need-returns-5
 returns-5 c = search plain-found

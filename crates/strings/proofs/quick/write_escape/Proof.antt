@@ -1,6 +1,6 @@
 -- `strings::quick::write_escape` meets its contract. The loop's invariant, `Writing`: what the units so far stand for is at the buffer's start, and the rest
 -- is as it was. The measure is what is left of the body. Assumes nothing.
-use mathlib.Core.Path.{_≡_, refl}
+use mathlib.Core.Path.{_≡_}
 use mathlib.Core.Bool.{_||_}
 use Prim.Native.Nat.{ℕ, _+_, _-_, _≤_, _<_}
 use borrow.Author.Needs.{needs}
@@ -28,34 +28,55 @@ abbrev μ-loop : tie.MeasureT-loop
 μ-loop body escape out₀ stops letters at₀ n₀ seen₀ out at n seen = length body - at
 
 -- in a turn over a piece: what it takes behind its first byte, by the family's stops; that this is there, and room for what it stands for
-more : (c : tie.After-turn-more Inv-loop μ-loop) → let s = c .before .before .before .before .before .before .before .before .before .before .before .before .args in
-    c .turn-more .result ≡ moreBy (c .before .unit-at .result) (span (freeOf (stopsOf Escape (now (s .escape)))) (drop (c .before .before .before .before .before .before .before .loop .at + 1) (now (s .body))))
+more : (c : tie.After-turn-more Inv-loop μ-loop)
+    → let s = c .before .before .before .before .before .before .before .before .before .before .before .before .args in
+    c .turn-more .result ≡ moreBy (c .before .unit-at .result)
+    (span (freeOf (stopsOf Escape (now (s .escape)))) (drop (c .before .before .before .before .before .before .before .loop .at + 1) (now (s .body))))
 more c =
     let s = c .before .before .before .before .before .before .before .before .before .before .before .before .args in
-    more-by (c .before .unit-at .result) (c .turn-more .result) (c .before .before .before .before .before .before .before .before .run-stops .result) (stopsOf Escape (now (s .escape))) (drop (c .before .before .before .before .before .before .before .loop .at + 1) (now (s .body))) (c .turn-more .ensures) (c .before .before .before .before .before .before .before .before .run-stops .ensures)
+    more-by (c .before .unit-at .result) (c .turn-more .result) (c .before .before .before .before .before .before .before .before .run-stops .result)
+    (stopsOf Escape (now (s .escape))) (drop (c .before .before .before .before .before .before .before .loop .at + 1) (now (s .body))) (c .turn-more .ensures)
+    (c .before .before .before .before .before .before .before .before .run-stops .ensures)
 
-inside : (c : tie.After-turn-more Inv-loop μ-loop) → c .before .before .before .before .before .before .before .loop .at < length (now (c .before .before .before .before .before .before .before .before .before .before .before .before .args .body))
+inside : (c : tie.After-turn-more Inv-loop μ-loop) → c .before .before .before .before .before .before .before .loop .at < length
+    (now (c .before .before .before .before .before .before .before .before .before .before .before .before .args .body))
 inside c = omega (arith, c .before .before .before .before .before .before .loop-test .taken)
 
-fits : (c : tie.After-turn-more Inv-loop μ-loop) → let s = c .before .before .before .before .before .before .before .before .before .before .before .before .args in let i = c .before .before .before .before .before .before .before .loop in let z = i .at + 1 + c .turn-more .result in
-    (z ≤ length (now (s .body))) × (i .n + length (bytesOf (c .before .unit-at .result) (take (z - i .at) (drop (i .at) (now (s .body)))) (now (s .escape))) ≤ length (i .out))
+fits : (c : tie.After-turn-more Inv-loop μ-loop)
+    → let s = c .before .before .before .before .before .before .before .before .before .before .before .before .args in
+    let i = c .before .before .before .before .before .before .before .loop in let z = i .at + 1 + c .turn-more .result in
+    (z ≤ length (now (s .body))) × (i .n + length
+    (bytesOf (c .before .unit-at .result) (take (z - i .at) (drop (i .at) (now (s .body)))) (now (s .escape))) ≤ length (i .out))
 fits c =
     let s = c .before .before .before .before .before .before .before .before .before .before .before .before .args in
-    written-fits Escape (now (s .escape)) (now (s .body)) _ (c .before .before .before .before .before .before .before .before .before .before .before .before .pre) (c .before .before .before .before .before .before .before .loop .inv) (inside c) _ (c .before .unit-at .ensures) _ (more c)
+    written-fits Escape (now (s .escape)) (now (s .body)) _
+    (c .before .before .before .before .before .before .before .before .before .before .before .before .pre)
+    (c .before .before .before .before .before .before .before .loop .inv) (inside c) _ (c .before .unit-at .ensures) _ (more c)
 
-put : (c : tie.After-put-piece Inv-loop μ-loop) → let s = c .before .before .before .before .before .before .before .before .before .before .before .before .before .before .before .args in let i = c .before .before .before .before .before .before .before .before .before .before .loop in let z = i .at + 1 + c .before .before .before .turn-more .result in
-    c .put-piece .result ≡ length (bytesOf (c .before .before .before .before .unit-at .result) (take (z - i .at) (drop (i .at) (now (s .body)))) (now (s .escape)))
+put : (c : tie.After-put-piece Inv-loop μ-loop)
+    → let s = c .before .before .before .before .before .before .before .before .before .before .before .before .before .before .before .args in
+    let i = c .before .before .before .before .before .before .before .before .before .before .loop in
+    let z = i .at + 1 + c .before .before .before .turn-more .result in
+    c .put-piece .result ≡ length (bytesOf (c .before .before .before .before .unit-at .result) (take (z - i .at) (drop (i .at) (now (s .body))))
+    (now (s .escape)))
 put c =
     let s = c .before .before .before .before .before .before .before .before .before .before .before .before .before .before .before .args in
-    written-answer Escape (now (s .escape)) (now (s .body)) _ (c .before .before .before .before .before .before .before .before .before .before .before .before .before .before .before .pre) (c .before .before .before .before .before .before .before .before .before .before .loop .inv) (inside (c .before .before .before)) _ (c .before .before .before .before .unit-at .ensures) _ (more (c .before .before .before)) _ _ (c .put-piece .ensures)
+    written-answer Escape (now (s .escape)) (now (s .body)) _
+    (c .before .before .before .before .before .before .before .before .before .before .before .before .before .before .before .pre)
+    (c .before .before .before .before .before .before .before .before .before .before .loop .inv) (inside (c .before .before .before)) _
+    (c .before .before .before .before .unit-at .ensures) _ (more (c .before .before .before)) _ _ (c .put-piece .ensures)
 
 -- where a unit that stands for one byte leads, if it takes k bytes behind its first
-short : (c : tie.Else1 Inv-loop μ-loop) → let s = c .before .before .before .before .before .before .before .before .before .before .args in let i = c .before .before .before .before .before .loop in let x = now (s .body) ! i .at in
-    (k : ℕ) → k ≡ (if eqb x 92 || eqb x 39 then 1 else 0) → Stores (now (s .body)) (now (s .out)) (i .out) (i .at) (i .n) (i .at + (1 + k)) (c .before .choose .result)
+short : (c : tie.Else1 Inv-loop μ-loop) → let s = c .before .before .before .before .before .before .before .before .before .before .args in
+    let i = c .before .before .before .before .before .loop in let x = now (s .body) ! i .at in
+    (k : ℕ) → k ≡ (if eqb x 92 || eqb x 39 then 1 else 0)
+    → Stores (now (s .body)) (now (s .out)) (i .out) (i .at) (i .n) (i .at + (1 + k)) (c .before .choose .result)
 short c k ek =
     let s = c .before .before .before .before .before .before .before .before .before .before .args in
-    short-written (now (s .escape)) (now (s .body)) (now (s .out)) (c .before .before .before .before .before .before .before .before .before .before .pre) (c .before .before .before .before .before .loop .inv) (c .before .before .before .before .loop-test .taken)
-    (omega (arith, c .before .before .before .shared-slice-known3 .given (c .before .before .before .before .before .loop .at + 1))) _ (c .before .choose .ensures) _ (c .if1 .left) k ek
+    short-written (now (s .escape)) (now (s .body)) (now (s .out)) (c .before .before .before .before .before .before .before .before .before .before .pre)
+    (c .before .before .before .before .before .loop .inv) (c .before .before .before .before .loop-test .taken)
+    (omega (arith, c .before .before .before .shared-slice-known3 .given (c .before .before .before .before .before .loop .at + 1))) _
+    (c .before .choose .ensures) _ (c .if1 .left) k ek
 
 run-stops-requires : tie.Need-run-stops-requires Inv-loop μ-loop
 run-stops-requires c κs = search needs
@@ -122,7 +143,15 @@ put-piece-requires c κs = c .before .before .before .unit-at .ensures .sound
 
 add-n : tie.Need-add-n Inv-loop μ-loop
 add-n c =
-    omega (arith, fits (c .before .before .before .before .before), put (c .before .before), c .before .before .before .before .before .before .before .before .before .before .before .before .loop .inv .same, c .before .before .before .before .before .before .before .before .before .before .before .before .before .before .before .before .before .good .1 .1 .0 .0)
+    omega (
+      arith,
+      fits (c .before .before .before .before .before),
+      put
+          (c .before .before),
+      c .before .before .before .before .before .before .before .before .before .before .before .before .loop .inv .same,
+      c .before .before .before .before .before .before .before .before .before .before .before .before .before .before .before .before .before
+          .good .1 .1 .0 .0,
+    )
 
 loop-less : tie.Need-loop-less Inv-loop μ-loop
 loop-less c = omega (arith, inside (c .before .before .before .before .before), fits (c .before .before .before .before .before))
@@ -130,7 +159,11 @@ loop-less c = omega (arith, inside (c .before .before .before .before .before), 
 loop-again : tie.Need-loop-again Inv-loop μ-loop
 loop-again c =
     let s = c .before .before .before .before .before .before .before .before .before .before .before .before .before .before .before .before .before .args in
-    written-turn Escape (now (s .escape)) (now (s .body)) _ (c .before .before .before .before .before .before .before .before .before .before .before .before .before .before .before .before .before .pre) (c .before .before .before .before .before .before .before .before .before .before .before .before .loop .inv) (inside (c .before .before .before .before .before)) _ (c .before .before .before .before .before .before .unit-at .ensures) _ (more (c .before .before .before .before .before)) _ _ (c .before .before .put-piece .ensures)
+    written-turn Escape (now (s .escape)) (now (s .body)) _
+    (c .before .before .before .before .before .before .before .before .before .before .before .before .before .before .before .before .before .pre)
+    (c .before .before .before .before .before .before .before .before .before .before .before .before .loop .inv)
+    (inside (c .before .before .before .before .before)) _ (c .before .before .before .before .before .before .unit-at .ensures) _
+    (more (c .before .before .before .before .before)) _ _ (c .before .before .put-piece .ensures)
 
 one-if-requires : tie.Need-one-if-requires Inv-loop μ-loop
 one-if-requires c κs = search needs
@@ -142,7 +175,13 @@ slice-write-out : tie.Need-slice-write-out Inv-loop μ-loop
 slice-write-out c = short (c .before) (c .one-if .result) (c .one-if .ensures) .room
 
 add-n-2 : tie.Need-add-n-2 Inv-loop μ-loop
-add-n-2 c = omega (arith, short (c .before) (c .one-if .result) (c .one-if .ensures) .room, c .before .before .before .before .before .before .loop .inv .same, c .before .before .before .before .before .before .before .before .before .before .before .good .1 .1 .0 .0)
+add-n-2 c = omega (
+  arith,
+  short (c .before) (c .one-if .result)
+      (c .one-if .ensures) .room,
+  c .before .before .before .before .before .before .loop .inv .same,
+  c .before .before .before .before .before .before .before .before .before .before .before .good .1 .1 .0 .0,
+)
 
 add-at : tie.Need-add-at Inv-loop μ-loop
 add-at c = omega (arith, short (c .before) (c .one-if .result) (c .one-if .ensures) .inside)
@@ -157,7 +196,12 @@ add-seen : tie.Need-add-seen Inv-loop μ-loop
 add-seen c = omega (arith, short (c .before) (c .one-if .result) (c .one-if .ensures) .brief)
 
 loop-less-2 : tie.Need-loop-less-2 Inv-loop μ-loop
-loop-less-2 c = omega (arith, short (c .before) (c .one-if .result) (c .one-if .ensures) .onward, short (c .before) (c .one-if .result) (c .one-if .ensures) .inside)
+loop-less-2 c = omega (
+  arith,
+  short (c .before) (c .one-if .result) (c .one-if .ensures) .onward,
+  short (c .before) (c .one-if .result)
+      (c .one-if .ensures) .inside,
+)
 
 loop-again-2 : tie.Need-loop-again-2 Inv-loop μ-loop
 loop-again-2 c = short (c .before) (c .one-if .result) (c .one-if .ensures) .next

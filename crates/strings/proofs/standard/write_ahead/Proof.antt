@@ -1,6 +1,6 @@
 -- `strings::standard::write_ahead` meets its contract. The loop's invariant, `Writing`: what the units so far stand for is at the buffer's start, and the rest
 -- is as it was. The measure is what is left of the body. Assumes nothing.
-use mathlib.Core.Path.{_≡_, sym, _∙_}
+use mathlib.Core.Path.{sym}
 use Prim.Native.Nat.{_+_, _-_, _≤_}
 use borrow.Author.Needs.{needs}
 use native.Mathlib.Omega.{arith}
@@ -20,28 +20,50 @@ abbrev μ-loop : tie.MeasureT-loop
 μ-loop body backslash out₀ quote stops letters at₀ n₀ out at n = length body - at
 
 -- eight bytes are there; and the buffer's part from n on
-eight-in : (c : tie.Then1 Inv-loop μ-loop) → c .before .before .before .loop .at + 8 ≤ length (now (c .before .before .before .before .before .before .before .before .args .body))
+eight-in : (c : tie.Then1 Inv-loop μ-loop) → c .before .before .before .loop .at + 8 ≤ length
+    (now (c .before .before .before .before .before .before .before .before .args .body))
 eight-in c = eight-inside _ _ _ (here-free (c .before .before .before .loop .at) _ _ (c .before .is-free-here .ensures) (c .if1 .taken))
 
 in-out : (c : tie.Then1 Inv-loop μ-loop) → c .before .before .before .loop .n ≤ length (c .before .before .before .loop .out)
 in-out c =
     let s = c .before .before .before .before .before .before .before .before .args in
-    within (s .mark) _ (c .before .before .before .before .before .mark-byte .ensures) (s .backslash) (now (s .body)) (now (s .out)) (c .before .before .before .before .before .before .before .before .pre) (c .before .before .before .loop .inv)
+    within (s .mark) _ (c .before .before .before .before .before .mark-byte .ensures) (s .backslash) (now (s .body)) (now (s .out))
+    (c .before .before .before .before .before .before .before .before .pre) (c .before .before .before .loop .inv)
 
 -- where a turn leads
-eight : (c : tie.After-put-bytes Inv-loop μ-loop) → let s = c .before .before .before .before .before .before .before .before .before .before .before .args in let i = c .before .before .before .before .before .before .loop in
-    Goes (standardStep (s .backslash) (c .before .before .before .before .before .before .before .before .mark-byte .result)) (now (s .body)) (now (s .out)) (i .out) (i .at) (i .n) (i .at + 8) (c .put-bytes .result) (c .put-bytes .last .1 .0)
+eight : (c : tie.After-put-bytes Inv-loop μ-loop)
+    → let s = c .before .before .before .before .before .before .before .before .before .before .before .args in
+    let i = c .before .before .before .before .before .before .loop in
+    Goes (standardStep (s .backslash) (c .before .before .before .before .before .before .before .before .mark-byte .result)) (now (s .body)) (now (s .out))
+    (i .out) (i .at) (i .n) (i .at + 8) (c .put-bytes .result) (c .put-bytes .last .1 .0)
 eight c =
     let s = c .before .before .before .before .before .before .before .before .before .before .before .args in
-    eight-written (s .mark) _ (c .before .before .before .before .before .before .before .before .mark-byte .ensures) (s .backslash) (now (s .body)) (now (s .out)) (c .before .before .before .before .before .before .before .before .before .before .before .pre) (c .before .before .before .before .before .before .loop .inv) (now (s .body)) _ (c .before .before .before .before .before .before .before .run-stops .ensures)
-    (here-free (c .before .before .before .before .before .before .loop .at) _ _ (c .before .before .before .before .is-free-here .ensures) (c .before .before .before .if1 .taken)) _ _ (c .put-bytes .ensures)
+    eight-written (s .mark) _ (c .before .before .before .before .before .before .before .before .mark-byte .ensures) (s .backslash) (now (s .body))
+    (now (s .out)) (c .before .before .before .before .before .before .before .before .before .before .before .pre)
+    (c .before .before .before .before .before .before .loop .inv) (now (s .body)) _
+    (c .before .before .before .before .before .before .before .run-stops .ensures)
+    (here-free (c .before .before .before .before .before .before .loop .at) _ _ (c .before .before .before .before .is-free-here .ensures)
+    (c .before .before .before .if1 .taken)) _ _ (c .put-bytes .ensures)
 
-pair : (c : tie.After-put-pair Inv-loop μ-loop) → let s = c .before .before .before .before .before .before .before .before .before .before .before .before .before .before .before .args in let i = c .before .before .before .before .before .before .before .before .before .before .loop in let u = c .before .before .before .before .standard-unit .result in
-    Goes (standardStep (s .backslash) (c .before .before .before .before .before .before .before .before .before .before .before .before .mark-byte .result)) (now (s .body)) (now (s .out)) (i .out) (i .at) (i .n) (i .at + (1 + u .more)) (c .put-pair .result) (c .put-pair .last .1 .1 .1 .0)
+pair : (c : tie.After-put-pair Inv-loop μ-loop)
+    → let s = c .before .before .before .before .before .before .before .before .before .before .before .before .before .before .before .args in
+    let i = c .before .before .before .before .before .before .before .before .before .before .loop in
+    let u = c .before .before .before .before .standard-unit .result in
+    Goes (standardStep (s .backslash) (c .before .before .before .before .before .before .before .before .before .before .before .before .mark-byte .result))
+    (now (s .body)) (now (s .out)) (i .out) (i .at) (i .n) (i .at + (1 + u .more)) (c .put-pair .result) (c .put-pair .last .1 .1 .1 .0)
 pair c =
     let s = c .before .before .before .before .before .before .before .before .before .before .before .before .before .before .before .args in
-    pair-written (s .mark) _ (c .before .before .before .before .before .before .before .before .before .before .before .before .mark-byte .ensures) (s .backslash) (now (s .body)) (now (s .out)) (c .before .before .before .before .before .before .before .before .before .before .before .before .before .before .before .pre) (c .before .before .before .before .before .before .before .before .before .before .loop .inv) _ (c .before .before .before .before .standard-unit .ensures)
-    (c .before .before .before .before .before .before .before .before .before .loop-test .taken) (c .before .before .before .if2 .left) (omega (arith, c .before .before .before .before .before .shared-slice-known3 .given (c .before .before .before .before .before .before .before .before .before .before .loop .at + 1))) _ (c .before .before .choose .ensures) _ _ (c .put-pair .ensures)
+    pair-written (s .mark) _ (c .before .before .before .before .before .before .before .before .before .before .before .before .mark-byte .ensures)
+    (s .backslash) (now (s .body)) (now (s .out))
+    (c .before .before .before .before .before .before .before .before .before .before .before .before .before .before .before .pre)
+    (c .before .before .before .before .before .before .before .before .before .before .loop .inv) _ (c .before .before .before .before .standard-unit .ensures)
+    (c .before .before .before .before .before .before .before .before .before .loop-test .taken) (c .before .before .before .if2 .left)
+    (omega (
+      arith,
+      c .before .before .before .before .before .shared-slice-known3 .given
+          (c .before .before .before .before .before .before .before .before .before .before .loop .at + 1),
+    )) _ (c .before .before .choose .ensures) _ _
+    (c .put-pair .ensures)
 
 mark-byte-requires : tie.Need-mark-byte-requires Inv-loop μ-loop
 mark-byte-requires c κs = search needs
@@ -83,7 +105,12 @@ put-bytes-requires : tie.Need-put-bytes-requires Inv-loop μ-loop
 put-bytes-requires c κs = search needs
 
 add-n : tie.Need-add-n Inv-loop μ-loop
-add-n c = omega (arith, eight (c .before .before) .room, c .before .before .before .before .before .before .before .before .loop .inv .same, c .before .before .before .before .before .before .before .before .before .before .before .before .before .good .1 .1 .1 .0 .0)
+add-n c = omega (
+  arith,
+  eight (c .before .before) .room,
+  c .before .before .before .before .before .before .before .before .loop .inv .same,
+  c .before .before .before .before .before .before .before .before .before .before .before .before .before .good .1 .1 .1 .0 .0,
+)
 
 add-at : tie.Need-add-at Inv-loop μ-loop
 add-at c = omega (arith, eight (c .before .before) .inside)
@@ -110,7 +137,8 @@ same-length : tie.Need-same-length Inv-loop μ-loop
 same-length c = c .before .before .before .before .before .before .before .loop .inv .same
 
 returns : tie.Need-returns Inv-loop μ-loop
-returns c = rw (sym (c .before .before .before .before .before .before .before .before .before .mark-byte .ensures)) (c .before .before .before .before .before .before .before .loop .inv)
+returns c = rw (sym (c .before .before .before .before .before .before .before .before .before .mark-byte .ensures))
+    (c .before .before .before .before .before .before .before .loop .inv)
 
 cast-choose : tie.Need-cast-choose Inv-loop μ-loop
 cast-choose c = omega (arith, c .before .before .shared-slice-known3 .given (c .before .before .before .before .before .before .before .loop .at + 1))
@@ -123,21 +151,42 @@ choose-requires c κs = search needs
 
 sub-put-pair : tie.Need-sub-put-pair Inv-loop μ-loop
 sub-put-pair c =
-    let s = c .before .before .before .before .before .before .before .before .before .before .before .before .before .args in within (s .mark) _ (c .before .before .before .before .before .before .before .before .before .before .mark-byte .ensures) (s .backslash) (now (s .body)) (now (s .out)) (c .before .before .before .before .before .before .before .before .before .before .before .before .before .pre) (c .before .before .before .before .before .before .before .before .loop .inv)
+    let s = c .before .before .before .before .before .before .before .before .before .before .before .before .before .args in within (s .mark) _
+    (c .before .before .before .before .before .before .before .before .before .before .mark-byte .ensures) (s .backslash) (now (s .body)) (now (s .out))
+    (c .before .before .before .before .before .before .before .before .before .before .before .before .before .pre)
+    (c .before .before .before .before .before .before .before .before .loop .inv)
 
 part-put-pair-start : tie.Need-part-put-pair-start Inv-loop μ-loop
 part-put-pair-start c =
-    omega (arith, let s = c .before .before .before .before .before .before .before .before .before .before .before .before .before .args in within (s .mark) _ (c .before .before .before .before .before .before .before .before .before .before .mark-byte .ensures) (s .backslash) (now (s .body)) (now (s .out)) (c .before .before .before .before .before .before .before .before .before .before .before .before .before .pre) (c .before .before .before .before .before .before .before .before .loop .inv))
+    omega (
+      arith,
+      let s = c .before .before .before .before .before .before .before .before .before .before .before .before .before .args in within (s .mark) _
+          (c .before .before .before .before .before .before .before .before .before .before .mark-byte .ensures) (s .backslash) (now (s .body)) (now (s .out))
+          (c .before .before .before .before .before .before .before .before .before .before .before .before .before .pre)
+          (c .before .before .before .before .before .before .before .before .loop .inv),
+    )
 
 part-put-pair-end : tie.Need-part-put-pair-end Inv-loop μ-loop
 part-put-pair-end c =
-    omega (arith, let s = c .before .before .before .before .before .before .before .before .before .before .before .before .before .args in within (s .mark) _ (c .before .before .before .before .before .before .before .before .before .before .mark-byte .ensures) (s .backslash) (now (s .body)) (now (s .out)) (c .before .before .before .before .before .before .before .before .before .before .before .before .before .pre) (c .before .before .before .before .before .before .before .before .loop .inv))
+    omega (
+      arith,
+      let s = c .before .before .before .before .before .before .before .before .before .before .before .before .before .args in within (s .mark) _
+          (c .before .before .before .before .before .before .before .before .before .before .mark-byte .ensures) (s .backslash) (now (s .body)) (now (s .out))
+          (c .before .before .before .before .before .before .before .before .before .before .before .before .before .pre)
+          (c .before .before .before .before .before .before .before .before .loop .inv),
+    )
 
 put-pair-requires : tie.Need-put-pair-requires Inv-loop μ-loop
 put-pair-requires c κs = search narrow
 
 add-n-2 : tie.Need-add-n-2 Inv-loop μ-loop
-add-n-2 c = omega (arith, pair (c .before .before) .room, c .before .before .before .before .before .before .before .before .before .before .before .before .loop .inv .same, c .before .before .before .before .before .before .before .before .before .before .before .before .before .before .before .before .before .good .1 .1 .1 .0 .0)
+add-n-2 c = omega (
+  arith,
+  pair (c .before .before) .room,
+  c .before .before .before .before .before .before .before .before .before .before .before .before .loop .inv .same,
+  c .before .before .before .before .before .before .before .before .before .before .before .before .before .before .before .before .before
+      .good .1 .1 .1 .0 .0,
+)
 
 add-at-2 : tie.Need-add-at-2 Inv-loop μ-loop
 add-at-2 c = omega (arith, pair (c .before .before .before) .inside)

@@ -25,27 +25,42 @@ abbrev μ-loop : tie.MeasureT-loop
 μ-loop body family escape out₀ stops at₀ n₀ out at n = length body - at
 
 -- there is room in what `write_front` leaves
-held : (c : tie.After-write-front Inv-loop μ-loop) → let s = c .before .before .before .before .before .before .args in Room (courseOf (s .family) (now (s .escape)) (now (s .body))) (length (c .write-front .last .1 .1 .1 .0))
-held c = let p = c .before .before .before .before .before .before .pre in record { goes = p .goes; fits = omega (arith, p .fits, c .write-front .ensures .same) }
+held : (c : tie.After-write-front Inv-loop μ-loop) → let s = c .before .before .before .before .before .before .args in Room
+    (courseOf (s .family) (now (s .escape)) (now (s .body))) (length (c .write-front .last .1 .1 .1 .0))
+held c = let p = c .before .before .before .before .before .before .pre in record
+    { goes = p .goes; fits = omega (arith, p .fits, c .write-front .ensures .same) }
 
 -- in a turn: what it takes behind its first byte, by the family's stops; that this is there, and room for what it stands for
-more : (c : tie.After-turn-more Inv-loop μ-loop) → let s = c .before .before .before .before .before .before .before .before .before .before .before .before .args in
-    c .turn-more .result ≡ moreBy (c .before .unit-at .result) (span (freeOf (stopsOf (s .family) (now (s .escape)))) (drop (c .before .before .before .loop .at + 1) (now (s .body))))
+more : (c : tie.After-turn-more Inv-loop μ-loop)
+    → let s = c .before .before .before .before .before .before .before .before .before .before .before .before .args in
+    c .turn-more .result ≡ moreBy (c .before .unit-at .result)
+    (span (freeOf (stopsOf (s .family) (now (s .escape)))) (drop (c .before .before .before .loop .at + 1) (now (s .body))))
 more c =
     let s = c .before .before .before .before .before .before .before .before .before .before .before .before .args in
-    more-by (c .before .unit-at .result) (c .turn-more .result) (c .before .before .before .before .before .before .before .before .run-stops .result) (stopsOf (s .family) (now (s .escape))) (drop (c .before .before .before .loop .at + 1) (now (s .body))) (c .turn-more .ensures) (c .before .before .before .before .before .before .before .before .run-stops .ensures)
+    more-by (c .before .unit-at .result) (c .turn-more .result) (c .before .before .before .before .before .before .before .before .run-stops .result)
+    (stopsOf (s .family) (now (s .escape))) (drop (c .before .before .before .loop .at + 1) (now (s .body))) (c .turn-more .ensures)
+    (c .before .before .before .before .before .before .before .before .run-stops .ensures)
 
-fits : (c : tie.After-turn-more Inv-loop μ-loop) → let s = c .before .before .before .before .before .before .before .before .before .before .before .before .args in let i = c .before .before .before .loop in let z = i .at + 1 + c .turn-more .result in
-    (z ≤ length (now (s .body))) × (i .n + length (bytesOf (c .before .unit-at .result) (take (z - i .at) (drop (i .at) (now (s .body)))) (now (s .escape))) ≤ length (i .out))
+fits : (c : tie.After-turn-more Inv-loop μ-loop)
+    → let s = c .before .before .before .before .before .before .before .before .before .before .before .before .args in
+    let i = c .before .before .before .loop in let z = i .at + 1 + c .turn-more .result in
+    (z ≤ length (now (s .body))) × (i .n + length
+    (bytesOf (c .before .unit-at .result) (take (z - i .at) (drop (i .at) (now (s .body)))) (now (s .escape))) ≤ length (i .out))
 fits c =
     let s = c .before .before .before .before .before .before .before .before .before .before .before .before .args in
-    written-fits (s .family) (now (s .escape)) (now (s .body)) _ (held (c .before .before .before .before .before .before)) (c .before .before .before .loop .inv) (c .before .before .loop-test .taken) _ (c .before .unit-at .ensures) _ (more c)
+    written-fits (s .family) (now (s .escape)) (now (s .body)) _ (held (c .before .before .before .before .before .before))
+    (c .before .before .before .loop .inv) (c .before .before .loop-test .taken) _ (c .before .unit-at .ensures) _ (more c)
 
-put : (c : tie.After-put-piece Inv-loop μ-loop) → let s = c .before .before .before .before .before .before .before .before .before .before .before .before .before .before .before .args in let i = c .before .before .before .before .before .before .loop in let z = i .at + 1 + c .before .before .before .turn-more .result in
-    c .put-piece .result ≡ length (bytesOf (c .before .before .before .before .unit-at .result) (take (z - i .at) (drop (i .at) (now (s .body)))) (now (s .escape)))
+put : (c : tie.After-put-piece Inv-loop μ-loop)
+    → let s = c .before .before .before .before .before .before .before .before .before .before .before .before .before .before .before .args in
+    let i = c .before .before .before .before .before .before .loop in let z = i .at + 1 + c .before .before .before .turn-more .result in
+    c .put-piece .result ≡ length (bytesOf (c .before .before .before .before .unit-at .result) (take (z - i .at) (drop (i .at) (now (s .body))))
+    (now (s .escape)))
 put c =
     let s = c .before .before .before .before .before .before .before .before .before .before .before .before .before .before .before .args in
-    written-answer (s .family) (now (s .escape)) (now (s .body)) _ (held (c .before .before .before .before .before .before .before .before .before)) (c .before .before .before .before .before .before .loop .inv) (c .before .before .before .before .before .loop-test .taken) _ (c .before .before .before .before .unit-at .ensures) _ (more (c .before .before .before)) _ _ (c .put-piece .ensures)
+    written-answer (s .family) (now (s .escape)) (now (s .body)) _ (held (c .before .before .before .before .before .before .before .before .before))
+    (c .before .before .before .before .before .before .loop .inv) (c .before .before .before .before .before .loop-test .taken) _
+    (c .before .before .before .before .unit-at .ensures) _ (more (c .before .before .before)) _ _ (c .put-piece .ensures)
 
 run-stops-requires : tie.Need-run-stops-requires Inv-loop μ-loop
 run-stops-requires c κs = search needs
@@ -95,7 +110,15 @@ put-piece-requires c κs = c .before .before .before .unit-at .ensures .sound
 add-n : tie.Need-add-n Inv-loop μ-loop
 add-n c =
     let out = c .before .before .before .before .before .before .before .before .before .before .before in
-    omega (arith, fits (c .before .before .before .before .before), put (c .before .before), c .before .before .before .before .before .before .before .before .loop .inv .same, out .write-front .ensures .same, out .before .before .before .before .before .before .good .1 .1 .1 .0 .0)
+    omega (
+      arith,
+      fits (c .before .before .before .before .before),
+      put
+          (c .before .before),
+      c .before .before .before .before .before .before .before .before .loop .inv .same,
+      out .write-front .ensures .same,
+      out .before .before .before .before .before .before .good .1 .1 .1 .0 .0,
+    )
 
 loop-less : tie.Need-loop-less Inv-loop μ-loop
 loop-less c = omega (arith, fits (c .before .before .before .before .before))
@@ -103,7 +126,11 @@ loop-less c = omega (arith, fits (c .before .before .before .before .before))
 loop-again : tie.Need-loop-again Inv-loop μ-loop
 loop-again c =
     let s = c .before .before .before .before .before .before .before .before .before .before .before .before .before .before .before .before .before .args in
-    written-turn (s .family) (now (s .escape)) (now (s .body)) _ (held (c .before .before .before .before .before .before .before .before .before .before .before)) (c .before .before .before .before .before .before .before .before .loop .inv) (c .before .before .before .before .before .before .before .loop-test .taken) _ (c .before .before .before .before .before .before .unit-at .ensures) _ (more (c .before .before .before .before .before)) _ _ (c .before .before .put-piece .ensures)
+    written-turn (s .family) (now (s .escape)) (now (s .body)) _
+    (held (c .before .before .before .before .before .before .before .before .before .before .before))
+    (c .before .before .before .before .before .before .before .before .loop .inv)
+    (c .before .before .before .before .before .before .before .loop-test .taken) _ (c .before .before .before .before .before .before .unit-at .ensures) _
+    (more (c .before .before .before .before .before)) _ _ (c .before .before .put-piece .ensures)
 
 same-length : tie.Need-same-length Inv-loop μ-loop
 same-length c = c .before .loop .inv .same ∙ c .before .before .before .before .write-front .ensures .same
@@ -112,8 +139,10 @@ returns : tie.Need-returns Inv-loop μ-loop
 returns c =
     let s = c .before .before .before .before .before .before .before .before .before .before .args in
     let w = c .before .before .before .before .write-front .ensures in
-    let r = written-end (s .family) (now (s .escape)) (now (s .body)) _ (held (c .before .before .before .before)) (c .before .loop .inv) (c .loop-test .left) in
-    back w _ (written-front (s .family) (now (s .escape)) (now (s .body)) (now (s .out)) (c .before .before .before .before .before .before .before .before .before .before .pre) w) _ _ r
+    let r = written-end (s .family) (now (s .escape)) (now (s .body)) _ (held (c .before .before .before .before)) (c .before .loop .inv)
+    (c .loop-test .left) in
+    back w _ (written-front (s .family) (now (s .escape)) (now (s .body)) (now (s .out))
+    (c .before .before .before .before .before .before .before .before .before .before .pre) w) _ _ r
 
 pub write-spec : {M : Type 1} → statement M
 write-spec =
