@@ -1,4 +1,4 @@
--- A pass over a standard body goes on by what two bytes tell, or past eight bytes that stand for themselves. Assumes nothing.
+-- A pass over a standard body goes on by what two bytes tell, or past a run of bytes that stand for themselves. Assumes nothing.
 use mathlib.Core.Path.{_≡_, refl, ap, sym, _∙_, subst}
 use mathlib.Core.Bool.{Bool, true, false, _&&_, and-true, false≢true}
 use mathlib.Core.List.{List, [], _∷_}
@@ -8,7 +8,7 @@ use borrow.Author.Tests.{ne-eqb}
 use lib.Dec.{eqb, ltb}
 use lib.ListN.{length, take, drop, length-drop}
 use lib.Seq.{drop-cons, getD-drop, length-take-le}
-use Rattle.meaning.specs.Bytes.{if_then_else_, _!_, ascii, has, backslash}
+use Rattle.meaning.specs.Bytes.{if_then_else_, _!_, ascii, has, span, backslash}
 use Rattle.meaning.specs.Chars.{fresh}
 use Rattle.meaning.specs.Walk.{Step, keep, give, stop}
 use Rattle.meaning.specs.Steps.{byteOf, mysqlTable, doubled, standardStep}
@@ -18,7 +18,7 @@ use Rattle.laws.proofs.StepBounds.{Steady}
 use Rattle.laws.proofs.Passes.{unit-taken, Measuring, measuring-none, measuring-turn}
 use Rattle.leaves.specs.declared.blocks.Stops.{Stops}
 use Rattle.leaves.specs.Blocks.{freeOf, passes}
-use Rattle.leaves.proofs.Scans.{passes-inside}
+use Rattle.leaves.proofs.Scans.{passes-inside, passes-span, span-passes}
 use Rattle.leaves.proofs.RunSteps.{KeepsAll}
 use Rattle.cutting.specs.declared.marks.Mark.{Mark}
 use Rattle.cutting.specs.Marks.{markOf}
@@ -100,21 +100,25 @@ module _ (m : Mark) (q : ℕ) (eq : q ≡ markOf m) (bs : Bool) (l : List ℕ) w
       let k = unit-taken s ok (pairAt at) (omega arith) (here at h) (t .goes) (at + (1 + unitAt at .more)) (ap (at +_) (t .takes)) in
       rw e (rw (t .kept) at k, t .long)
 
-  -- eight bytes none of which is one of the stops
+  -- a run of bytes none of which is one of the stops
   module _ (e : List ℕ) (st : Stops) (es : st ≡ stopsOf (Standard m bs) e) where
     keeps : KeepsAll (freeOf st) step
     keeps = rw (es, eq) (standard-keeps m bs e)
 
-    pub eight-taken : {at : ℕ} (s : SoFar step l at) → passes (freeOf st) 8 (drop at l) ≡ true → Taken s (take 8 (drop at l)) true (at + 8)
-    eight-taken {at} s h =
-        let i : 8 ≤ length (drop at l) = passes-inside (freeOf st) 8 (drop at l) h in
-        let room : at + 8 ≤ length l = omega (arith, length-drop at l, i) in
-        kept-taken s 8 (record { room = room; each = each room })
+    pub run-taken : {at : ℕ} (s : SoFar step l at) → at ≤ length l → (k : ℕ) → k ≡ span (freeOf st) (drop at l) → Taken s (take k (drop at l)) true (at + k)
+    run-taken {at} s i k ek =
+        let h : passes (freeOf st) k (drop at l) ≡ true = rw ek (span-passes (freeOf st) (drop at l)) in
+        let room : at + k ≤ length l = omega (arith, length-drop at l, passes-inside (freeOf st) k (drop at l) h) in
+        kept-taken s k (record { room = room; each = each h room })
       where
-        each : at + 8 ≤ length l → (j : ℕ) → j < 8 → step (drop (at + j) l) ≡ keep
-        each room j k =
-            let b : freeOf st (l ! (at + j)) ≡ true = ap (freeOf st) (sym (getD-drop at l j 0)) ∙ passes-each (freeOf st) 8 (drop at l) j h k in
+        each : passes (freeOf st) k (drop at l) ≡ true → at + k ≤ length l → (j : ℕ) → j < k → step (drop (at + j) l) ≡ keep
+        each h room j o =
+            let b : freeOf st (l ! (at + j)) ≡ true = ap (freeOf st) (sym (getD-drop at l j 0)) ∙ passes-each (freeOf st) k (drop at l) j h o in
             ap step (drop-cons l (at + j) 0 (omega arith)) ∙ keeps (l ! (at + j)) (drop (suc (at + j)) l) b
+
+    -- where eight bytes are free, the run is not empty
+    pub run-some : (at : ℕ) → passes (freeOf st) 8 (drop at l) ≡ true → (k : ℕ) → k ≡ span (freeOf st) (drop at l) → 8 ≤ k
+    run-some at h k ek = omega (arith, passes-span (freeOf st) 8 (drop at l) h)
 
   -- MEASURING
   module _ {at n : ℕ} {p : Bool} (v : Measuring step false l at n p fresh) where
@@ -125,12 +129,13 @@ module _ (m : Mark) (q : ℕ) (eq : q ≡ markOf m) (bs : Bool) (l : List ℕ) w
         measuring-turn v (stands (pairAt at) (l ! at)) (u .keep) (at + (1 + u .more)) (n + (1 + u .wide)) (p && u .keep) fresh (t .0)
         (ap (n +_) (t .1)) refl refl tt
 
-    pub eight-measured : (e : List ℕ) (st : Stops) → st ≡ stopsOf (Standard m bs) e → passes (freeOf st) 8 (drop at l) ≡ true
-        → Measuring step false l (at + 8) (n + 8) p fresh
-    eight-measured e st es h =
-        let i : 8 ≤ length (drop at l) = passes-inside (freeOf st) 8 (drop at l) h in
-        measuring-turn v (take 8 (drop at l)) true (at + 8) (n + 8) p fresh (eight-taken e st es (v .so-far) h) (ap (n +_) (length-take-le 8 (drop at l) i))
-        (and-true p) refl tt
+    pub run-measured : (e : List ℕ) (st : Stops) → st ≡ stopsOf (Standard m bs) e → (k : ℕ) → k ≡ span (freeOf st) (drop at l)
+        → Measuring step false l (at + k) (n + k) p fresh
+    run-measured e st es k ek =
+        let h : passes (freeOf st) k (drop at l) ≡ true = rw ek (span-passes (freeOf st) (drop at l)) in
+        let i : k ≤ length (drop at l) = passes-inside (freeOf st) k (drop at l) h in
+        measuring-turn v (take k (drop at l)) true (at + k) (n + k) p fresh (run-taken e st es (v .so-far) (v .so-far .inside) k ek)
+        (ap (n +_) (length-take-le k (drop at l) i)) (and-true p) refl tt
 
 -- by the family: a standard body, or nothing yet
 pub front-none : (f : Family) (e l : List ℕ) (r : Ahead) → r ≡ record { at = 0; n = 0; plain = true }

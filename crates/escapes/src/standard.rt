@@ -5,6 +5,7 @@ use crate::units::run_stops;
 use cutting::marks::Mark;
 use cutting::marks::mark_byte;
 use leaves::blocks::Stops;
+use leaves::blocks::free_run;
 use leaves::blocks::is_free_eight;
 use leaves::blocks::one_if;
 ghost use mathlib.Core.Path.{_≡_};
@@ -47,7 +48,8 @@ pub fn standard_unit(byte: u8, next: u8, quote: u8, backslash: bool) -> Standard
     }
 }
 
-// Whether eight bytes that stand for themselves begin here. It is looked for at every eighth place alone: where escapes are many, it is seldom so.
+// Whether eight bytes that stand for themselves begin here, and so a run of them that is worth taking at once. It is looked for at every eighth place alone:
+// where escapes are many, it is seldom so.
 // Rules out: the eight bytes at the body's start asked; other places looked at (must-fail: lone_mark_taken, wild_for_one_byte).
 pub fn is_free_here(body: &[u8], at: usize, stops: Stops) -> bool
     ensures { λ r. ⌜ r ≡ (eqb (at % 8) 0 && passes (freeOf stops) 8 (drop at (now (body .entry)))) ⌝ }
@@ -66,7 +68,7 @@ pub struct Ahead {
 }
 
 // Measures a standard body up to its last byte, or up to a mark that stands alone; whoever asks looks at what is left.
-// Rules out: a block counted as nine bytes (must-fail: nine_for_a_block).
+// Rules out: a run counted from behind its first byte (must-fail: run_behind_its_first).
 fn measure_ahead(body: &[u8], mark: Mark, backslash: bool) -> Ahead
     ensures { λ r. ⌜ Measuring (standardStep backslash (markOf mark)) false (now (body .entry)) (r .at) (r .n) (r .plain) fresh ⌝ }
 {
@@ -77,8 +79,9 @@ fn measure_ahead(body: &[u8], mark: Mark, backslash: bool) -> Ahead
     let mut plain = true;
     while 1 < body.len() - at {
         if is_free_here(body, at, stops) {
-            n += 8;
-            at += 8;
+            let run = free_run(body, at, stops);
+            n += run;
+            at += run;
         } else {
             let unit = standard_unit(body[at], body[at + 1], quote, backslash);
             if unit.refused {

@@ -28,11 +28,11 @@ letters =
     211 ∷ 212 ∷ 213 ∷ 214 ∷ 215 ∷ 216 ∷ 217 ∷ 218 ∷ 219 ∷ 220 ∷ 221 ∷ 222 ∷ 223 ∷ 224 ∷ 225 ∷ 226 ∷ 227 ∷ 228 ∷ 229 ∷ 230 ∷ 231 ∷ 232 ∷ 233 ∷ 234 ∷
     235 ∷ 236 ∷ 237 ∷ 238 ∷ 239 ∷ 240 ∷ 241 ∷ 242 ∷ 243 ∷ 244 ∷ 245 ∷ 246 ∷ 247 ∷ 248 ∷ 249 ∷ 250 ∷ 251 ∷ 252 ∷ 253 ∷ 254 ∷ 255 ∷ []
 
-abbrev pub every : (ℕ → Bool) → ℕ → Bool
+abbrev every : (ℕ → Bool) → ℕ → Bool
 every p zero = true
 every p (suc n) = p n && every p n
 
-pub every-at : (p : ℕ → Bool) (n c : ℕ) → every p n ≡ true → c < n → p c ≡ true
+every-at : (p : ℕ → Bool) (n c : ℕ) → every p n ≡ true → c < n → p c ≡ true
 every-at p zero c e h = absurd (omega arith)
 every-at p (suc n) c e h = go (eqb c n) refl (λ l. every-at p n c (and-right (p n) (every p n) e) l)
   where

@@ -2,8 +2,6 @@
 pub mod WriteTurns
 pub mod Letters
 pub mod WritePairs
-pub mod QuickLetters
-pub mod QuickWrites
 pub mod Expansions
 pub mod Ones
 pub mod Shorts

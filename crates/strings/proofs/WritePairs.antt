@@ -1,4 +1,4 @@
--- The writing pass over a standard body: by what two bytes tell, or past eight bytes that stand for themselves. Assumes nothing.
+-- The writing pass over a standard body: by what two bytes tell, or past a run of bytes that stand for themselves. Assumes nothing.
 use mathlib.Core.Path.{_≡_, refl, ap, sym, _∙_, subst}
 use mathlib.Core.Bool.{Bool, true, false, _&&_}
 use mathlib.Core.List.{List, [], _∷_, _++_}
@@ -7,16 +7,16 @@ use native.Mathlib.Omega.{arith}
 use lib.Dec.{eqb}
 use lib.ListN.{length, getD, take, drop, set, length-take, length-drop}
 use lib.Seq.{drop-at, drop-drop}
-use Rattle.meaning.specs.Bytes.{if_then_else_, _!_}
+use Rattle.meaning.specs.Bytes.{if_then_else_, _!_, span}
 use Rattle.meaning.specs.Walk.{Step, keep, give, stop, Trace, walk, value}
 use Rattle.meaning.specs.Steps.{standardStep}
 use Rattle.laws.proofs.Courses.{Taken, stands}
 use Rattle.laws.proofs.Passes.{Writing, Roomy, writing-within, taken-room, taken-turn}
 use Rattle.leaves.specs.declared.blocks.Stops.{Stops}
-use Rattle.leaves.specs.Blocks.{freeOf, passes}
+use Rattle.leaves.specs.Blocks.{freeOf}
 use Rattle.leaves.specs.Puts.{Puts}
 use Rattle.leaves.proofs.Putting.{puts-none, puts-sets, puts-room}
-use Rattle.leaves.proofs.Scans.{passes-inside}
+use Rattle.leaves.proofs.RunSteps.{span-length}
 use Rattle.cutting.specs.declared.marks.Mark.{Mark}
 use Rattle.cutting.specs.Marks.{markOf}
 use Rattle.escapes.specs.declared.units.Family.{Family}
@@ -24,7 +24,7 @@ use Rattle.escapes.specs.declared.units.Family.the-variants.{Standard}
 use Rattle.escapes.specs.declared.standard.StandardUnit.{StandardUnit}
 use Rattle.escapes.specs.Families.{stepOf, courseOf, stopsOf}
 use Rattle.escapes.specs.Standard.{unitBy}
-use Rattle.escapes.proofs.Pairs.{pairAt, unitAt, pair-taken, eight-taken}
+use Rattle.escapes.proofs.Pairs.{pairAt, unitAt, pair-taken, run-taken}
 use Rattle.strings.specs.declared.standard.Front.{Front}
 use Rattle.strings.specs.Rooms.{Room, Written, twoBy}
 use Rattle.strings.proofs.Letters.{letters, pair-stands}
@@ -110,17 +110,18 @@ module _ (m : Mark) (q : ℕ) (eq : q ≡ markOf m) (bs : Bool) (l d : List ℕ)
         next = turn w room′ y (u .keep) (at + (1 + u .more)) f r last p;
       }
 
-  pub eight-written : (e : List ℕ) (st : Stops) → st ≡ stopsOf (Standard m bs) e → passes (freeOf st) 8 (drop at l) ≡ true → (r : ℕ) (last : List ℕ)
-      → Puts (take (at + 8 - at) (drop at l)) (take (length out - n) (drop n out)) r last → Goes (standardStep bs q) l d out at n (at + 8) r last
-  eight-written e st es h r last p =
-      let z : 8 ≡ at + 8 - at = omega arith in
-      let f = subst (λ (k : ℕ). Taken (w .so-far) (take k (drop at l)) true (at + 8)) z (eight-taken m q eq bs l e st es (w .so-far) h) in
-      let v = take (at + 8 - at) (drop at l) in
-      let c = counts w room′ v true (at + 8) f r last p in
-      record { inside = f .next .inside; room = omega (arith, c, fits w room′ v true (at + 8) f); next = turn w room′ v true (at + 8) f r last p }
+  pub run-written : (e : List ℕ) (st : Stops) → st ≡ stopsOf (Standard m bs) e → (k : ℕ) → k ≡ span (freeOf st) (drop at l) → (r : ℕ) (last : List ℕ)
+      → Puts (take (at + k - at) (drop at l)) (take (length out - n) (drop n out)) r last → Goes (standardStep bs q) l d out at n (at + k) r last
+  run-written e st es k ek r last p =
+      let z : k ≡ at + k - at = omega arith in
+      let f =
+      subst (λ (j : ℕ). Taken (w .so-far) (take j (drop at l)) true (at + k)) z (run-taken m q eq bs l e st es (w .so-far) (w .so-far .inside) k ek) in
+      let v = take (at + k - at) (drop at l) in
+      let c = counts w room′ v true (at + k) f r last p in
+      record { inside = f .next .inside; room = omega (arith, c, fits w room′ v true (at + k) f); next = turn w room′ v true (at + k) f r last p }
 
-pub eight-inside : (p : ℕ → Bool) (l : List ℕ) (at : ℕ) → passes p 8 (drop at l) ≡ true → at + 8 ≤ length l
-eight-inside p l at h = omega (arith, length-drop at l, passes-inside p 8 (drop at l) h)
+pub run-inside : (p : ℕ → Bool) (l : List ℕ) (at : ℕ) → at ≤ length l → (k : ℕ) → k ≡ span p (drop at l) → at + k ≤ length l
+run-inside p l at h k e = omega (arith, length-drop at l, span-length p (drop at l))
 
 -- FROM A BUFFER that a pass has begun to write: the pass goes on over it, and what it ends with is of the buffer before
 pub again : {step : List ℕ → Step} {l d out : List ℕ} {at n : ℕ} → Writing step l d out at n → Writing step l out out at n

@@ -1,5 +1,5 @@
 // A body's value by one pass, for a body so short that its value fits a small buffer of the caller's own: what cannot be read so is left to the two passes.
-use crate::putting::put_piece;
+use crate::writing::put_piece;
 use escapes::pieces::Piece;
 use escapes::pieces::turn_more;
 use escapes::units::Family;

@@ -7,7 +7,5 @@ pub mod ident;
 pub mod joined;
 pub mod one;
 mod plain;
-mod putting;
-mod quick;
 mod standard;
 mod writing;

@@ -1,10 +1,11 @@
-// [01 One segment, Standard] Writes a standard body by what two bytes tell, or eight bytes at once, without a branch for what stands there.
+// [01 One segment, Standard] Writes a standard body by what two bytes tell, or a run of bytes at once, without a branch for what stands there.
 use cutting::marks::Mark;
 use cutting::marks::mark_byte;
 use escapes::standard::is_free_here;
 use escapes::standard::standard_unit;
 use escapes::units::Family;
 use escapes::units::run_stops;
+use leaves::blocks::free_run;
 use leaves::puts::put_bytes;
 ghost use mathlib.Core.Path.{_≡_};
 ghost use Prim.Native.Nat.{_≤_};
@@ -15,6 +16,7 @@ ghost use Rattle.meaning.specs.Steps.{standardStep};
 ghost use Rattle.laws.proofs.Passes.{Writing};
 ghost use Rattle.leaves.specs.Puts.{Puts};
 ghost use Rattle.cutting.specs.Marks.{markOf};
+ghost use Rattle.escapes.specs.Families.{stepOf, courseOf};
 ghost use Rattle.strings.specs.Rooms.{Room, twoBy};
 
 // How far a body is written: up to a place, so many bytes.
@@ -284,7 +286,7 @@ const LETTERS: [u8; 256] = [
 ];
 
 // One of two bytes.
-pub(crate) fn choose(test: bool, yes: u8, no: u8) -> u8
+fn choose(test: bool, yes: u8, no: u8) -> u8
     ensures { λ r. ⌜ r ≡ (if test then yes else no) ⌝ }
 {
     if test { yes } else { no }
@@ -305,7 +307,7 @@ fn put_pair(wide: usize, first: u8, last: u8, out: &mut [u8]) -> usize
 }
 
 // Writes a standard body, for which there is room, up to its last byte; whoever asks writes what is left.
-pub(crate) fn write_ahead(body: &[u8], mark: Mark, backslash: bool, out: &mut [u8]) -> Front
+fn write_ahead(body: &[u8], mark: Mark, backslash: bool, out: &mut [u8]) -> Front
     requires { ⌜ Room (walk (standardStep backslash (markOf mark)) 0 (now body)) (length (now out)) ⌝ }
     ensures { λ r. ⌜ Writing (standardStep backslash (markOf mark)) (now (body .entry)) (now (out .entry)) (now (out .exit)) (r .at) (r .n) ⌝ }
 {
@@ -316,8 +318,9 @@ pub(crate) fn write_ahead(body: &[u8], mark: Mark, backslash: bool, out: &mut [u
     let mut n: usize = 0;
     while 1 < body.len() - at {
         if is_free_here(body, at, stops) {
-            n += put_bytes(&body[at..at + 8], &mut out[n..]);
-            at += 8;
+            let end = at + free_run(body, at, stops);
+            n += put_bytes(&body[at..end], &mut out[n..]);
+            at = end;
         } else {
             let byte = body[at];
             let next = body[at + 1];
@@ -331,4 +334,16 @@ pub(crate) fn write_ahead(body: &[u8], mark: Mark, backslash: bool, out: &mut [u
         }
     }
     Front { at, n }
+}
+
+// Writes the front of a body of a family before its units are written one by one: a standard body nearly to its end, any other not at all.
+pub(crate) fn write_front(body: &[u8], family: Family, escape: &[u8], out: &mut [u8]) -> Front
+    requires { ⌜ Room (courseOf family (now escape) (now body)) (length (now out)) ⌝ }
+    ensures { λ r. ⌜ Writing (stepOf family (now (escape .entry))) (now (body .entry)) (now (out .entry)) (now (out .exit)) (r .at) (r .n) ⌝ }
+{
+    match family {
+        Family::Standard { mark, backslash } => write_ahead(body, mark, backslash, out),
+        Family::Escape => Front { at: 0, n: 0 },
+        Family::Unicode { mark: _ } => Front { at: 0, n: 0 },
+    }
 }

@@ -2,7 +2,7 @@
 -- the body. Assumes nothing.
 use mathlib.Core.Path.{sym}
 use mathlib.Core.Bool.{false, _&&_}
-use Prim.Native.Nat.{_+_, _-_}
+use Prim.Native.Nat.{_+_, _-_, _≤_}
 use borrow.Author.Needs.{needs}
 use native.Mathlib.Omega.{arith}
 use denote.Ref.{now}
@@ -10,7 +10,7 @@ use lib.ListN.{length}
 use Rattle.meaning.specs.Chars.{fresh}
 use Rattle.meaning.specs.Steps.{standardStep}
 use Rattle.laws.proofs.Passes.{Measuring, measuring-none}
-use Rattle.escapes.proofs.Pairs.{pair-measured, eight-measured, here-free}
+use Rattle.escapes.proofs.Pairs.{pair-measured, run-measured, run-some, here-free}
 use Rattle.escapes.proofs.standard.measure_ahead.Statement.{statement}
 use Rattle.escapes.proofs.standard.measure_ahead.Tie as tie
 
@@ -20,16 +20,20 @@ Inv-loop body backslash quote stops at₀ n₀ plain₀ at n plain = Measuring (
 abbrev μ-loop : tie.MeasureT-loop
 μ-loop body backslash quote stops at₀ n₀ plain₀ at n plain = length body - at
 
--- past eight bytes: where that leads
-eight : (c : tie.Then1 Inv-loop μ-loop) → let i = c .before .before .before .loop in
-    Measuring (standardStep (c .before .before .before .before .before .before .before .args .backslash)
-    (c .before .before .before .before .before .mark-byte .result)) false (now (c .before .before .before .before .before .before .before .args .body))
-    (i .at + 8) (i .n + 8) (i .plain) fresh
-eight c =
-    let s = c .before .before .before .before .before .before .before .args in
-    eight-measured (s .mark) _ (c .before .before .before .before .before .mark-byte .ensures) (s .backslash) (now (s .body))
-    (c .before .before .before .loop .inv) (now (s .body)) _ (c .before .before .before .before .run-stops .ensures)
-    (here-free (c .before .before .before .loop .at) _ _ (c .before .is-free-here .ensures) (c .if1 .taken))
+-- past a run: where that leads; and that it is not empty
+run : (c : tie.After-free-run Inv-loop μ-loop) → let i = c .before .before .before .before .loop in
+    Measuring (standardStep (c .before .before .before .before .before .before .before .before .args .backslash) (c .before .before .before .before .before .before .mark-byte .result)) false
+    (now (c .before .before .before .before .before .before .before .before .args .body)) (i .at + c .free-run .result) (i .n + c .free-run .result) (i .plain) fresh
+run c =
+    let s = c .before .before .before .before .before .before .before .before .args in
+    run-measured (s .mark) _ (c .before .before .before .before .before .before .mark-byte .ensures) (s .backslash) (now (s .body))
+    (c .before .before .before .before .loop .inv) (now (s .body)) _ (c .before .before .before .before .before .run-stops .ensures) _ (c .free-run .ensures)
+
+some : (c : tie.After-free-run Inv-loop μ-loop) → 8 ≤ c .free-run .result
+some c =
+    let s = c .before .before .before .before .before .before .before .before .args in
+    run-some (s .mark) _ (c .before .before .before .before .before .before .mark-byte .ensures) (s .backslash) (now (s .body)) (now (s .body)) _ (c .before .before .before .before .before .run-stops .ensures) (c .before .before .before .before .loop .at)
+    (here-free (c .before .before .before .before .loop .at) _ _ (c .before .before .is-free-here .ensures) (c .before .if1 .taken)) _ (c .free-run .ensures)
 
 -- past a unit: where that leads
 pair : (c : tie.After-struct-known2 Inv-loop μ-loop)
@@ -60,17 +64,20 @@ sub-loop c = c .loop .inv .so-far .inside
 is-free-here-requires : tie.Need-is-free-here-requires Inv-loop μ-loop
 is-free-here-requires c κs = search needs
 
+free-run-requires : tie.Need-free-run-requires Inv-loop μ-loop
+free-run-requires c κs = search needs
+
 add-n : tie.Need-add-n Inv-loop μ-loop
-add-n c = omega (arith, eight c .short, eight c .so-far .inside)
+add-n c = omega (arith, run c .short, run c .so-far .inside)
 
 add-at : tie.Need-add-at Inv-loop μ-loop
-add-at c = omega (arith, eight c .so-far .inside)
+add-at c = omega (arith, run c .so-far .inside)
 
 loop-less : tie.Need-loop-less Inv-loop μ-loop
-loop-less c = omega (arith, eight c .so-far .inside)
+loop-less c = omega (arith, run c .so-far .inside, some c)
 
 loop-again : tie.Need-loop-again Inv-loop μ-loop
-loop-again c = eight c
+loop-again c = run c
 
 shared-slice-read-standard-unit : tie.Need-shared-slice-read-standard-unit Inv-loop μ-loop
 shared-slice-read-standard-unit c = omega (arith, c .before .before .before .loop-test .taken)
@@ -120,6 +127,7 @@ measure-ahead-spec =
     loop-holds
     sub-loop
     is-free-here-requires
+    free-run-requires
     add-n
     add-at
     loop-less

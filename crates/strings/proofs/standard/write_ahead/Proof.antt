@@ -8,8 +8,8 @@ use denote.Ref.{now}
 use lib.ListN.{length}
 use Rattle.meaning.specs.Steps.{standardStep}
 use Rattle.laws.proofs.Passes.{Writing, writing-none}
-use Rattle.escapes.proofs.Pairs.{here-free}
-use Rattle.strings.proofs.WritePairs.{Goes, narrow, within, eight-inside, pair-written, eight-written}
+use Rattle.escapes.proofs.Pairs.{run-some, here-free}
+use Rattle.strings.proofs.WritePairs.{Goes, narrow, within, run-inside, pair-written, run-written}
 use Rattle.strings.proofs.standard.write_ahead.Statement.{statement}
 use Rattle.strings.proofs.standard.write_ahead.Tie as tie
 
@@ -19,31 +19,35 @@ Inv-loop body backslash out₀ quote stops letters at₀ n₀ out at n = Writing
 abbrev μ-loop : tie.MeasureT-loop
 μ-loop body backslash out₀ quote stops letters at₀ n₀ out at n = length body - at
 
--- eight bytes are there; and the buffer's part from n on
-eight-in : (c : tie.Then1 Inv-loop μ-loop) → c .before .before .before .loop .at + 8 ≤ length
-    (now (c .before .before .before .before .before .before .before .before .args .body))
-eight-in c = eight-inside _ _ _ (here-free (c .before .before .before .loop .at) _ _ (c .before .is-free-here .ensures) (c .if1 .taken))
+-- a run is there, and not empty; and the buffer's part from n on
+run-in : (c : tie.After-free-run Inv-loop μ-loop)
+    → c .before .before .before .before .loop .at + c .free-run .result ≤ length (now (c .before .before .before .before .before .before .before .before .before .args .body))
+run-in c = run-inside _ _ _ (c .before .before .before .before .loop .inv .so-far .inside) _ (c .free-run .ensures)
 
-in-out : (c : tie.Then1 Inv-loop μ-loop) → c .before .before .before .loop .n ≤ length (c .before .before .before .loop .out)
+some : (c : tie.After-free-run Inv-loop μ-loop) → 8 ≤ c .free-run .result
+some c =
+    let s = c .before .before .before .before .before .before .before .before .before .args in
+    run-some (s .mark) _ (c .before .before .before .before .before .before .mark-byte .ensures) (s .backslash) (now (s .body)) (now (s .body)) _ (c .before .before .before .before .before .run-stops .ensures) (c .before .before .before .before .loop .at)
+    (here-free (c .before .before .before .before .loop .at) _ _ (c .before .before .is-free-here .ensures) (c .before .if1 .taken)) _ (c .free-run .ensures)
+
+in-out : (c : tie.After-free-run Inv-loop μ-loop) → c .before .before .before .before .loop .n ≤ length (c .before .before .before .before .loop .out)
 in-out c =
-    let s = c .before .before .before .before .before .before .before .before .args in
-    within (s .mark) _ (c .before .before .before .before .before .mark-byte .ensures) (s .backslash) (now (s .body)) (now (s .out))
-    (c .before .before .before .before .before .before .before .before .pre) (c .before .before .before .loop .inv)
+    let s = c .before .before .before .before .before .before .before .before .before .args in
+    within (s .mark) _ (c .before .before .before .before .before .before .mark-byte .ensures) (s .backslash) (now (s .body)) (now (s .out))
+    (c .before .before .before .before .before .before .before .before .before .pre) (c .before .before .before .before .loop .inv)
 
 -- where a turn leads
-eight : (c : tie.After-put-bytes Inv-loop μ-loop)
-    → let s = c .before .before .before .before .before .before .before .before .before .before .before .args in
-    let i = c .before .before .before .before .before .before .loop in
-    Goes (standardStep (s .backslash) (c .before .before .before .before .before .before .before .before .mark-byte .result)) (now (s .body)) (now (s .out))
-    (i .out) (i .at) (i .n) (i .at + 8) (c .put-bytes .result) (c .put-bytes .last .1 .0)
-eight c =
-    let s = c .before .before .before .before .before .before .before .before .before .before .before .args in
-    eight-written (s .mark) _ (c .before .before .before .before .before .before .before .before .mark-byte .ensures) (s .backslash) (now (s .body))
-    (now (s .out)) (c .before .before .before .before .before .before .before .before .before .before .before .pre)
-    (c .before .before .before .before .before .before .loop .inv) (now (s .body)) _
-    (c .before .before .before .before .before .before .before .run-stops .ensures)
-    (here-free (c .before .before .before .before .before .before .loop .at) _ _ (c .before .before .before .before .is-free-here .ensures)
-    (c .before .before .before .if1 .taken)) _ _ (c .put-bytes .ensures)
+run : (c : tie.After-put-bytes Inv-loop μ-loop)
+    → let s = c .before .before .before .before .before .before .before .before .before .before .before .before .args in let i = c .before .before .before .before .before .before .before .loop in
+    let k = c .before .before .before .free-run .result in
+    Goes (standardStep (s .backslash) (c .before .before .before .before .before .before .before .before .before .mark-byte .result)) (now (s .body)) (now (s .out))
+    (i .out) (i .at) (i .n) (i .at + k) (c .put-bytes .result) (c .put-bytes .last .1 .0)
+run c =
+    let s = c .before .before .before .before .before .before .before .before .before .before .before .before .args in
+    run-written (s .mark) _ (c .before .before .before .before .before .before .before .before .before .mark-byte .ensures) (s .backslash) (now (s .body))
+    (now (s .out)) (c .before .before .before .before .before .before .before .before .before .before .before .before .pre)
+    (c .before .before .before .before .before .before .before .loop .inv) (now (s .body)) _
+    (c .before .before .before .before .before .before .before .before .run-stops .ensures) _ (c .before .before .before .free-run .ensures) _ _ (c .put-bytes .ensures)
 
 pair : (c : tie.After-put-pair Inv-loop μ-loop)
     → let s = c .before .before .before .before .before .before .before .before .before .before .before .before .before .before .before .args in
@@ -80,17 +84,20 @@ sub-loop c = c .loop .inv .so-far .inside
 is-free-here-requires : tie.Need-is-free-here-requires Inv-loop μ-loop
 is-free-here-requires c κs = search needs
 
-add-put-bytes : tie.Need-add-put-bytes Inv-loop μ-loop
-add-put-bytes c = omega (arith, eight-in c)
+free-run-requires : tie.Need-free-run-requires Inv-loop μ-loop
+free-run-requires c κs = search needs
+
+add-end : tie.Need-add-end Inv-loop μ-loop
+add-end c = omega (arith, run-in c)
 
 sub-put-bytes : tie.Need-sub-put-bytes Inv-loop μ-loop
 sub-put-bytes c = omega arith
 
 part-put-bytes-start : tie.Need-part-put-bytes-start Inv-loop μ-loop
-part-put-bytes-start c = omega (arith, eight-in c)
+part-put-bytes-start c = omega (arith, run-in c)
 
 part-put-bytes-end : tie.Need-part-put-bytes-end Inv-loop μ-loop
-part-put-bytes-end c = omega (arith, eight-in c)
+part-put-bytes-end c = omega (arith, run-in c)
 
 sub-put-bytes-2 : tie.Need-sub-put-bytes-2 Inv-loop μ-loop
 sub-put-bytes-2 c = in-out (c .before)
@@ -105,21 +112,15 @@ put-bytes-requires : tie.Need-put-bytes-requires Inv-loop μ-loop
 put-bytes-requires c κs = search needs
 
 add-n : tie.Need-add-n Inv-loop μ-loop
-add-n c = omega (
-  arith,
-  eight (c .before .before) .room,
-  c .before .before .before .before .before .before .before .before .loop .inv .same,
-  c .before .before .before .before .before .before .before .before .before .before .before .before .before .good .1 .1 .1 .0 .0,
-)
-
-add-at : tie.Need-add-at Inv-loop μ-loop
-add-at c = omega (arith, eight (c .before .before) .inside)
+add-n c =
+    let u = c .before .before .before .before .before .before .before .before .before .before .before .before .before .before in
+    omega (arith, run (c .before .before) .room, c .before .before .before .before .before .before .before .before .before .loop .inv .same, u .good .1 .1 .1 .0 .0)
 
 loop-less : tie.Need-loop-less Inv-loop μ-loop
-loop-less c = omega (arith, eight (c .before .before) .inside)
+loop-less c = omega (arith, run (c .before .before) .inside, some (c .before .before .before .before .before))
 
 loop-again : tie.Need-loop-again Inv-loop μ-loop
-loop-again c = eight (c .before .before) .next
+loop-again c = run (c .before .before) .next
 
 shared-slice-read-byte : tie.Need-shared-slice-read-byte Inv-loop μ-loop
 shared-slice-read-byte c = omega (arith, c .before .before .before .loop-test .taken)
@@ -180,19 +181,13 @@ put-pair-requires : tie.Need-put-pair-requires Inv-loop μ-loop
 put-pair-requires c κs = search narrow
 
 add-n-2 : tie.Need-add-n-2 Inv-loop μ-loop
-add-n-2 c = omega (
-  arith,
-  pair (c .before .before) .room,
-  c .before .before .before .before .before .before .before .before .before .before .before .before .loop .inv .same,
-  c .before .before .before .before .before .before .before .before .before .before .before .before .before .before .before .before .before
-      .good .1 .1 .1 .0 .0,
-)
+add-n-2 c = omega (arith, pair (c .before .before) .room, c .before .before .before .before .before .before .before .before .before .before .before .before .loop .inv .same, c .before .before .before .before .before .before .before .before .before .before .before .before .before .before .before .before .before .good .1 .1 .1 .0 .0)
+
+add-at : tie.Need-add-at Inv-loop μ-loop
+add-at c = omega (arith, pair (c .before .before .before) .inside)
 
 add-at-2 : tie.Need-add-at-2 Inv-loop μ-loop
 add-at-2 c = omega (arith, pair (c .before .before .before) .inside)
-
-add-at-3 : tie.Need-add-at-3 Inv-loop μ-loop
-add-at-3 c = omega (arith, pair (c .before .before .before) .inside)
 
 loop-less-2 : tie.Need-loop-less-2 Inv-loop μ-loop
 loop-less-2 c = omega (arith, pair (c .before .before .before) .inside)
@@ -217,7 +212,8 @@ write-ahead-spec =
     loop-holds
     sub-loop
     is-free-here-requires
-    add-put-bytes
+    free-run-requires
+    add-end
     sub-put-bytes
     part-put-bytes-start
     part-put-bytes-end
@@ -226,7 +222,6 @@ write-ahead-spec =
     part-put-bytes-end-2
     put-bytes-requires
     add-n
-    add-at
     loop-less
     loop-again
     shared-slice-read-byte
@@ -243,8 +238,8 @@ write-ahead-spec =
     part-put-pair-end
     put-pair-requires
     add-n-2
+    add-at
     add-at-2
-    add-at-3
     loop-less-2
     loop-again-2
     same-length-2

@@ -1,9 +1,9 @@
--- `strings::putting::put_piece` meets its contract: in each arm the piece is known, and a leaf puts its bytes. Assumes nothing.
+-- `strings::writing::put_piece` meets its contract: in each arm the piece is known, and a leaf puts its bytes. Assumes nothing.
 use Rattle.leaves.proofs.Putting.{puts-nothing}
 use Rattle.escapes.proofs.Encodings.{puts-encoded}
 use borrow.Author.Needs.{needs}
-use Rattle.strings.proofs.putting.put_piece.Statement.{statement}
-use Rattle.strings.proofs.putting.put_piece.Tie as tie
+use Rattle.strings.proofs.writing.put_piece.Statement.{statement}
+use Rattle.strings.proofs.writing.put_piece.Tie as tie
 
 enum-told : tie.Need-enum-told
 enum-told c = search needs
@@ -62,8 +62,7 @@ same-length-4 c = search needs
 returns-4 : tie.Need-returns-4
 returns-4 c =
     rw (c .before .before .before .before .before .piece3 .given .1)
-    (puts-encoded _ _ _ _ (rw (c .before .before .before .before .before .piece3 .given .1)
-    at (c .before .before .before .before .before .before .before .before .before .before .pre)) (c .before .before .encode-utf8 .ensures))
+    (puts-encoded _ _ _ _ (rw (c .before .before .before .before .before .piece3 .given .1) at (c .before .before .before .before .before .before .before .before .before .before .pre)) (c .before .before .encode-utf8 .ensures))
 
 same-length-5 : tie.Need-same-length-5
 same-length-5 c = search needs

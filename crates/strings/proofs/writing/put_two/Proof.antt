@@ -1,9 +1,9 @@
--- `strings::putting::put_two` meets its contract. Assumes nothing.
+-- `strings::writing::put_two` meets its contract. Assumes nothing.
 use mathlib.Core.List.{[], _∷_}
 use Rattle.leaves.proofs.Putting.{puts-none, puts-sets}
 use borrow.Author.Needs.{needs}
-use Rattle.strings.proofs.putting.put_two.Statement.{statement}
-use Rattle.strings.proofs.putting.put_two.Tie as tie
+use Rattle.strings.proofs.writing.put_two.Statement.{statement}
+use Rattle.strings.proofs.writing.put_two.Tie as tie
 
 returns : tie.Need-returns
 returns c = puts-none _ _ (c .if1 .taken)
