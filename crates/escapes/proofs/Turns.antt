@@ -86,9 +86,9 @@ keeps-all (Unicode m) (x ∷ e) b t h c u f = rw (not-mark (markOf m) x c f, eqb
 -- A PIECE and its step
 pub goes-by : (e : List ℕ) (p : Piece) → (p ≡ Piece′.Refused → ⊥) → Goes (meaningOf e p)
 goes-by e Piece′.Keep n = tt
-goes-by e (Piece′.Byte m b) n = tt
-goes-by e (Piece′.Two m b c) n = tt
-goes-by e (Piece′.Scalar m c) n = tt
+goes-by e (Piece′.Byte b m) n = tt
+goes-by e (Piece′.Two b c m) n = tt
+goes-by e (Piece′.Scalar c m) n = tt
 goes-by e (Piece′.Escape m) n = tt
 goes-by e Piece′.Refused n = n refl
 
@@ -117,9 +117,9 @@ module _ (f : Family) (e l : List ℕ) {at : ℕ} (s : SoFar (stepOf f e) l at) 
       let b : suc k ≡ z - at = omega arith in
       subst (λ (n : ℕ). Taken s (take n (drop at l)) true z) b
       (subst (λ (n : ℕ). Taken s (take (suc k) (drop at l)) true n) a (kept-taken s (suc k) (run (sym (i .means)) k ek)))
-  turn-taken (Piece′.Byte m b) i g k ek z ez = unit (Piece′.Byte m b) g (i .means) z (omega arith)
-  turn-taken (Piece′.Two m b c) i g k ek z ez = unit (Piece′.Two m b c) g (i .means) z (omega arith)
-  turn-taken (Piece′.Scalar m c) i g k ek z ez = unit (Piece′.Scalar m c) g (i .means) z (omega arith)
+  turn-taken (Piece′.Byte b m) i g k ek z ez = unit (Piece′.Byte b m) g (i .means) z (omega arith)
+  turn-taken (Piece′.Two b c m) i g k ek z ez = unit (Piece′.Two b c m) g (i .means) z (omega arith)
+  turn-taken (Piece′.Scalar c m) i g k ek z ez = unit (Piece′.Scalar c m) g (i .means) z (omega arith)
   turn-taken (Piece′.Escape m) i g k ek z ez = unit (Piece′.Escape m) g (i .means) z (omega arith)
   turn-taken Piece′.Refused i g k ek z ez = absurd g
 
@@ -151,9 +151,9 @@ module _ (f : Family) (e l : List ℕ) {at n : ℕ} {pl : Bool} (tail : Utf8Tail
   breaks-here : (p : Piece) → meaningOf e p ≡ stepOf f e (drop at l) → (p ≡ Piece′.Refused → ⊥) → k ≡ moreBy p (span (freeOf (stopsOf f e)) (drop (at + 1) l))
       → broken ≡ pushes (dueOf tail) (bytesOf p own e) → BrokenAt p (dueOf tail) own q → StopsAt (courseBy true (walk (stepOf f e) 0 l)) (at + q)
   breaks-here Piece′.Keep i r ek b w = in-run (run f e l (m .so-far) h (sym i) k ek) w
-  breaks-here (Piece′.Byte j a) i r ek b w = at-first (meaningOf e (Piece′.Byte j a)) (sym i) tt b w
-  breaks-here (Piece′.Two j a c) i r ek b w = at-first (meaningOf e (Piece′.Two j a c)) (sym i) tt b w
-  breaks-here (Piece′.Scalar j a) i r ek b w = at-first (meaningOf e (Piece′.Scalar j a)) (sym i) tt b w
+  breaks-here (Piece′.Byte a j) i r ek b w = at-first (meaningOf e (Piece′.Byte a j)) (sym i) tt b w
+  breaks-here (Piece′.Two a c j) i r ek b w = at-first (meaningOf e (Piece′.Two a c j)) (sym i) tt b w
+  breaks-here (Piece′.Scalar a j) i r ek b w = at-first (meaningOf e (Piece′.Scalar a j)) (sym i) tt b w
   breaks-here (Piece′.Escape j) i r ek b w = at-first (meaningOf e (Piece′.Escape j)) (sym i) tt b w
   breaks-here Piece′.Refused i r ek b w = absurd (r refl)
 
@@ -206,9 +206,9 @@ module _ (f : Family) (e l : List ℕ) (x : Bool) (ex : x ≡ checks f) where
           where
             go : (q : Piece) → broken ≡ pushes (dueOf tail) (bytesOf q part e) → Breaks q (dueOf tail) part
             go Piece′.Keep c = (whole, sym c)
-            go (Piece′.Byte j a) c = tt
-            go (Piece′.Two j a c′) c = tt
-            go (Piece′.Scalar j a) c = tt
+            go (Piece′.Byte a j) c = tt
+            go (Piece′.Two a c′ j) c = tt
+            go (Piece′.Scalar a j) c = tt
             go (Piece′.Escape j) c = tt
             go Piece′.Refused c = tt
 
@@ -235,9 +235,9 @@ module _ (f : Family) (e l : List ℕ) (x : Bool) (ex : x ≡ checks f) where
 -- a byte that breaks a text is one of the turn's
 pub broken-inside : (p : Piece) (d : Due) (v : List ℕ) (q : ℕ) → BrokenAt p d v q → q ≤ length v
 broken-inside Piece′.Keep d v q b = omega (arith, b .inside)
-broken-inside (Piece′.Byte j a) d v q b = omega arith
-broken-inside (Piece′.Two j a c) d v q b = omega arith
-broken-inside (Piece′.Scalar j a) d v q b = omega arith
+broken-inside (Piece′.Byte a j) d v q b = omega arith
+broken-inside (Piece′.Two a c j) d v q b = omega arith
+broken-inside (Piece′.Scalar a j) d v q b = omega arith
 broken-inside (Piece′.Escape j) d v q b = omega arith
 broken-inside Piece′.Refused d v q b = omega arith
 

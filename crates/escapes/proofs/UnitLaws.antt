@@ -40,7 +40,7 @@ is-at i p = record { means = λ e. i .means e ∙ p; sound = i .sound }
 
 -- THE MARK
 module _ (q mark byte : ℕ) (l : List ℕ) (at : ℕ) (m : mark ≡ q) (b : byte ≡ l ! at) where
-  pub doubled-pair : byte ≡ mark → Is (Byte 1 mark) (doubled q (drop at l))
+  pub doubled-pair : byte ≡ mark → Is (Byte mark 1) (doubled q (drop at l))
   unfolding doubled
   doubled-pair h = record { means = λ e. rw (front l at, eq-eqb (l ! at) q (sym b ∙ h ∙ m)) (ap (λ (x : ℕ). give 1 (x ∷ [])) m); sound = tt }
 
@@ -63,7 +63,7 @@ mysql-by : (c : ℕ) (t : List ℕ) (v : ℕ) → byteOf mysqlTable c ≡ v
 mysql-by c t v e =
     ap (λ (v : ℕ). if ltb v 256 then give 1 (v ∷ []) else if has c (ascii "%_") then give 1 (backslash ∷ c ∷ []) else give 1 (c ∷ [])) e
 
-pub mysql-end : (l : List ℕ) (at : ℕ) → length l ≤ at → Is (Byte 0 92) (mysql (drop at l))
+pub mysql-end : (l : List ℕ) (at : ℕ) → length l ≤ at → Is (Byte 92 0) (mysql (drop at l))
 mysql-end l at h = record { means = λ e. rw (drop-of-length-le l h); sound = tt }
 
 module _ (l : List ℕ) (at : ℕ) (h : at < length l) (v : ℕ) (e : v ≡ byteOf mysqlTable (l ! at)) where
@@ -71,13 +71,13 @@ module _ (l : List ℕ) (at : ℕ) (h : at < length l) (v : ℕ) (e : v ≡ byte
       ≡ (if ltb v 256 then give 1 (v ∷ []) else if has (l ! at) (ascii "%_") then give 1 (backslash ∷ l ! at ∷ []) else give 1 (l ! at ∷ []))
   mysql-here = ap mysql (cut l at h) ∙ mysql-by (l ! at) (drop (at + 1) l) v (sym e)
 
-  pub mysql-letter : v < 256 → Is (Byte 1 v) (mysql (drop at l))
+  pub mysql-letter : v < 256 → Is (Byte v 1) (mysql (drop at l))
   mysql-letter k = record { means = λ _. sym (mysql-here ∙ rw (lt-ltb v 256 k)); sound = tt }
 
-  pub mysql-kept : 256 ≤ v → (eqb (l ! at) 37 || eqb (l ! at) 95) ≡ true → Is (Two 1 92 (l ! at)) (mysql (drop at l))
+  pub mysql-kept : 256 ≤ v → (eqb (l ! at) 37 || eqb (l ! at) 95) ≡ true → Is (Two 92 (l ! at) 1) (mysql (drop at l))
   mysql-kept k o = record { means = λ _. sym (mysql-here ∙ rw (le-ltb v 256 k, or-false, o)); sound = tt }
 
-  pub mysql-self : 256 ≤ v → (eqb (l ! at) 37 || eqb (l ! at) 95) ≡ false → Is (Byte 1 (l ! at)) (mysql (drop at l))
+  pub mysql-self : 256 ≤ v → (eqb (l ! at) 37 || eqb (l ! at) 95) ≡ false → Is (Byte (l ! at) 1) (mysql (drop at l))
   mysql-self k o = record { means = λ _. sym (mysql-here ∙ rw (le-ltb v 256 k, or-false, o)); sound = tt }
 
 -- E
@@ -85,7 +85,7 @@ pub one-zero : (k b : ℕ) → b ≡ 0 → Is Refused (oneByte k b)
 unfolding oneByte
 one-zero k b h = record { means = λ e. rw (eq-eqb b 0 h); sound = tt }
 
-pub one-byte : (k b : ℕ) → (b ≡ 0 → ⊥) → Is (Byte k b) (oneByte k b)
+pub one-byte : (k b : ℕ) → (b ≡ 0 → ⊥) → Is (Byte b k) (oneByte k b)
 unfolding oneByte
 one-byte k b h = record { means = λ e. rw (ne-eqb b 0 h); sound = tt }
 
@@ -113,7 +113,7 @@ module _ (n v : ℕ) where
   unfolding scalarOf mayEscape
   scalar-none h = record { means = λ e. rw (h, and-false); sound = tt }
 
-  pub scalar-is : (v ≡ 0 → ⊥) → isScalar v ≡ true → Is (Scalar n v) (scalarOf n v)
+  pub scalar-is : (v ≡ 0 → ⊥) → isScalar v ≡ true → Is (Scalar v n) (scalarOf n v)
   unfolding scalarOf mayEscape
   scalar-is z h = let p : 0 < v = omega arith in record { means = λ e. rw (lt-ltb 0 v p, h); sound = h }
 
@@ -307,7 +307,7 @@ module _ (e l : List ℕ) (at h : ℕ) where
     low-above b = record { means = λ _. sym (low-here ∙ rw (within-above 0xDC00 0xDFFF v b)); sound = tt }
 
     pub low-is : 0xD800 ≤ h → h ≤ 0xDBFF → 0xDC00 ≤ v → v ≤ 0xDFFF → (k : ℕ) → k ≡ length e + length e + 7
-        → Is (Scalar k (0x10000 + (h - 0xD800) * 0x400 + (v - 0xDC00))) (lowHalf e h (drop at l))
+        → Is (Scalar (0x10000 + (h - 0xD800) * 0x400 + (v - 0xDC00)) k) (lowHalf e h (drop at l))
     unfolding pair
     low-is p q a b k n = record {
       means = λ _. sym (low-here ∙ rw (within-yes 0xDC00 0xDFFF v a b, n));

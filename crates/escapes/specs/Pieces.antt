@@ -14,18 +14,18 @@ use Rattle.escapes.specs.declared.pieces.Piece.the-variants.{Keep, Byte,
 
 abbrev pub meaningOf : List ℕ → Piece → Step
 meaningOf e Keep = keep
-meaningOf e (Byte m b) = give m (b ∷ [])
-meaningOf e (Two m b c) = give m (b ∷ c ∷ [])
-meaningOf e (Scalar m c) = give m (encode c)
+meaningOf e (Byte b m) = give m (b ∷ [])
+meaningOf e (Two b c m) = give m (b ∷ c ∷ [])
+meaningOf e (Scalar c m) = give m (encode c)
 meaningOf e (Escape m) = give m e
 meaningOf e Refused = stop
 
 -- a scalar is one
 abbrev pub Sound : Piece → Type 0
 Sound Keep = Unit {0}
-Sound (Byte m b) = Unit {0}
-Sound (Two m b c) = Unit {0}
-Sound (Scalar m c) = isScalar c ≡ true
+Sound (Byte b m) = Unit {0}
+Sound (Two b c m) = Unit {0}
+Sound (Scalar c m) = isScalar c ≡ true
 Sound (Escape m) = Unit {0}
 Sound Refused = Unit {0}
 
@@ -49,25 +49,25 @@ pub record Is (r : Piece) (s : Step) : Type 0 where
 -- for, where v are those that stand for themselves
 abbrev pub moreBy : Piece → ℕ → ℕ
 moreBy Keep n = n
-moreBy (Byte m b) n = m
-moreBy (Two m b c) n = m
-moreBy (Scalar m c) n = m
+moreBy (Byte b m) n = m
+moreBy (Two b c m) n = m
+moreBy (Scalar c m) n = m
 moreBy (Escape m) n = m
 moreBy Refused n = 0
 
 abbrev pub isKeep : Piece → Bool
 isKeep Keep = true
-isKeep (Byte m b) = false
-isKeep (Two m b c) = false
-isKeep (Scalar m c) = false
+isKeep (Byte b m) = false
+isKeep (Two b c m) = false
+isKeep (Scalar c m) = false
 isKeep (Escape m) = false
 isKeep Refused = false
 
 abbrev pub bytesOf : Piece → List ℕ → List ℕ → List ℕ
 bytesOf Keep v e = v
-bytesOf (Byte m c) v e = c ∷ []
-bytesOf (Two m c d) v e = c ∷ d ∷ []
-bytesOf (Scalar m c) v e = encode c
+bytesOf (Byte c m) v e = c ∷ []
+bytesOf (Two c d m) v e = c ∷ d ∷ []
+bytesOf (Scalar c m) v e = encode c
 bytesOf (Escape m) v e = e
 bytesOf Refused v e = []
 
@@ -80,17 +80,17 @@ pub record BreaksAt (d : Due) (v : List ℕ) (q : ℕ) : Type 0 where
 -- at which byte of a turn's own bytes v it breaks a text; a unit breaks it at its first
 abbrev pub BrokenAt : Piece → Due → List ℕ → ℕ → Type 0
 BrokenAt Keep d v q = BreaksAt d v q
-BrokenAt (Byte m b) d v q = q ≡ 0
-BrokenAt (Two m b c) d v q = q ≡ 0
-BrokenAt (Scalar m c) d v q = q ≡ 0
+BrokenAt (Byte b m) d v q = q ≡ 0
+BrokenAt (Two b c m) d v q = q ≡ 0
+BrokenAt (Scalar c m) d v q = q ≡ 0
 BrokenAt (Escape m) d v q = q ≡ 0
 BrokenAt Refused d v q = q ≡ 0
 
 -- bytes that stand for themselves break it
 abbrev pub Breaks : Piece → Due → List ℕ → Type 0
 Breaks Keep d v = (d ≡ broken → ⊥) × (pushes d v ≡ broken)
-Breaks (Byte m b) d v = Unit {0}
-Breaks (Two m b c) d v = Unit {0}
-Breaks (Scalar m c) d v = Unit {0}
+Breaks (Byte b m) d v = Unit {0}
+Breaks (Two b c m) d v = Unit {0}
+Breaks (Scalar c m) d v = Unit {0}
 Breaks (Escape m) d v = Unit {0}
 Breaks Refused d v = Unit {0}

@@ -15,13 +15,14 @@ ghost use Rattle.leaves.specs.Blocks.{freeOf};
 ghost use Rattle.utf8.specs.Tails.{dueOf};
 ghost use Rattle.escapes.specs.Pieces.{moreBy, bytesOf, isKeep, Sound, Breaks, BreaksAt, BrokenAt};
 
-// What stands at a place of a body. `more` counts the bytes behind the unit's first.
+// What stands at a place of a body. `more` counts the bytes behind the unit's first. It stands last, so that no variant has its bytes where another has its
+// scalar: what is written in parts and read whole is read late.
 pub enum Piece {
     // a byte that stands for itself
     Keep,
-    Byte { more: usize, byte: u8 },
-    Two { more: usize, first: u8, second: u8 },
-    Scalar { more: usize, scalar: u32 },
+    Byte { byte: u8, more: usize },
+    Two { first: u8, second: u8, more: usize },
+    Scalar { scalar: u32, more: usize },
     // the U& escape character
     Escape { more: usize },
     Refused,

@@ -50,7 +50,7 @@ returns-2 c = rw (c .before .before .piece .given .1) (c .utf8-tail-push .ensure
 returns-3 : tie.Need-returns-3
 returns-3 c =
     rw (c .before .before .before .piece2 .given .1)
-    (c .utf8-tail-push3 .ensures ∙ ap (λ (d : Due). push d (c .before .before .before .piece2 .given .0 .1 .1 .0)) (c .before .utf8-tail-push2 .ensures))
+    (c .utf8-tail-push3 .ensures ∙ ap (λ (d : Due). push d (c .before .before .before .piece2 .given .0 .1 .0)) (c .before .utf8-tail-push2 .ensures))
 
 returns-4 : tie.Need-returns-4
 returns-4 c = rw (c .before .before .piece3 .given .1) (c .scalar-tail .ensures)

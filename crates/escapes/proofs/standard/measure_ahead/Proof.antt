@@ -22,8 +22,10 @@ abbrev μ-loop : tie.MeasureT-loop
 
 -- past a run: where that leads; and that it is not empty
 run : (c : tie.After-free-run Inv-loop μ-loop) → let i = c .before .before .before .before .loop in
-    Measuring (standardStep (c .before .before .before .before .before .before .before .before .args .backslash) (c .before .before .before .before .before .before .mark-byte .result)) false
-    (now (c .before .before .before .before .before .before .before .before .args .body)) (i .at + c .free-run .result) (i .n + c .free-run .result) (i .plain) fresh
+    Measuring (standardStep (c .before .before .before .before .before .before .before .before .args .backslash)
+    (c .before .before .before .before .before .before .mark-byte .result)) false
+    (now (c .before .before .before .before .before .before .before .before .args .body)) (i .at + c .free-run .result) (i .n + c .free-run .result)
+    (i .plain) fresh
 run c =
     let s = c .before .before .before .before .before .before .before .before .args in
     run-measured (s .mark) _ (c .before .before .before .before .before .before .mark-byte .ensures) (s .backslash) (now (s .body))
@@ -32,7 +34,8 @@ run c =
 some : (c : tie.After-free-run Inv-loop μ-loop) → 8 ≤ c .free-run .result
 some c =
     let s = c .before .before .before .before .before .before .before .before .args in
-    run-some (s .mark) _ (c .before .before .before .before .before .before .mark-byte .ensures) (s .backslash) (now (s .body)) (now (s .body)) _ (c .before .before .before .before .before .run-stops .ensures) (c .before .before .before .before .loop .at)
+    run-some (s .mark) _ (c .before .before .before .before .before .before .mark-byte .ensures) (s .backslash) (now (s .body))
+    (now (s .body)) _ (c .before .before .before .before .before .run-stops .ensures) (c .before .before .before .before .loop .at)
     (here-free (c .before .before .before .before .loop .at) _ _ (c .before .before .is-free-here .ensures) (c .before .if1 .taken)) _ (c .free-run .ensures)
 
 -- past a unit: where that leads

@@ -38,7 +38,8 @@ fits c =
     (c .before .unit-at .ensures) _ (more c)
 
 room : (c : tie.After-is-run Inv-loop μ-loop)
-    → c .before .before .before .before .before .before .before .before .before .before .loop .n + c .before .before .before .before .put-piece .result ≤ length (c .before .before .before .before .before .before .before .before .before .before .loop .out)
+    → c .before .before .before .before .before .before .before .before .before .before .loop .n + c .before .before .before .before .put-piece .result
+    ≤ length (c .before .before .before .before .before .before .before .before .before .before .loop .out)
 room c =
     let s = c .before .before .before .before .before .before .before .before .before .before .before .before .before .before .before .args in
     expanded-room (s .family) (now (s .escape)) (now (s .body)) (now (s .out))

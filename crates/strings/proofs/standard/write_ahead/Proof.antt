@@ -27,7 +27,8 @@ run-in c = run-inside _ _ _ (c .before .before .before .before .loop .inv .so-fa
 some : (c : tie.After-free-run Inv-loop μ-loop) → 8 ≤ c .free-run .result
 some c =
     let s = c .before .before .before .before .before .before .before .before .before .args in
-    run-some (s .mark) _ (c .before .before .before .before .before .before .mark-byte .ensures) (s .backslash) (now (s .body)) (now (s .body)) _ (c .before .before .before .before .before .run-stops .ensures) (c .before .before .before .before .loop .at)
+    run-some (s .mark) _ (c .before .before .before .before .before .before .mark-byte .ensures) (s .backslash) (now (s .body))
+    (now (s .body)) _ (c .before .before .before .before .before .run-stops .ensures) (c .before .before .before .before .loop .at)
     (here-free (c .before .before .before .before .loop .at) _ _ (c .before .before .is-free-here .ensures) (c .before .if1 .taken)) _ (c .free-run .ensures)
 
 in-out : (c : tie.After-free-run Inv-loop μ-loop) → c .before .before .before .before .loop .n ≤ length (c .before .before .before .before .loop .out)
@@ -38,9 +39,11 @@ in-out c =
 
 -- where a turn leads
 run : (c : tie.After-put-bytes Inv-loop μ-loop)
-    → let s = c .before .before .before .before .before .before .before .before .before .before .before .before .args in let i = c .before .before .before .before .before .before .before .loop in
+    → let s = c .before .before .before .before .before .before .before .before .before .before .before .before .args in
+    let i = c .before .before .before .before .before .before .before .loop in
     let k = c .before .before .before .free-run .result in
-    Goes (standardStep (s .backslash) (c .before .before .before .before .before .before .before .before .before .mark-byte .result)) (now (s .body)) (now (s .out))
+    Goes (standardStep (s .backslash) (c .before .before .before .before .before .before .before .before .before .mark-byte .result)) (now (s .body))
+    (now (s .out))
     (i .out) (i .at) (i .n) (i .at + k) (c .put-bytes .result) (c .put-bytes .last .1 .0)
 run c =
     let s = c .before .before .before .before .before .before .before .before .before .before .before .before .args in
@@ -114,7 +117,12 @@ put-bytes-requires c κs = search needs
 add-n : tie.Need-add-n Inv-loop μ-loop
 add-n c =
     let u = c .before .before .before .before .before .before .before .before .before .before .before .before .before .before in
-    omega (arith, run (c .before .before) .room, c .before .before .before .before .before .before .before .before .before .loop .inv .same, u .good .1 .1 .1 .0 .0)
+    omega (
+      arith,
+      run (c .before .before) .room,
+      c .before .before .before .before .before .before .before .before .before .loop .inv .same,
+      u .good .1 .1 .1 .0 .0,
+    )
 
 loop-less : tie.Need-loop-less Inv-loop μ-loop
 loop-less c = omega (arith, run (c .before .before) .inside, some (c .before .before .before .before .before))
@@ -181,7 +189,13 @@ put-pair-requires : tie.Need-put-pair-requires Inv-loop μ-loop
 put-pair-requires c κs = search narrow
 
 add-n-2 : tie.Need-add-n-2 Inv-loop μ-loop
-add-n-2 c = omega (arith, pair (c .before .before) .room, c .before .before .before .before .before .before .before .before .before .before .before .before .loop .inv .same, c .before .before .before .before .before .before .before .before .before .before .before .before .before .before .before .before .before .good .1 .1 .1 .0 .0)
+add-n-2 c = omega (
+  arith,
+  pair (c .before .before) .room,
+  c .before .before .before .before .before .before .before .before .before .before .before .before .loop .inv .same,
+  c .before .before .before .before .before .before .before .before .before .before .before .before .before .before .before .before .before
+      .good .1 .1 .1 .0 .0,
+)
 
 add-at : tie.Need-add-at Inv-loop μ-loop
 add-at c = omega (arith, pair (c .before .before .before) .inside)

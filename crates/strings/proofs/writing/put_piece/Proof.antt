@@ -62,7 +62,8 @@ same-length-4 c = search needs
 returns-4 : tie.Need-returns-4
 returns-4 c =
     rw (c .before .before .before .before .before .piece3 .given .1)
-    (puts-encoded _ _ _ _ (rw (c .before .before .before .before .before .piece3 .given .1) at (c .before .before .before .before .before .before .before .before .before .before .pre)) (c .before .before .encode-utf8 .ensures))
+    (puts-encoded _ _ _ _ (rw (c .before .before .before .before .before .piece3 .given .1)
+    at (c .before .before .before .before .before .before .before .before .before .before .pre)) (c .before .before .encode-utf8 .ensures))
 
 same-length-5 : tie.Need-same-length-5
 same-length-5 c = search needs

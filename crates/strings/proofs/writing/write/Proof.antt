@@ -42,7 +42,8 @@ more c =
     (c .before .before .before .before .before .before .before .before .run-stops .ensures)
 
 fits : (c : tie.After-turn-more Inv-loop μ-loop)
-    → let s = c .before .before .before .before .before .before .before .before .before .before .before .before .args in let i = c .before .before .before .loop in let z = i .at + 1 + c .turn-more .result in
+    → let s = c .before .before .before .before .before .before .before .before .before .before .before .before .args in
+    let i = c .before .before .before .loop in let z = i .at + 1 + c .turn-more .result in
     (z ≤ length (now (s .body))) × (i .n + length
     (bytesOf (c .before .unit-at .result) (take (z - i .at) (drop (i .at) (now (s .body)))) (now (s .escape))) ≤ length (i .out))
 fits c =
@@ -51,7 +52,8 @@ fits c =
     (c .before .before .before .loop .inv) (c .before .before .loop-test .taken) _ (c .before .unit-at .ensures) _ (more c)
 
 put : (c : tie.After-put-piece Inv-loop μ-loop)
-    → let s = c .before .before .before .before .before .before .before .before .before .before .before .before .before .before .before .args in let i = c .before .before .before .before .before .before .loop in let z = i .at + 1 + c .before .before .before .turn-more .result in
+    → let s = c .before .before .before .before .before .before .before .before .before .before .before .before .before .before .before .args in
+    let i = c .before .before .before .before .before .before .loop in let z = i .at + 1 + c .before .before .before .turn-more .result in
     c .put-piece .result ≡ length (bytesOf (c .before .before .before .before .unit-at .result) (take (z - i .at) (drop (i .at) (now (s .body))))
     (now (s .escape)))
 put c =
