@@ -5,7 +5,7 @@
 
 An edit of must-fail/ may hold several wrong programs, one for each of several functions that do not call each other. Each names its function by a line
 'refused: CRATE::MODULE::FUNCTION', and the prover's log of the edit must say of just that function that it is not proved: not merely that it calls one
-that is not. Exits 1 if a log says anything else.
+that is not, nor that it is no program that the prover takes. Exits 1 if a log says anything else.
 """
 import glob
 import os
@@ -29,7 +29,7 @@ for edit in sorted(glob.glob(os.path.join(root, 'crates', '*', 'must-fail', '*.e
     edits += 1
     for function in functions:
         wrong += 1
-        if not re.search(rf'^fn {function}: (not proved$|no proof: )', said, re.M):
+        if not re.search(rf'^fn {function}: (not proved$|no proof: (?!.*does not cover this function))', said, re.M):
             missing.append(f'{crate}/{label}: {function} is not refused by itself')
 for line in missing:
     print(line)
