@@ -1,8 +1,8 @@
 -- Units that stand for one ASCII character: what the tests say, and a turn over one. Assumes nothing.
 use mathlib.Core.Path.{_≡_, refl, ap, sym, _∙_, subst}
-use mathlib.Core.Bool.{Bool, true, false, _&&_, _||_, not, and-true, and-assoc, false≢true}
+use mathlib.Core.Bool.{Bool, true, false, _&&_, not, and-true, and-assoc}
 use mathlib.Core.List.{List, [], _∷_}
-use Prim.Native.Nat.{ℕ, _+_, _-_, _*_, _≤_, _<_}
+use Prim.Native.Nat.{ℕ, suc, _+_, _-_, _≤_, _<_}
 use native.Mathlib.Nat.{add-zero}
 use native.Mathlib.Omega.{arith}
 use borrow.Author.Tests.{ne-eqb, eqb-true, eqb-false, ltb-true, ltb-false, not-true}
@@ -85,10 +85,10 @@ module _ (l : List ℕ) (at : ℕ) (h : at < length l) where
   left : length (drop at l) ≡ length l - at
   left = length-drop at l
 
-  quick-none : Quick (drop at l) 0
+  pub quick-none : Quick (drop at l) 0
   quick-none = record { most = omega arith; room = omega arith; one = λ e. absurd (omega arith); two = λ e. absurd (omega arith) }
 
-  quick-plain : (ltb (l ! at) 128 && not (eqb (l ! at) 92) && not (eqb (l ! at) 39)) ≡ true → Quick (drop at l) 1
+  pub quick-plain : (ltb (l ! at) 128 && not (eqb (l ! at) 92) && not (eqb (l ! at) 39)) ≡ true → Quick (drop at l) 1
   quick-plain e =
       let a = ltb (l ! at) 128 in
       let b = not (eqb (l ! at) 92) in
@@ -104,7 +104,7 @@ module _ (l : List ℕ) (at : ℕ) (h : at < length l) where
         two = λ e. absurd (omega arith);
       }
 
-  quick-escaped : (n : ℕ) (x : Bool) → n ≡ l ! (at + 1) → x ≡ isQuick n → (eqb (l ! at) 92 && x) ≡ true → Quick (drop at l) 2
+  pub quick-escaped : (n : ℕ) (x : Bool) → n ≡ l ! (at + 1) → x ≡ isQuick n → (eqb (l ! at) 92 && x) ≡ true → Quick (drop at l) 2
   unfolding quickByte oneByte
   quick-escaped n x en ex e =
       let s = and-left (eqb (l ! at) 92) x e in
@@ -126,7 +126,7 @@ module _ (l : List ℕ) (at : ℕ) (h : at < length l) where
         );
       }
 
-  quick-doubled : (n : ℕ) → n ≡ l ! (at + 1) → (eqb (l ! at) 39 && eqb n 39) ≡ true → Quick (drop at l) 2
+  pub quick-doubled : (n : ℕ) → n ≡ l ! (at + 1) → (eqb (l ! at) 39 && eqb n 39) ≡ true → Quick (drop at l) 2
   unfolding quickByte doubled
   quick-doubled n en e =
       let s = eqb-true (l ! at) 39 (and-left (eqb (l ! at) 39) (eqb n 39) e) in
@@ -139,33 +139,12 @@ module _ (l : List ℕ) (at : ℕ) (h : at < length l) where
         two = λ _. (here ∙ rw (front l at, s, front l (at + 1), t), rw (front l at, s) (omega arith));
       }
 
-  -- one more than a test, twice another: only one of them holds
-  pub quick-sum : (n : ℕ) (x : Bool) → n ≡ l ! (at + 1) → x ≡ isQuick n → (r : ℕ)
-      → r ≡ (if ltb (l ! at) 128 && not (eqb (l ! at) 92) && not (eqb (l ! at) 39) then 1 else 0)
-      + (if eqb (l ! at) 92 && x || eqb (l ! at) 39 && eqb n 39 then 1 else 0) * 2
-      → Quick (drop at l) r
-  quick-sum n x en ex r e =
-      go (ltb (l ! at) 128 && not (eqb (l ! at) 92) && not (eqb (l ! at) 39)) (eqb (l ! at) 92 && x) (eqb (l ! at) 39 && eqb n 39) refl refl refl e
-    where
-      go : (p q d : Bool) → (ltb (l ! at) 128 && not (eqb (l ! at) 92) && not (eqb (l ! at) 39)) ≡ p → (eqb (l ! at) 92 && x) ≡ q
-          → (eqb (l ! at) 39 && eqb n 39) ≡ d → r ≡ (if p then 1 else 0) + (if q || d then 1 else 0) * 2 → Quick (drop at l) r
-      go true true d ep eq ed h =
-          let a = and-left (ltb (l ! at) 128 && not (eqb (l ! at) 92)) (not (eqb (l ! at) 39)) ep in
-          let b = not-true (eqb (l ! at) 92) (and-right (ltb (l ! at) 128) (not (eqb (l ! at) 92)) a) in
-          absurd (false≢true (sym b ∙ and-left (eqb (l ! at) 92) x eq))
-      go true false true ep eq ed h =
-          let b = not-true (eqb (l ! at) 39) (and-right (ltb (l ! at) 128 && not (eqb (l ! at) 92)) (not (eqb (l ! at) 39)) ep) in
-          absurd (false≢true (sym b ∙ and-left (eqb (l ! at) 39) (eqb n 39) ed))
-      go true false false ep eq ed h = let z : 1 ≡ r = omega arith in subst (Quick (drop at l)) z (quick-plain ep)
-      go false true d ep eq ed h = let z : 2 ≡ r = omega arith in subst (Quick (drop at l)) z (quick-escaped n x en ex eq)
-      go false false true ep eq ed h = let z : 2 ≡ r = omega arith in subst (Quick (drop at l)) z (quick-doubled n en ed)
-      go false false false ep eq ed h = let z : 0 ≡ r = omega arith in subst (Quick (drop at l)) z quick-none
-
 -- TURNS over them
 pub passes-none : (f : Family) (e l : List ℕ) (d : Due) (from : ℕ) → from ≤ length l → Passes f e l d from (record { at = from; n = 0; plain = true })
 passes-none f e l d from h = record {
   inside = h;
   onward = omega arith;
+  few = omega arith;
   goes = λ m p g. subst (λ (k : ℕ). Measuring (stepOf f e) (checks f) l from k (p && true) d) (sym (add-zero m))
       (subst (λ (q : Bool). Measuring (stepOf f e) (checks f) l from m q d) (sym (and-true p)) g);
 }
@@ -177,6 +156,7 @@ module _ (e l : List ℕ) (from : ℕ) {at n : ℕ} {plain : Bool} (r : Passes E
   passes-turn k q o = record {
     inside = omega (arith, q .room, length-drop at l);
     onward = omega (arith, r .onward);
+    few = omega (arith, r .few, o);
     goes = λ m p g. go m p (r .goes m p g) (eqb k 1) refl;
   }
     where

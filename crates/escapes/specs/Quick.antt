@@ -34,4 +34,5 @@ pub record Quick (t : List ℕ) (r : ℕ) : Type 0 where
 pub record Passes (f : Family) (e l : List ℕ) (d : Due) (from : ℕ) (r : Passed) : Type 0 where
   pub inside : r .at ≤ length l
   pub onward : from ≤ r .at
+  pub few : r .n ≤ r .at
   pub goes : (m : ℕ) (p : Bool) → Measuring (stepOf f e) (checks f) l from m p d → Measuring (stepOf f e) (checks f) l (r .at) (m + r .n) (p && r .plain) d

@@ -48,7 +48,8 @@ pub fn turn_more(piece: Piece, body: &[u8], at: usize, stops: Stops) -> usize
 }
 
 // Whether a unit is a byte that stands for itself.
-pub(crate) fn is_keep(piece: Piece) -> bool
+// Rules out: no unit one; a byte that an escape stands for called one (must-fail: unit_at_the_start, body_for_escape).
+pub fn is_keep(piece: Piece) -> bool
     ensures { λ r. ⌜ r ≡ isKeep piece ⌝ }
 {
     match piece {

@@ -1,11 +1,11 @@
 // The units of an E body that stand for one ASCII character and need no digits: such a byte itself, a letter behind a backslash, a doubled mark. Between
-// characters they leave the UTF-8 state as it is, so that a few of them are passed over at once.
+// characters they leave the UTF-8 state as it is, so that they are passed over one after the other.
 use crate::units::Family;
 use crate::units::is_octal;
-use leaves::blocks::one_if;
+use leaves::bytes::byte_at;
 use utf8::tail::Utf8Tail;
 ghost use mathlib.Core.Path.{_≡_};
-ghost use Prim.Native.Nat.{_+_, _≤_, _<_};
+ghost use Prim.Native.Nat.{_≤_, _<_};
 ghost use lib.ListN.{length, drop};
 ghost use Rattle.utf8.specs.Tails.{dueOf};
 ghost use Rattle.escapes.specs.Quick.{isQuick, Quick, Passes};
@@ -29,22 +29,30 @@ fn is_quick_letter(letter: u8) -> bool
         & (letter != 85)
 }
 
-// How many bytes such a unit takes at a place before the last, 1 or 2; 0 where none stands there. A sum, and no jump: no order of
-// units is slower than another.
+// How many bytes such a unit takes at a place, 1 or 2; 0 where none stands there. All is computed before the one choice.
 // Rules out: \x taken for a letter; a mark alone passed over (must-fail: wrong_quick, wrong_digits).
 fn quick_len(body: &[u8], at: usize) -> usize
-    requires { ⌜ at + 1 < length (now body) ⌝ }
+    requires { ⌜ at < length (now body) ⌝ }
     ensures { λ r. ⌜ Quick (drop at (now (body .entry))) r ⌝ }
 {
     let byte = body[at];
-    let next = body[at + 1];
+    let next = byte_at(body, at + 1);
     let plain = (byte < 128) & (byte != 92) & (byte != 39);
     let escaped = (byte == 92) & is_quick_letter(next);
     let doubled = (byte == 39) & (next == 39);
-    (one_if(plain) + one_if(escaped | doubled) * 2) as usize
+    if plain {
+        return 1;
+    }
+    if escaped {
+        return 2;
+    }
+    if doubled {
+        return 2;
+    }
+    0
 }
 
-// Passes over such units from a place on, 32 at the most: a longer run is taken by blocks. A unit at the last byte is left, so that two bytes are always there.
+// Passes over such units from a place on, until eight bytes in a row stood for themselves: a longer run is taken by blocks.
 // Rules out: a unit counted twice (must-fail: counted_twice).
 fn pass_quick(body: &[u8], from: usize, escape: &[u8]) -> Passed
     requires { ⌜ from ≤ length (now body) ⌝ }
@@ -53,12 +61,14 @@ fn pass_quick(body: &[u8], from: usize, escape: &[u8]) -> Passed
     let mut at = from;
     let mut n: usize = 0;
     let mut plain = true;
-    while (1 < body.len() - at) & (n < 32) {
+    let mut run: usize = 0;
+    while (at < body.len()) & (run < 8) {
         let len = quick_len(body, at);
         if len == 0 {
             return Passed { at, n, plain };
         }
         plain = plain & (len == 1);
+        run = if len == 1 { run + 1 } else { 0 };
         n += 1;
         at += len;
     }

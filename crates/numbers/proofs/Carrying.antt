@@ -17,7 +17,8 @@ use lib.ListN.{length, getD}
 use Rattle.meaning.specs.Bytes.{digit}
 use Rattle.meaning.specs.Halves.{joinedHalves}
 use Rattle.laws.proofs.Halves.{joinedHalves-lt}
-use Rattle.numbers.specs.Values.{Spelt, misspelt, spelt, capped, digitsFrom, wideOf}
+use Rattle.leaves.specs.Digits.{capped}
+use Rattle.numbers.specs.Values.{Spelt, misspelt, spelt, digitsFrom, wideOf}
 use Rattle.numbers.specs.declared.radix.Halves.the-variants as H
 use Rattle.numbers.proofs.Radixes.{capped-digit, capped-none}
 use Rattle.numbers.proofs.Spelled.{Above, Reading, reading-start, too-great, digit-on, ends-spelt}

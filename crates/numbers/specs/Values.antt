@@ -45,10 +45,7 @@ shortOf t =
     if eqb (length t) 0 || ltb 19 (length t) then M.Refused
     else if allDigits 10 t then M.Value (number 10 (length t) 0 t) else M.Refused
 
--- A RADIX: what is above 15 is no digit; the base, with 2 for any other
-abbrev pub capped : ℕ → ℕ
-capped d = if ltb d 16 then d else 16
-
+-- A RADIX: the base, with 2 for any other
 unfoldable pub radixBy : ℕ → ℕ
 radixBy β = if eqb β 16 then 16 else if eqb β 8 then 8 else 2
 

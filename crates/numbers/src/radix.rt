@@ -1,26 +1,14 @@
 // [01 Numbers] "two 64-bit halves": digits of base 2, 8 or 16, with "`_` only between two digits of the base", as a number of 128 bits.
+use leaves::digits::loose_digit;
 ghost use mathlib.Core.Path.{_≡_};
 ghost use mathlib.Core.Bool.{false};
 ghost use Prim.Native.Nat.{_≤_, _<_, _^_};
-ghost use Rattle.meaning.specs.Bytes.{digit};
-ghost use Rattle.numbers.specs.Values.{capped, digitsFrom, wideOf, radixBy};
+ghost use Rattle.numbers.specs.Values.{digitsFrom, wideOf, radixBy};
 
 // The two halves of 128 bits, or a refusal.
 pub enum Halves {
     Value { hi: u64, lo: u64 },
     Refused,
-}
-
-// The digit that a byte is, 0 to 15; 16 or more if it is none. One choice between two sums, so that digits and letters in any order are read at one pace.
-// Rules out: letters of one case alone; a byte between 9 and A taken for a digit.
-fn digit_of(byte: u8) -> u8
-    ensures { λ r. ⌜ capped r ≡ digit byte ⌝ }
-{
-    if byte <= 57 {
-        return std::num::wrapping_sub_u8(byte, 48);
-    }
-    let past = std::num::wrapping_sub_u8(byte, 65);
-    past / 64 * 64 + past % 32 + 10
 }
 
 // The number that the digits of a base make, of which each has `bits` bits, with `_` between two of them. Refused: no digit, another byte, `_` at an end
@@ -36,7 +24,7 @@ fn read_halves(text: &[u8], base: u64, bits: u64) -> Halves
     let mut behind = false;
     let mut i = 0;
     while i < text.len() {
-        let d = digit_of(text[i]) as u64;
+        let d = loose_digit(text[i]) as u64;
         if d < base {
             let lost = hi >> keep;
             if lost != 0 {

@@ -132,12 +132,3 @@ module _ (f : Family) (e l d : List ℕ) {out : List ℕ} {at n : ℕ} {pl : Boo
     expanded-turn y ey =
         let t = expanding-turn x own (isKeep p) (at + 1 + k) (took stands) last (all .1) (all .2) in
         rw (all .0, ey) t
-
--- whether a piece is a byte that stands for itself
-pub no-run : (p : Piece) → (p ≡ Piece′.Keep → ⊥) → false ≡ isKeep p
-no-run Piece′.Keep n = absurd (n refl)
-no-run (Piece′.Byte m b) n = refl
-no-run (Piece′.Two m b c) n = refl
-no-run (Piece′.Scalar m c) n = refl
-no-run (Piece′.Escape m) n = refl
-no-run Piece′.Refused n = refl

@@ -15,10 +15,7 @@ use Rattle.meaning.specs.Answers.{filled}
 use Rattle.laws.proofs.Joining.{fails≢means}
 use Rattle.laws.proofs.Ranges.{Bounds, BodyIn, AnswerIn, one-inside}
 use Rattle.laws.proofs.Short.{course-size, body-means, body-goes}
-use Rattle.laws.proofs.StepBounds.{Steady, standard-steady, escape-steady, unicode-steady}
-use Rattle.cutting.specs.declared.marks.Mark.the-variants.{Quote, DoubleQuote}
 use Rattle.escapes.specs.declared.units.Family.{Family}
-use Rattle.escapes.specs.declared.units.Family.the-variants as Family′
 use Rattle.escapes.specs.declared.measuring.Measured.{Measured}
 use Rattle.escapes.specs.declared.measuring.Measured.the-variants as Measured′
 use Rattle.strings.specs.declared.one.One.{One}
@@ -26,6 +23,7 @@ use Rattle.strings.specs.declared.one.One.the-variants as One′
 use Rattle.strings.specs.declared.joined.Joined.the-variants as Joined′
 use Rattle.spellings.specs.declared.spelling.Spelled.{Spelled}
 use Rattle.escapes.specs.Families.{stepOf, checks, courseOf, measuredOf}
+use Rattle.escapes.proofs.Turns.{steady}
 use Rattle.strings.specs.Rooms.{Room, Written}
 use Rattle.leaves.specs.Puts.{Puts}
 use Rattle.spellings.specs.Spelled.{spelledOf, Spells}
@@ -60,13 +58,6 @@ module _ (f u : ℕ) (r : Trace) (m : Measured) (e : m ≡ measuredOf r) where
   pub measured-refused : (p : ℕ) → m ≡ Measured′.Refused p → One′.Refused (f + p) ≡ oneOf (answer f u r)
   measured-refused p q = measured (Measured′.Refused p) q
 
-family-steady : (f : Family) (e : List ℕ) → Steady (stepOf f e)
-family-steady (Family′.Standard Quote bs) e = standard-steady bs 39 refl
-family-steady (Family′.Standard DoubleQuote bs) e = standard-steady bs 34 refl
-family-steady Family′.Escape e = escape-steady
-family-steady (Family′.Unicode Quote) e = unicode-steady e 39 refl
-family-steady (Family′.Unicode DoubleQuote) e = unicode-steady e 34 refl
-
 -- a refusal's place lies in the body
 pub measured-place : (f : Family) (e b : List ℕ) (m : Measured) (p : ℕ) → m ≡ measuredOf (courseOf f e b) → m ≡ Measured′.Refused p → p ≤ length b
 measured-place f e b m p em q = go (plain c) (stops c) (sym em ∙ q)
@@ -77,7 +68,7 @@ measured-place f e b m p em q = go (plain c) (stops c) (sym em ∙ q)
     go : (x y : Bool) → (if x then Measured′.Plain else if y then Measured′.Refused (size c) else Measured′.Length (length (value c))) ≡ Measured′.Refused p
         → p ≤ length b
     go true y h = let z : _≡_ {A = ℕ} 0 1 = cc in absurd (omega arith)
-    go false true h = let z : size c ≡ p = cc in omega (arith, course-size (checks f) (stepOf f e) (family-steady f e) b)
+    go false true h = let z : size c ≡ p = cc in omega (arith, course-size (checks f) (stepOf f e) (steady f e) b)
     go false false h = let z : _≡_ {A = ℕ} 0 1 = cc in absurd (omega arith)
 
 -- WRITING A BODY. What means something reads to its end, and there is room

@@ -35,21 +35,22 @@ use Rattle.laws.proofs.Gaps.{gap-fits}
 use Rattle.laws.proofs.Openings.{inside}
 use Rattle.strings.specs.declared.joined.Joined.the-variants as Joined′
 use Rattle.strings.specs.Answers.{lengthOf, Holds, Put}
-use Rattle.strings.specs.Plain.{stopsOf, freeBody, isPlain, Plainly, PlainAt, SaysPlain, CutAt, GoesOn}
+use Rattle.strings.specs.Plain.{settingStops, freeBody, isPlain, Plainly, PlainAt, SaysPlain, CutAt, GoesOn}
 use Rattle.strings.proofs.Ones.{means-put}
 use Rattle.strings.proofs.Cuts.{goes-on}
 
 -- WHAT A FREE BYTE is not
-module _ (σ : Settings) (b : ℕ) (f : freeOf (stopsOf σ) b ≡ true) where
+module _ (σ : Settings) (b : ℕ) (f : freeOf (settingStops σ) b ≡ true) where
   no-quote : eqb b quote ≡ false
   unfolding freeOf
-  no-quote = not-true (eqb b quote) (and-left (not (eqb b quote)) (not (eqb b (stopsOf σ .second)))
-      (and-left (not (eqb b quote) && not (eqb b (stopsOf σ .second))) (not (eqb b 0)) f))
+  no-quote = not-true (eqb b quote) (and-left (not (eqb b quote)) (not (eqb b (settingStops σ .second)))
+      (and-left (not (eqb b quote) && not (eqb b (settingStops σ .second))) (not (eqb b 0)) f))
 
   no-escape : (σ .backslash && eqb b backslash) ≡ false
   unfolding freeOf
-  no-escape = go (σ .backslash) (not-true (eqb b (stopsOf σ .second))
-      (and-right (not (eqb b quote)) (not (eqb b (stopsOf σ .second))) (and-left (not (eqb b quote) && not (eqb b (stopsOf σ .second))) (not (eqb b 0)) f)))
+  no-escape = go (σ .backslash) (not-true (eqb b (settingStops σ .second))
+      (and-right (not (eqb b quote)) (not (eqb b (settingStops σ .second)))
+      (and-left (not (eqb b quote) && not (eqb b (settingStops σ .second))) (not (eqb b 0)) f)))
     where
       go : (x : Bool) → eqb b (if x then backslash else quote) ≡ false → (x && eqb b backslash) ≡ false
       go true e = e
@@ -57,7 +58,7 @@ module _ (σ : Settings) (b : ℕ) (f : freeOf (stopsOf σ) b ≡ true) where
 
   no-nul : eqb b 0 ≡ false
   unfolding freeOf
-  no-nul = not-true (eqb b 0) (and-right (not (eqb b quote) && not (eqb b (stopsOf σ .second))) (not (eqb b 0)) f)
+  no-nul = not-true (eqb b 0) (and-right (not (eqb b quote) && not (eqb b (settingStops σ .second))) (not (eqb b 0)) f)
 
   free-keep : (t : List ℕ) → standardStep (σ .backslash) quote (b ∷ t) ≡ keep
   free-keep t = rw (no-escape, no-quote)
@@ -70,18 +71,20 @@ module _ (σ : Settings) (b : ℕ) (f : freeOf (stopsOf σ) b ≡ true) where
 module _ (σ : Settings) where
   free-plain : (v : List ℕ) → freeBody σ v ≡ true → plain (walk (standardStep (σ .backslash) quote) 0 v) ≡ true
   free-plain [] h = refl
-  free-plain (b ∷ v) h = rw (free-keep σ b (and-left (freeOf (stopsOf σ) b) (freeBody σ v) h) v)
-      (free-plain v (and-right (freeOf (stopsOf σ) b) (freeBody σ v) h))
+  free-plain (b ∷ v) h = rw (free-keep σ b (and-left (freeOf (settingStops σ) b) (freeBody σ v) h) v)
+      (free-plain v (and-right (freeOf (settingStops σ) b) (freeBody σ v) h))
 
   free-spells : (v : List ℕ) → freeBody σ v ≡ true → spells (σ .backslash) v ≡ v
   free-spells [] h = refl
   free-spells (b ∷ v) h =
-      rw (free-spell σ b (and-left (freeOf (stopsOf σ) b) (freeBody σ v) h)) (ap (b ∷_) (free-spells v (and-right (freeOf (stopsOf σ) b) (freeBody σ v) h)))
+      rw (free-spell σ b (and-left (freeOf (settingStops σ) b) (freeBody σ v) h))
+      (ap (b ∷_) (free-spells v (and-right (freeOf (settingStops σ) b) (freeBody σ v) h)))
 
   free-nul : (v : List ℕ) → freeBody σ v ≡ true → has 0 v ≡ false
   free-nul [] h = refl
   free-nul (b ∷ v) h =
-      rw (eqb-sym 0 b ∙ no-nul σ b (and-left (freeOf (stopsOf σ) b) (freeBody σ v) h)) (free-nul v (and-right (freeOf (stopsOf σ) b) (freeBody σ v) h))
+      rw (eqb-sym 0 b ∙ no-nul σ b (and-left (freeOf (settingStops σ) b) (freeBody σ v) h))
+      (free-nul v (and-right (freeOf (settingStops σ) b) (freeBody σ v) h))
 
   -- between two marks
   module _ (v : List ℕ) (h : freeBody σ v ≡ true) where
@@ -151,7 +154,7 @@ module _ (σ : Settings) (t : List ℕ) (x : Bool) (e : x ≡ encloses 0 quote t
   unfolding isPlain
   plain-not y = rw (sym e ∙ not-true x y)
 
-  pub plain-by : not x ≡ false → (k : Stops) → k ≡ stopsOf σ → (r : Bool)
+  pub plain-by : not x ≡ false → (k : Stops) → k ≡ settingStops σ → (r : Bool)
       → r ≡ passes (freeOf k) (length (take (length t - 1 - 1) (drop 1 t))) (take (length t - 1 - 1) (drop 1 t)) → r ≡ isPlain σ t
   unfolding isPlain
   plain-by y k ek r er = er ∙ rw ek (sym (rw (sym e ∙ not-false x y)))
@@ -189,7 +192,7 @@ made : (b s : ℕ) → eqb b quote ≡ false → eqb b s ≡ false → eqb b 0 �
 unfolding freeOf
 made b s p q r = rw (p, q, r)
 
-on-byte : (σ : Settings) (b : ℕ) → freeOf (stopsOf on) b ≡ true → freeOf (stopsOf σ) b ≡ true
+on-byte : (σ : Settings) (b : ℕ) → freeOf (settingStops on) b ≡ true → freeOf (settingStops σ) b ≡ true
 on-byte σ b f = go (σ .backslash) (no-quote on b f) (no-escape on b f) (no-nul on b f)
   where
     go : (x : Bool) → eqb b quote ≡ false → eqb b backslash ≡ false → eqb b 0 ≡ false
@@ -200,7 +203,7 @@ on-byte σ b f = go (σ .backslash) (no-quote on b f) (no-escape on b f) (no-nul
 on-free : (σ : Settings) (v : List ℕ) → freeBody on v ≡ true → freeBody σ v ≡ true
 on-free σ [] h = refl
 on-free σ (b ∷ v) h =
-    rw (on-byte σ b (and-left (freeOf (stopsOf on) b) (freeBody on v) h)) (on-free σ v (and-right (freeOf (stopsOf on) b) (freeBody on v) h))
+    rw (on-byte σ b (and-left (freeOf (settingStops on) b) (freeBody on v) h)) (on-free σ v (and-right (freeOf (settingStops on) b) (freeBody on v) h))
 
 pub plain-some : (t : List ℕ) (n : ℕ) → PlainAt t n → (n ≡ 0 → ⊥) → Plainly t n
 plain-some t zero p z = absurd (z refl)
@@ -288,7 +291,7 @@ pub plain-found : (t : List ℕ) (at : ℕ) → at < length t → t ! at ≡ 39 
     → run ≡ span (freeOf (record { first = 39; second = 92; third = 0 })) (drop (at + 1) t)
     → (b : ℕ) → b ≡ t ! (at + 1 + run) → b ≡ 39 → (d : ℕ) → d ≡ t ! (at + 1 + run + 1) → (d ≡ 39 → ⊥) → PlainAt (drop at t) (run + 2)
 plain-found t at h m run er b eb qb d ed nd =
-    let f = freeOf (stopsOf on) in
+    let f = freeOf (settingStops on) in
     let i : at + 1 + run < length t = mark-inside t (at + 1 + run) b eb qb in
     let pass : passes f run (drop (at + 1) t) ≡ true = ap (λ (k : ℕ). passes f k (drop (at + 1) t)) er ∙ span-passes f (drop (at + 1) t) in
     let z : suc at ≡ at + 1 = omega arith in

@@ -16,11 +16,11 @@ use Rattle.cutting.specs.declared.cursor.Next.the-variants as Next′
 use Rattle.cutting.specs.Segments.{nextOf}
 use Rattle.strings.specs.declared.plain.Cut.{Cut}
 
-abbrev pub stopsOf : Settings → Stops
-stopsOf σ = record { first = quote; second = if σ .backslash then backslash else quote; third = 0 }
+abbrev pub settingStops : Settings → Stops
+settingStops σ = record { first = quote; second = if σ .backslash then backslash else quote; third = 0 }
 
 abbrev pub freeBody : Settings → List ℕ → Bool
-freeBody σ v = passes (freeOf (stopsOf σ)) (length v) v
+freeBody σ v = passes (freeOf (settingStops σ)) (length v) v
 
 unfoldable pub isPlain : Settings → List ℕ → Bool
 isPlain σ t = encloses 0 quote t && freeBody σ (part 1 (length t - 1) t)

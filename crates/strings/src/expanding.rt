@@ -1,13 +1,11 @@
 // A body's value by one pass, for a body so short that its value fits a small buffer of the caller's own: what cannot be read so is left to the two passes.
 use crate::writing::put_piece;
-use escapes::pieces::Piece;
+use escapes::pieces::is_keep;
 use escapes::pieces::turn_more;
 use escapes::units::Family;
 use escapes::units::run_stops;
 use escapes::units::unit_at;
-ghost use mathlib.Core.Path.{_≡_};
 ghost use Rattle.meaning.specs.Walk.{walk};
-ghost use Rattle.escapes.specs.Pieces.{isKeep};
 ghost use Rattle.escapes.specs.Families.{stepOf};
 ghost use Rattle.strings.specs.Expanding.{Expands};
 
@@ -15,16 +13,6 @@ ghost use Rattle.strings.specs.Expanding.{Expands};
 pub(crate) enum Expanded {
     Nothing,
     All { len: usize, plain: bool },
-}
-
-// Whether a turn's bytes stand for themselves.
-fn is_run(piece: Piece) -> bool
-    ensures { λ r. ⌜ r ≡ isKeep piece ⌝ }
-{
-    if let Piece::Keep = piece {
-        return true;
-    }
-    false
 }
 
 // Puts a body's value at the buffer's start. A unit that is refused, one that stands for nothing and one for which there is no room all end it.
@@ -43,7 +31,7 @@ pub(crate) fn expand(body: &[u8], family: Family, escape: &[u8], out: &mut [u8])
         if put == 0 {
             return Expanded::Nothing;
         }
-        plain = plain & is_run(piece);
+        plain = plain & is_keep(piece);
         n += put;
         at = end;
     }

@@ -11,7 +11,7 @@ use meaning::Settings;
 use spaces::gap_at;
 ghost use mathlib.Core.Path.{_≡_};
 ghost use lib.ListN.{drop};
-ghost use Rattle.strings.specs.Plain.{stopsOf, isPlain, PlainAt, CutAt, GoesOn};
+ghost use Rattle.strings.specs.Plain.{settingStops, isPlain, PlainAt, CutAt, GoesOn};
 
 // What stands at a cursor, and whether it was found to be a plain segment: then nobody has to look at its body again.
 pub(crate) struct Cut {
@@ -21,7 +21,7 @@ pub(crate) struct Cut {
 
 // The bytes that such a body may not hold: the mark, with the setting on the backslash, and NUL.
 fn plain_stops(settings: Settings) -> Stops
-    ensures { λ r. ⌜ r ≡ stopsOf settings ⌝ }
+    ensures { λ r. ⌜ r ≡ settingStops settings ⌝ }
 {
     if settings.backslash {
         return Stops {

@@ -22,11 +22,11 @@ sub-keep c = omega arith
 loop-holds : tie.Need-loop-holds Inv-loop μ-loop
 loop-holds c = search carry-start
 
-shared-slice-read-digit-of : tie.Need-shared-slice-read-digit-of Inv-loop μ-loop
-shared-slice-read-digit-of c = omega arith
+shared-slice-read-loose-digit : tie.Need-shared-slice-read-loose-digit Inv-loop μ-loop
+shared-slice-read-loose-digit c = omega arith
 
-digit-of-requires : tie.Need-digit-of-requires Inv-loop μ-loop
-digit-of-requires c κs = search needs
+loose-digit-requires : tie.Need-loose-digit-requires Inv-loop μ-loop
+loose-digit-requires c κs = search needs
 
 cast-d : tie.Need-cast-d Inv-loop μ-loop
 cast-d c = search needs
@@ -93,8 +93,8 @@ read-halves-spec =
     μ-loop
     sub-keep
     loop-holds
-    shared-slice-read-digit-of
-    digit-of-requires
+    shared-slice-read-loose-digit
+    loose-digit-requires
     cast-d
     shr-lost
     returns

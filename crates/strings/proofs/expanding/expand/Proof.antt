@@ -37,7 +37,7 @@ fits c =
     expanded-fits (s .family) (now (s .escape)) (now (s .body)) (now (s .out)) (c .before .before .before .loop .inv) (c .before .before .loop-test .taken) _
     (c .before .unit-at .ensures) _ (more c)
 
-room : (c : tie.After-is-run Inv-loop μ-loop)
+room : (c : tie.After-is-keep Inv-loop μ-loop)
     → c .before .before .before .before .before .before .before .before .before .before .loop .n + c .before .before .before .before .put-piece .result
     ≤ length (c .before .before .before .before .before .before .before .before .before .before .loop .out)
 room c =
@@ -96,8 +96,8 @@ same-length c = c .before .before .out .given .1 ∙ c .before .before .before .
 returns : tie.Need-returns Inv-loop μ-loop
 returns c = tt
 
-is-run-requires : tie.Need-is-run-requires Inv-loop μ-loop
-is-run-requires c κs = search needs
+is-keep-requires : tie.Need-is-keep-requires Inv-loop μ-loop
+is-keep-requires c κs = search needs
 
 add-n : tie.Need-add-n Inv-loop μ-loop
 add-n c = omega (arith, room c)
@@ -113,7 +113,7 @@ loop-again c =
     (c .before .before .before .before .before .before .before .before .before .loop-test .taken) _
     (c .before .before .before .before .before .before .before .before .unit-at .ensures) _
     (more (c .before .before .before .before .before .before .before)) _ _ (c .before .before .before .before .put-piece .ensures) (c .before .if1 .left) _
-    (c .is-run .ensures)
+    (c .is-keep .ensures)
 
 same-length-2 : tie.Need-same-length-2 Inv-loop μ-loop
 same-length-2 c = c .before .loop .inv .writing .same
@@ -143,7 +143,7 @@ expand-spec =
     put-piece-requires
     same-length
     returns
-    is-run-requires
+    is-keep-requires
     add-n
     loop-less
     loop-again

@@ -21,7 +21,8 @@ abbrev μ-loop : tie.MeasureT-loop
 
 -- a run is there, and not empty; and the buffer's part from n on
 run-in : (c : tie.After-free-run Inv-loop μ-loop)
-    → c .before .before .before .before .loop .at + c .free-run .result ≤ length (now (c .before .before .before .before .before .before .before .before .before .args .body))
+    → c .before .before .before .before .loop .at + c .free-run .result
+    ≤ length (now (c .before .before .before .before .before .before .before .before .before .args .body))
 run-in c = run-inside _ _ _ (c .before .before .before .before .loop .inv .so-far .inside) _ (c .free-run .ensures)
 
 some : (c : tie.After-free-run Inv-loop μ-loop) → 8 ≤ c .free-run .result
@@ -50,7 +51,8 @@ run c =
     run-written (s .mark) _ (c .before .before .before .before .before .before .before .before .before .mark-byte .ensures) (s .backslash) (now (s .body))
     (now (s .out)) (c .before .before .before .before .before .before .before .before .before .before .before .before .pre)
     (c .before .before .before .before .before .before .before .loop .inv) (now (s .body)) _
-    (c .before .before .before .before .before .before .before .before .run-stops .ensures) _ (c .before .before .before .free-run .ensures) _ _ (c .put-bytes .ensures)
+    (c .before .before .before .before .before .before .before .before .run-stops .ensures) _ (c .before .before .before .free-run .ensures) _ _
+    (c .put-bytes .ensures)
 
 pair : (c : tie.After-put-pair Inv-loop μ-loop)
     → let s = c .before .before .before .before .before .before .before .before .before .before .before .before .before .before .before .args in
