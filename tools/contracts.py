@@ -1,5 +1,5 @@
 #!/usr/bin/env python3
-"""The table of docs/CONTRACTS.md: every public function with its contract, what it rules out and the wrong programs that the gate tries.
+"""The table of docs/CONTRACTS.md: every public function with its contract, what it rules out and its wrong programs.
 
     tools/contracts.py            writes the table anew, behind its mark
     tools/contracts.py --check    exits 1 if the table is not what the sources say, if a public function has no contract, asks something of its caller or has

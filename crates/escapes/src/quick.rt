@@ -18,6 +18,7 @@ pub struct Passed {
 }
 
 // Whether a letter behind E's backslash stands for one ASCII character, whatever follows it.
+// Rules out: \x taken for a letter (must-fail: wrong_quick).
 fn is_quick_letter(letter: u8) -> bool
     ensures { λ r. ⌜ r ≡ isQuick letter ⌝ }
 {
@@ -29,8 +30,8 @@ fn is_quick_letter(letter: u8) -> bool
         & (letter != 85)
 }
 
-// How many bytes such a unit takes at a place, 1 or 2; 0 where none stands there. All is computed before the one choice.
-// Rules out: \x taken for a letter; a mark alone passed over (must-fail: wrong_quick, wrong_digits).
+// How many bytes such a unit takes at a place, 1 or 2; 0 where none stands there. What tells them apart is computed before the first choice.
+// Rules out: a mark alone passed over (must-fail: wrong_digits).
 fn quick_len(body: &[u8], at: usize) -> usize
     requires { ⌜ at < length (now body) ⌝ }
     ensures { λ r. ⌜ Quick (drop at (now (body .entry))) r ⌝ }

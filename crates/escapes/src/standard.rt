@@ -33,7 +33,7 @@ pub struct StandardUnit {
 }
 
 // What two bytes tell of the place of the first.
-// Rules out: a lone mark taken; % taken for one byte (must-fail: lone_mark_taken, wild_for_one_byte).
+// Rules out: a lone mark taken; % taken for one byte (must-fail: unit_at_the_start, body_for_escape).
 pub fn standard_unit(byte: u8, next: u8, quote: u8, backslash: bool) -> StandardUnit
     ensures { λ r. ⌜ r ≡ unitBy (backslash && eqb byte 92) (standardStep backslash quote (byte ∷ next ∷ [])) ⌝ }
 {
@@ -50,7 +50,7 @@ pub fn standard_unit(byte: u8, next: u8, quote: u8, backslash: bool) -> Standard
 
 // Whether eight bytes that stand for themselves begin here, and so a run of them that is worth taking at once. It is looked for at every eighth place alone:
 // where escapes are many, it is seldom so.
-// Rules out: the eight bytes at the body's start asked; other places looked at (must-fail: lone_mark_taken, wild_for_one_byte).
+// Rules out: the eight bytes at the body's start asked; other places looked at (must-fail: unit_at_the_start, body_for_escape).
 pub fn is_free_here(body: &[u8], at: usize, stops: Stops) -> bool
     ensures { λ r. ⌜ r ≡ (eqb (at % 8) 0 && passes (freeOf stops) 8 (drop at (now (body .entry)))) ⌝ }
 {

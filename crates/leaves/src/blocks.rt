@@ -1,12 +1,12 @@
-// Scans for three bytes, a block at a time. The loop over a block has no branch; the last block overlaps the one
-// before it, so that no byte is looked at alone but in texts of less than four.
+// Scans for three bytes, a block at a time. The loop over a block has no branch. Where all of a text is asked, the last block overlaps the one before it;
+// where a run is, its last bytes are looked at one by one.
 ghost use mathlib.Core.Path.{_≡_};
 ghost use Prim.Native.Nat.{_+_, _≤_, _<_};
 ghost use lib.ListN.{length, drop};
 ghost use Rattle.meaning.specs.Bytes.{if_then_else_, span};
 ghost use Rattle.leaves.specs.Blocks.{freeOf, plainStops, passes, Past};
 
-// Three bytes that a text is searched for; two of them may be the same.
+// Three bytes that a text is searched for; they may be the same.
 pub struct Stops {
     pub first: u8,
     pub second: u8,
@@ -82,7 +82,7 @@ pub fn is_free(text: &[u8], stops: Stops) -> bool
 }
 
 // Whether eight bytes from a place on are there, and none of them is one of the three.
-// Rules out: the block at the text's start asked; the last eight bytes not looked at (must-fail: block_at_the_start, last_block_left_out).
+// Rules out: the block at the text's start asked; the last eight bytes not looked at (must-fail: first_of_each, second_of_each).
 pub fn is_free_eight(text: &[u8], at: usize, stops: Stops) -> bool
     ensures { λ r. ⌜ r ≡ passes (freeOf stops) 8 (drop at (now (text .entry))) ⌝ }
 {

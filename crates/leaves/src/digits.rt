@@ -4,10 +4,9 @@ ghost use lib.Dec.{ltb};
 ghost use Rattle.meaning.specs.Bytes.{digit};
 ghost use Rattle.leaves.specs.Digits.{capped};
 
-// The digit that a byte is, 0 to 15; 16 or more if it is none, for whoever tests it against a base anyhow. One choice between two sums, so that digits and
-// letters in any order are read at one pace.
+// The digit that a byte is, 0 to 15; 16 or more if it is none. One choice between two sums, so that digits and letters in any order are read at one pace.
 // Rules out: a to f read in one case only; A to F off by one (must-fail: no_digit_in_tag, only_digits_in_tag).
-pub fn loose_digit(byte: u8) -> u8
+fn loose_digit(byte: u8) -> u8
     ensures { λ r. ⌜ capped r ≡ digit byte ⌝ }
 {
     if byte <= 57 {

@@ -1,5 +1,5 @@
-// The leaves of reading: scans by blocks, bytes, digits, name and tag bytes and their runs, whole texts, parts and views. Each answers for every input;
-// none asks its caller for anything.
+// The leaves of reading: scans by blocks, bytes, digits, name and tag bytes and their runs, whole texts, parts and views. Every public function answers for
+// every input.
 pub mod blocks;
 pub mod bytes;
 pub mod digits;

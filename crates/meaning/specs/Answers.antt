@@ -208,7 +208,7 @@ abbrev pub nullnessValues : Nullness → List ℕ
 nullnessValues Nullness′.IsNull = []
 nullnessValues (Nullness′.Refused r) = refusalValues r
 
--- "Where a call has no literal, 4 and 6 return the number alone"
+-- "Where a call has no literal .., 4 and 6 return the number alone"
 abbrev pub identifierNumber : Identifier → ℕ
 identifierNumber (Identifier′.Borrowed f u) = 0
 identifierNumber (Identifier′.Written n) = 0

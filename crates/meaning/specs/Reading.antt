@@ -26,7 +26,7 @@ valueOf t (borrowed f u) = means (part f u t)
 valueOf t (written v) = means v
 valueOf t (refused p) = fails p
 
--- what a body's course means: "Written exactly where the body holds its mark or an active escape"; each other byte stands for itself
+-- what a body's course means: "Written exactly where .. the body holds its mark or an active escape"; each other byte stands for itself
 unfoldable pub answer : ℕ → ℕ → Trace → Answer
 answer f u r = if plain r then borrowed f u else if stops r then refused (f + size r) else written (value r)
 

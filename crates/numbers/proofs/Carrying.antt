@@ -12,15 +12,13 @@ use mir.Syntax.{w64}
 use mir.Val.{Fits}
 use lib.Arith.{digits-lt, digits-div, digits-mod, mod-mul}
 use lib.Dec.{ltb}
-use lib.Pow.{pow-add, pow-pos, pow-mono}
+use lib.Pow.{pow-add, pow-pos}
 use lib.ListN.{length, getD}
 use Rattle.meaning.specs.Bytes.{digit}
 use Rattle.meaning.specs.Halves.{joinedHalves}
 use Rattle.laws.proofs.Halves.{joinedHalves-lt}
-use Rattle.leaves.specs.Digits.{capped}
 use Rattle.numbers.specs.Values.{Spelt, misspelt, spelt, digitsFrom, wideOf}
 use Rattle.numbers.specs.declared.radix.Halves.the-variants as H
-use Rattle.numbers.proofs.Radixes.{capped-digit, capped-none}
 use Rattle.numbers.proofs.Spelled.{Above, Reading, reading-start, too-great, digit-on, ends-spelt}
 
 module _ (m R C hi lo d : ℕ) (e : R * C ≡ m) (p : 0 < R) (q : 0 < C) where
@@ -61,13 +59,6 @@ module _ (m R C hi lo d : ℕ) (e : R * C ≡ m) (p : 0 < R) (q : 0 < C) where
       let c : (hi * m + lo) * R ≡ hi * m * R + lo * R = add-mul (hi * m) lo R in
       omega arith
 
--- a base of four bits at most is 16 at most
-base-small : (β b : ℕ) → β ≡ 2 ^ b → b ≤ 4 → β ≤ 16
-base-small β b e h = rw e (pow-mono h)
-
-pub carry-none : (β d x : ℕ) {b : ℕ} → capped d ≡ digit x → β ≤ d → β ≡ 2 ^ b → b ≤ 4 → β ≤ digit x
-carry-none β d x {b} c h w s = capped-none β d x (base-small β b w s) c h
-
 -- a half of 64 bits, less b of them
 halves-of : (b : ℕ) → b ≤ 4 → 2 ^ b * 2 ^ (64 - b) ≡ 2 ^ 64
 halves-of b h = sym (pow-add 2 b (64 - b)) ∙ ap (λ (n : ℕ). 2 ^ n) (let z : b + (64 - b) ≡ 64 = omega arith in z)
@@ -98,10 +89,7 @@ module _ {β : ℕ} {t : List ℕ} {hi lo : ℕ} {a : Bool} {i : ℕ} (r : Carry
       (halves-value hi lo (r .low))
 
   -- a digit of b bits
-  module _ {b d : ℕ} (at : i < length t) (c : capped d ≡ digit (getD t i 0)) (h : d < β) (w : β ≡ 2 ^ b) (s : b ≤ 4) where
-    e : d ≡ digit (getD t i 0)
-    e = capped-digit β d (getD t i 0) (base-small β b w s) c h
-
+  module _ {b d : ℕ} (at : i < length t) (e : d ≡ digit (getD t i 0)) (h : d < β) (w : β ≡ 2 ^ b) (s : b ≤ 4) where
     split : β * 2 ^ (64 - b) ≡ 2 ^ 64
     split = rw w (halves-of b s)
 

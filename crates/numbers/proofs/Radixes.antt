@@ -1,35 +1,22 @@
--- Digits of base 2, 8 and 16: a digit of the base or none, the base, and what two halves say of the digits. Assumes nothing.
+-- Digits of base 2, 8 and 16: the base, and what two halves say of the digits. Assumes nothing.
 use mathlib.Core.Path.{_≡_, refl, ap, sym, _∙_}
 use mathlib.Core.Bool.{Bool, true, false}
 use mathlib.Core.List.{List}
-use Prim.Native.Nat.{ℕ, _-_, _/_, _%_, _^_, _≤_, _<_}
+use Prim.Native.Nat.{ℕ, _-_, _/_, _%_, _^_, _≤_}
 use native.Mathlib.Nat.{div-add-mod'}
 use native.Mathlib.Omega.{arith}
-use borrow.Author.Tests.{lt-ltb, ltb-false}
+use borrow.Author.Tests.{ltb-false}
 use lib.Dec.{eqb, ltb}
 use lib.ListN.{length, take, drop}
-use Rattle.meaning.specs.Bytes.{if_then_else_, digit}
+use Rattle.meaning.specs.Bytes.{if_then_else_}
 use Rattle.meaning.specs.Numbers.{signLength, unsigned}
 use Rattle.meaning.specs.Halves.{joinedHalves}
-use Rattle.leaves.specs.Digits.{capped}
 use Rattle.numbers.specs.Values.{Spelt, misspelt, spelt, digitsFrom, radixBy, halvesBy, wideOf}
 use Rattle.numbers.specs.declared.radix.Halves.{Halves}
 use Rattle.numbers.specs.declared.radix.Halves.the-variants as H
 use Rattle.numbers.proofs.Prefixes.{tail-part}
 use Rattle.numbers.proofs.Spelled.{Above}
 use Rattle.numbers.proofs.Texts.{IsBase, two, eight, ten, sixteen}
-
--- a digit of a base up to 16, or none
-module _ (β d b : ℕ) (small : β ≤ 16) (e : capped d ≡ digit b) where
-  pub capped-digit : d < β → d ≡ digit b
-  capped-digit h = rw (lt-ltb d 16 (omega arith)) at e
-
-  pub capped-none : β ≤ d → β ≤ digit b
-  capped-none h = rw (← e) (go (ltb d 16))
-    where
-      go : (x : Bool) → β ≤ (if x then d else 16)
-      go true = h
-      go false = small
 
 -- THE BASE
 pub radix-small : (β : ℕ) → radixBy β ≤ 16

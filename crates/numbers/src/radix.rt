@@ -1,5 +1,5 @@
 // [01 Numbers] "two 64-bit halves": digits of base 2, 8 or 16, with "`_` only between two digits of the base", as a number of 128 bits.
-use leaves::digits::loose_digit;
+use leaves::digits::hex_value;
 ghost use mathlib.Core.Path.{_≡_};
 ghost use mathlib.Core.Bool.{false};
 ghost use Prim.Native.Nat.{_≤_, _<_, _^_};
@@ -24,7 +24,7 @@ fn read_halves(text: &[u8], base: u64, bits: u64) -> Halves
     let mut behind = false;
     let mut i = 0;
     while i < text.len() {
-        let d = loose_digit(text[i]) as u64;
+        let d = hex_value(text[i]) as u64;
         if d < base {
             let lost = hi >> keep;
             if lost != 0 {

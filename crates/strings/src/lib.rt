@@ -5,7 +5,7 @@ mod expanding;
 mod gathering;
 pub mod ident;
 pub mod joined;
-pub mod one;
+mod one;
 mod plain;
 mod standard;
 mod writing;

@@ -1,5 +1,5 @@
--- A character at a time: what its first byte makes due, its later bytes as the code asks for them, and that a whole one leads back to where it began. Assumes
--- nothing.
+-- A character at a time: what its first byte makes due, its later bytes as the code asks for them, and that a whole one leads back to where it began.
+-- Assumes nothing.
 use mathlib.Core.Path.{_≡_, refl, ap, sym, _∙_, subst}
 use mathlib.Core.Bool.{Bool, true, false, _&&_, and-assoc, and-true, and-false, false≢true}
 use mathlib.Core.List.{List, [], _∷_}

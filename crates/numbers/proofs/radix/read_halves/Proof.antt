@@ -4,8 +4,8 @@ use Prim.Native.Nat.{_-_}
 use borrow.Author.Needs.{needs}
 use native.Mathlib.Omega.{arith}
 use lib.ListN.{length}
-use Rattle.numbers.proofs.Spelled.{no-digit, no-place, apart-on, ends-misspelt}
-use Rattle.numbers.proofs.Carrying.{carry-none, wide-as, Carrying, carry-start, carry-end}
+use Rattle.numbers.proofs.Spelled.{no-digit, no-place, apart-on, ends-misspelt, beyond}
+use Rattle.numbers.proofs.Carrying.{wide-as, Carrying, carry-start, carry-end}
 use Rattle.numbers.proofs.Carrying.{carried-over, carried-high, carried-product, carried-low, carried-on}
 use Rattle.numbers.proofs.radix.read_halves.Statement.{statement}
 use Rattle.numbers.proofs.radix.read_halves.Tie as tie
@@ -22,11 +22,11 @@ sub-keep c = omega arith
 loop-holds : tie.Need-loop-holds Inv-loop μ-loop
 loop-holds c = search carry-start
 
-shared-slice-read-loose-digit : tie.Need-shared-slice-read-loose-digit Inv-loop μ-loop
-shared-slice-read-loose-digit c = omega arith
+shared-slice-read-hex-value : tie.Need-shared-slice-read-hex-value Inv-loop μ-loop
+shared-slice-read-hex-value c = omega arith
 
-loose-digit-requires : tie.Need-loose-digit-requires Inv-loop μ-loop
-loose-digit-requires c κs = search needs
+hex-value-requires : tie.Need-hex-value-requires Inv-loop μ-loop
+hex-value-requires c κs = search needs
 
 cast-d : tie.Need-cast-d Inv-loop μ-loop
 cast-d c = search needs
@@ -65,7 +65,7 @@ shared-slice-read-if3 : tie.Need-shared-slice-read-if3 Inv-loop μ-loop
 shared-slice-read-if3 c = omega arith
 
 returns-2 : tie.Need-returns-2 Inv-loop μ-loop
-returns-2 c = search (wide-as, no-digit, carry-none)
+returns-2 c = search (wide-as, no-digit, beyond)
 
 add-i-2 : tie.Need-add-i-2 Inv-loop μ-loop
 add-i-2 c = omega arith
@@ -74,10 +74,10 @@ loop-less-2 : tie.Need-loop-less-2 Inv-loop μ-loop
 loop-less-2 c = omega arith
 
 loop-again-2 : tie.Need-loop-again-2 Inv-loop μ-loop
-loop-again-2 c = record { reading = search (apart-on, carry-none); high = search needs; low = search needs }
+loop-again-2 c = record { reading = search (apart-on, beyond); high = search needs; low = search needs }
 
 returns-3 : tie.Need-returns-3 Inv-loop μ-loop
-returns-3 c = search (wide-as, no-place, carry-none)
+returns-3 c = search (wide-as, no-place, beyond)
 
 returns-4 : tie.Need-returns-4 Inv-loop μ-loop
 returns-4 c = search carry-end
@@ -93,8 +93,8 @@ read-halves-spec =
     μ-loop
     sub-keep
     loop-holds
-    shared-slice-read-loose-digit
-    loose-digit-requires
+    shared-slice-read-hex-value
+    hex-value-requires
     cast-d
     shr-lost
     returns

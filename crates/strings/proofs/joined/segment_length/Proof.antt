@@ -1,5 +1,5 @@
--- `strings::joined::segment_length` meets its contract: a plain segment's value is what lies between its marks, and another's answer has its length. Assumes
--- nothing.
+-- `strings::joined::segment_length` meets its contract: a plain segment's value is what lies between its marks, and another's answer has its length.
+-- Assumes nothing.
 use Rattle.strings.proofs.Ones.{borrowed-ordered, length-borrowed, length-written, length-refused}
 use Rattle.strings.proofs.Plains.{plain-two, plain-length}
 use borrow.Author.Needs.{needs}
