@@ -51,7 +51,7 @@ fn next_tail(checked: bool, tail: Utf8Tail, piece: Piece, part: &[u8], escape: &
 }
 
 // What a body's value is: the body itself, so many bytes, or the place of the unit at which reading stops.
-// Rules out: a body with a doubled mark called plain; a byte passed over behind each unit (must-fail: escaped_is_plain, unit_one_longer).
+// Rules out: a body with a doubled mark called plain; what was passed over counted twice (must-fail: escaped_is_plain, passed_read_again).
 pub fn measure(body: &[u8], family: Family, escape: &[u8]) -> Measured
     ensures { λ r. ⌜ r ≡ measuredOf (courseOf family (now (escape .entry)) (now (body .entry))) ⌝ }
 {
