@@ -110,7 +110,7 @@ pub(crate) fn six_at(body: &[u8], at: usize) -> u32
 }
 
 // The number that eight hex digits at a place make; 0 where they are not there.
-// Rules out: the first four digits read twice (must-fail: counted_twice).
+// Rules out: some of the first four digits read twice (must-fail: counted_twice).
 pub(crate) fn eight_at(body: &[u8], at: usize) -> u32
     ensures { λ r. ⌜ r ≡ hexBy 8 (drop at (now (body .entry))) ⌝ }
 {

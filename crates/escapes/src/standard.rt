@@ -68,7 +68,7 @@ pub struct Ahead {
 }
 
 // Measures a standard body up to its last byte, or up to a mark that stands alone; whoever asks looks at what is left.
-// Rules out: a run counted from behind its first byte (must-fail: run_behind_its_first).
+// Rules out: the run of another place counted (must-fail: run_of_another_place).
 fn measure_ahead(body: &[u8], mark: Mark, backslash: bool) -> Ahead
     ensures { λ r. ⌜ Measuring (standardStep backslash (markOf mark)) false (now (body .entry)) (r .at) (r .n) (r .plain) fresh ⌝ }
 {
