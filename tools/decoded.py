@@ -1,45 +1,96 @@
 #!/usr/bin/env python3
-"""Runs target/bin/decode on every string of the vectors at the setting off, and compares what it writes with the row's answer.
+"""Makes a list of the vectors' strings, at both settings, has Rattle's compiled program `keys` decode it, and compares each line with the row's answer.
 
-Rows whose text is no UTF-8 are left out: refusal 4 is the question's, and the program reads a bare text. Ends with status 1 if a row differs."""
+    tools/decoded.py
+
+The list is target/lists/vectors.txt. A row of the vectors is in it where its literal's text can be a line of a list, and means there what it means in its
+source: a text that is refused by its place in a larger source is left out, and so is one that is refused for want of room. Where the host's own `keys` is
+built, it must print the same for the list, byte for byte. Status 1 if a row differs, or none is asked.
+"""
+import collections
 import pathlib
+import re
 import subprocess
 import sys
 
-ROOT = pathlib.Path(__file__).parent.parent
+ROOT = pathlib.Path(__file__).resolve().parent.parent
+LIST = ROOT / 'target/lists/vectors.txt'
+HOST = ROOT / 'target/host/release/examples/keys'
+# What is asked of a row of the vectors: its text and setting, and what its line has to say.
+Asked = collections.namedtuple('Asked', 'identity text setting due')
 
 
-def rows():
-    for name in ("oracle", "clarified"):
-        for line in (ROOT / f"vectors/{name}.tsv").read_text().splitlines():
-            if not line.startswith("#"):
-                yield line.split("\t")
+def vectors():
+    for name in ('oracle', 'clarified'):
+        for line in (ROOT / f'vectors/{name}.tsv').read_text().splitlines():
+            if not line.startswith('#'):
+                yield line.split('\t')
 
 
-def expected(answer, source):
-    """What the program writes, or None where it must refuse."""
+def shown(value):
+    """A key as `keys` shows it: control characters and the opening mark by their numbers."""
+    return re.sub('[\0-\x1f\x7f-\x9f‹]', lambda found: f'‹{ord(found[0]):02X}›', value.decode()).encode()
+
+
+def due(answer, source):
+    """What stands in the line behind its number, as a pattern."""
     case, *values = answer.split()
-    if case == "b":
-        return source[int(values[0]):int(values[1])] + b"\n"
-    if case == "w":
-        return (b"" if values[0] == "-" else bytes.fromhex(values[0])) + b"\n"
-    return None
+    if case == 'r':
+        return rb'refused: .* \(number %s\)' % values[0].encode()
+    if case == 'b':
+        return re.escape(shown(source[int(values[0]):int(values[1])]))
+    return re.escape(shown(b'' if values[0] == '-' else bytes.fromhex(values[0])))
 
 
-def agrees(wrote, want):
-    return wrote.startswith(b"refused at byte ") if want is None else wrote == want
+def is_row(text):
+    """Whether a text can be a line, and is a row then: no empty line, no comment, no setting."""
+    return text and b'\n' not in text and not text.endswith(b'\r') and not text.lstrip(b' \t\r\f').startswith(b'--')
 
 
-asked = different = 0
-for identity, question, kind, setting, start, end, source, _, answer in rows():
-    if (question, kind, setting) != ("string", "4", "0") or source == "-" or answer.startswith(("r 3", "r 4", "r 9")):
-        continue
-    source = bytes.fromhex(source)
-    text = source[int(start):int(end)]
-    wrote = subprocess.run([ROOT / "target/bin/decode"], input=text, capture_output=True, check=True).stdout
-    asked += 1
-    if not agrees(wrote, expected(answer, source)):
-        different += 1
-        print(f"{identity}: {text!r}: {answer} is due, the program wrote {wrote!r}")
-print(f"{asked} rows asked, {different} different")
-sys.exit(1 if different or not asked else 0)
+def asked():
+    for identity, question, kind, setting, start, end, source, _, answer in vectors():
+        if (question, kind) != ('string', '4') or source == '-' or answer.startswith('r 9'):
+            continue
+        source, start, end = bytes.fromhex(source), int(start), int(end)
+        # By 3 a text can be refused for what stands around it, or for not being there.
+        if is_row(source[start:end]) and (not answer.startswith('r 3') or (start, end) == (0, len(source))):
+            yield Asked(identity, source[start:end], setting, due(answer, source))
+
+
+def lines(rows):
+    """The list's lines, each with its row; a setting has none."""
+    for setting, name in (('0', b'off'), ('1', b'on')):
+        yield b'-- backslash ' + name, None
+        yield from ((row.text, row) for row in rows if row.setting == setting)
+
+
+def keys(*command):
+    with LIST.open('rb') as list_:
+        return subprocess.run(command, stdin=list_, capture_output=True)
+
+
+def main():
+    rows = list(asked())
+    listed = list(lines(rows))
+    LIST.parent.mkdir(parents=True, exist_ok=True)
+    LIST.write_bytes(b''.join(text + b'\n' for text, _ in listed))
+    run = keys(ROOT / 'tools/start', 'keys')
+    if run.returncode != 0:
+        sys.exit(f'keys ended with status {run.returncode}: {run.stderr.decode()}')
+    said = iter(run.stdout.split(b'\n'))
+    different = 0
+    for at, (text, row) in enumerate(listed, 1):
+        if row:
+            line = next(said, b'')
+            if not re.fullmatch(b'%6d  %s' % (at, row.due), line):
+                different += 1
+                print(f'{row.identity}: {text!r}: {row.due!r} is due, keys printed {line!r}')
+    print(f'{len(rows)} rows asked, {different} different')
+    same = not HOST.exists() or keys(HOST).stdout == run.stdout
+    if HOST.exists():
+        print('the host\'s keys prints the same' if same else 'the host\'s keys prints something else')
+    return 0 if rows and not different and same else 1
+
+
+if __name__ == '__main__':
+    sys.exit(main())

@@ -1,16 +1,17 @@
 #!/usr/bin/env python3
-"""Makes the sample lists host/lists/ward.txt and wholesale.txt, and beside each, in .doubles, which products stand in it twice.
+"""Makes the sample lists host/lists/ward.txt and wholesale.txt, and beside each, in .doubles, which products stand in it twice; and the ward list with its keys as what the crate `keys` is run on.
 
     tools/lists.py SEED          writes them; the same seed gives the same bytes
     tools/lists.py --check       makes them again by the seed that the ward list names; status 1 if a file differs
-    tools/lists.py --keys NAME   what the example `keys` has to print for a list, by the same seed
+    tools/lists.py --keys NAME   what `keys`, the host's and Rattle's, has to print for a list, by the same seed
 
 Each row spells a product that is chosen before it is spelled. So which key each row has, and which rows are doubled, is known here with nothing decoded.
 """
 import pathlib
 import sys
 
-LISTS = pathlib.Path(__file__).parent.parent / 'host' / 'lists'
+ROOT = pathlib.Path(__file__).parent.parent
+LISTS, KEYS = ROOT / 'host' / 'lists', ROOT / 'crates' / 'keys'
 
 SUBSTANCES = ('Aciclovir Allopurinol Amlodipine Amoxicillin Atorvastatin Azithromycin Bisoprolol Budesonide Candesartan Cetirizine Ciprofloxacin Citalopram '
               'Clopidogrel Diclofenac Digoxin Doxycycline Enalapril Fluconazole Furosemide Gabapentin Ibuprofen Lamotrigine Loratadine Losartan Metformin '
@@ -290,7 +291,8 @@ class List:
         return ''.join(f'{line:6}  {product}\n' for line, product in self.lines()) + self.doubles()
 
     def files(self):
-        return {LISTS / f'{self.name}.txt': self.text(), LISTS / f'{self.name}.doubles': self.doubles()}
+        own = {LISTS / f'{self.name}.txt': self.text(), LISTS / f'{self.name}.doubles': self.doubles()}
+        return own | {KEYS / 'stdin': self.text(), KEYS / 'stdout': self.keys()} if self.name == 'ward' else own
 
 
 def seed_said():

@@ -122,7 +122,7 @@ def spelled(text):
 
 
 def stated(answer, text, bare):
-    """a manual's answer in the words of the other files: the value of a borrowed one stands in the text just once"""
+    """an answer in the words of the other files: the value of a borrowed one stands in the text just once"""
     case, _, value = answer.partition(' ')
     data = spelled(value)
     if case == 'b':
@@ -130,15 +130,17 @@ def stated(answer, text, bare):
         return f'b {text.index(data)} {text.index(data) + len(data)}'
     if case == 'w':
         return f'w {data.hex() or "-"}'
-    if case == 'r':
-        return answer if bare else f'{answer} 0 {len(text)}'
+    if case == 'r' and value.isdigit() and not bare:
+        return f'{answer} 0 {len(text)}'
     return answer
 
 
-def manuals():
-    for section, name, question, kind, setting, text, answer in lines('manuals'):
-        data = spelled(text)
-        yield f'manuals, {section}', Row(f'{section}, {name}', question, kind, setting, 0, len(data), data, stated(answer, data, kind == '0'))
+def readable(file):
+    """the rows of a file that is written by hand; for the writer the kind's column has the part size"""
+    for section, name, question, kind, setting, text, answer in lines(file):
+        data, written = spelled(text), question == 'writer'
+        start, end = (kind, 0) if written else (0, len(data))
+        yield f'{file}, {section}', Row(f'{section}, {name}', question, kind, setting, start, end, data, stated(answer, data, written or kind == '0'))
 
 
 def is_utf8(data):
@@ -187,8 +189,9 @@ def sequences():
 def all_rows():
     yield from sorted(listed('oracle'), key=lambda r: QUESTIONS.index(r[1].question))
     yield from sorted(listed('clarified'), key=lambda r: QUESTIONS.index(r[1].question))
-    yield from manuals()
+    yield from readable('manuals')
     yield from sequences()
+    yield from readable('examples')
 
 
 def blocks(rows):

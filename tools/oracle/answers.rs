@@ -37,8 +37,8 @@ fn text(source: &str, found: Cow<'_, str>) -> String {
     }
 }
 
-fn refusal(code: u32, error: &LiteralValueError) -> String {
-    let (number, first, second) = codes::refusal(code, error);
+fn refusal(error: &LiteralValueError) -> String {
+    let (number, first, second) = codes::refusal(error);
     format!("r {number} {first} {second}")
 }
 
@@ -50,7 +50,7 @@ fn asked(question: &str, code: u32, on: bool, start: u32, end: u32, source: &str
     let literal = || Literal { kind: codes::kind(code), meta: Meta { span: Span::over(start, end) } };
     let told = |answer: Result<Cow<'_, str>, LiteralValueError>| match answer {
         Ok(found) => text(source, found),
-        Err(error) => refusal(code, &error),
+        Err(error) => refusal(&error),
     };
     match question {
         "string" => told(literal().as_str_in(source, StringLiteralSyntax { backslash_escapes: on })),
@@ -63,19 +63,19 @@ fn asked(question: &str, code: u32, on: bool, start: u32, end: u32, source: &str
         "charset" => match literal().charset_introducer(source) {
             Ok(Some(name)) => part(source, name),
             Ok(None) => "n".to_string(),
-            Err(error) => refusal(code, &error),
+            Err(error) => refusal(&error),
         },
         "i64" => match literal().as_i64(source) {
             Ok(value) => format!("i {value}"),
-            Err(error) => refusal(code, &error),
+            Err(error) => refusal(&error),
         },
         "bool" => match literal().as_bool() {
             Ok(value) => truth(value),
-            Err(error) => refusal(code, &error),
+            Err(error) => refusal(&error),
         },
         "null" => match literal().as_null() {
             Ok(()) => truth(true),
-            Err(error) => refusal(code, &error),
+            Err(error) => refusal(&error),
         },
         "isnull" => truth(literal().is_null()),
         "ident" => match materialize_unicode_ident(source) {

@@ -48,11 +48,19 @@ fn main() {{
 '''
 
 
+def literal_rs():
+    source = os.environ.get('VALDRABUS_RUST_SRC', os.path.join(ROOT, '..', 'shared', 'docs', 'src'))
+    return os.path.abspath(os.path.join(source, LITERAL))
+
+
+def at_hand():
+    return os.path.exists(literal_rs())
+
+
 @functools.cache
 def build():
-    source = os.environ.get('VALDRABUS_RUST_SRC', os.path.join(ROOT, '..', 'shared', 'docs', 'src'))
-    literal = os.path.abspath(os.path.join(source, LITERAL))
-    if not os.path.exists(literal):
+    literal = literal_rs()
+    if not at_hand():
         sys.exit('literal.rs is not there: set VALDRABUS_RUST_SRC to the folder that holds crates/squonk-ast')
     folder = os.path.join(ROOT, 'target', 'oracle')
     os.makedirs(folder, exist_ok=True)

@@ -1,0 +1,10 @@
+pub mod Newest
+pub mod Keys
+pub mod Tables
+pub mod Sums
+pub mod Clearing
+pub mod Searching
+pub mod OneRow
+pub mod AllRows
+pub mod Theorems
+pub mod Cases

@@ -1,0 +1,144 @@
+// The products that stand in several rows: `doubles::find_before` tells of each row the newest row before it that has its key.
+use crate::rows::State;
+use crate::rows::one_more;
+use crate::rows::put_number;
+use crate::said::say;
+use crate::said::say_number;
+use crate::shown::say_key;
+use doubles::find_before;
+use doubles::key_at;
+
+// How many rows there are whose key did not stand before, and how many of these keys stand again.
+pub(crate) struct Counts {
+    pub products: usize,
+    pub doubled: usize,
+}
+
+// The first n numbers; all, if there are fewer.
+fn first(numbers: &[usize], n: usize) -> &[usize] {
+    if numbers.len() < n {
+        return numbers;
+    }
+    &numbers[..n]
+}
+
+// The number at a place; 0 past the end.
+fn number_at(numbers: &[usize], at: usize) -> usize {
+    if at < numbers.len() { numbers[at] } else { 0 }
+}
+
+// Links the row before a row, counted from 1, to it; there is none before a first one.
+fn link_on(before: usize, row: usize, after: &mut [usize]) {
+    if before == 0 {
+        return;
+    }
+    put_number(after, before - 1, row);
+}
+
+// Turns the links round: from each row to the next that has its key; 0 for none, since no row is followed by the first.
+fn turn_round(before: &[usize], after: &mut [usize]) {
+    let mut row: usize = 0;
+    while row < before.len() {
+        link_on(before[row], row, after);
+        row += 1;
+    }
+}
+
+// The lines of a row and of the later rows that have its key.
+fn say_lines(row: usize, lines: &[usize], after: &[usize]) {
+    let mut at = row;
+    say_number(b", on lines ", number_at(lines, at));
+    while at < lines.len() {
+        let next = number_at(after, at);
+        if next <= at {
+            return;
+        }
+        say_number(b", ", number_at(lines, next));
+        at = next;
+    }
+}
+
+fn after_product(
+    row: usize,
+    counts: Counts,
+    store: &[u8],
+    ends: &[usize],
+    lines: &[usize],
+    after: &[usize],
+) -> Counts {
+    let mut counted = counts;
+    counted.products = one_more(counts.products);
+    if number_at(after, row) == 0 {
+        return counted;
+    }
+    say(b"doubled: ");
+    say_key(key_at(store, ends, row));
+    say_lines(row, lines, after);
+    say(b"\n");
+    counted.doubled = one_more(counts.doubled);
+    counted
+}
+
+// Each doubled product, in the order of first rows.
+fn say_products(
+    store: &[u8],
+    ends: &[usize],
+    lines: &[usize],
+    before: &[usize],
+    after: &[usize],
+) -> Counts {
+    let mut counts = Counts {
+        products: 0,
+        doubled: 0,
+    };
+    let mut row: usize = 0;
+    while row < ends.len() {
+        if number_at(before, row) == 0 {
+            counts = after_product(row, counts, store, ends, lines, after);
+        }
+        row += 1;
+    }
+    counts
+}
+
+// What the program had no room for.
+fn say_limits(state: State) {
+    if 0 < state.unread {
+        say_number(b"not read: ", state.unread);
+        say(b" rows that are too long\n");
+    }
+    if 0 < state.unkept {
+        say_number(b"not compared: ", state.unkept);
+        say_number(b" rows, from line ", state.unkept_line);
+        say(b" on; their keys are shown above\n");
+    }
+}
+
+fn say_counts(state: State, counts: Counts) {
+    say_number(b"", state.rows);
+    say_number(b" products with doubles, ", counts.products);
+    say_number(b" without; ", counts.doubled);
+    say_number(b" doubled; ", state.refused);
+    say(b" rows refused\n");
+}
+
+fn links() -> [usize; 32768] {
+    [0; 32768]
+}
+
+// Of rows whose keys are kept.
+fn say_kept(store: &[u8], ends: &[usize], lines: &[usize]) -> Counts {
+    let mut heads = links();
+    let mut older = links();
+    let mut before = links();
+    find_before(store, ends, &mut heads, &mut older, &mut before);
+    let mut after = links();
+    turn_round(first(&before, ends.len()), &mut after);
+    say_products(store, ends, lines, &before, &after)
+}
+
+pub(crate) fn report(state: State, store: &[u8], ends: &[usize], lines: &[usize]) {
+    let counts = say_kept(store, first(ends, state.rows), first(lines, state.rows));
+    say_limits(state);
+    say_counts(state, counts);
+}

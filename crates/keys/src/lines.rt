@@ -1,0 +1,110 @@
+// What a line of a list is: a row, a setting, or neither. In a setting case and the blanks around it do not count; in a row they do.
+use leaves::texts::starts_at;
+use leaves::views::part_of;
+ghost use Prim.Native.Nat.{_≤_};
+ghost use lib.ListN.{length};
+
+pub(crate) enum Line {
+    Row,
+    Passed,
+    Backslash(bool),
+    // A comment that can only be meant as a setting.
+    NoSetting,
+}
+
+fn is_blank(byte: u8) -> bool {
+    (byte == 32) | (byte == 9) | (byte == 10) | (byte == 12) | (byte == 13)
+}
+
+// How many blanks stand at a text's front.
+fn front_blanks(text: &[u8]) -> usize {
+    let mut at: usize = 0;
+    while at < text.len() {
+        if !is_blank(text[at]) {
+            return at;
+        }
+        at += 1;
+    }
+    at
+}
+
+// Where a text ends without the blanks behind it.
+fn last_end(text: &[u8]) -> usize {
+    let mut end = text.len();
+    while 0 < end {
+        if !is_blank(text[end - 1]) {
+            return end;
+        }
+        end -= 1;
+    }
+    0
+}
+
+fn trimmed(text: &[u8]) -> &[u8] {
+    part_of(text, front_blanks(text), last_end(text))
+}
+
+fn lower(byte: u8) -> u8 {
+    if byte < 65 {
+        return byte;
+    }
+    if 90 < byte {
+        return byte;
+    }
+    byte + 32
+}
+
+// Whether a text is a word of small letters, in any case.
+fn is_word(text: &[u8], word: &[u8]) -> bool {
+    if text.len() != word.len() {
+        return false;
+    }
+    let mut i: usize = 0;
+    while i < text.len() {
+        if lower(text[i]) != word[i] {
+            return false;
+        }
+        i += 1;
+    }
+    true
+}
+
+// What a comment says.
+fn comment(text: &[u8]) -> Line {
+    if is_word(text, b"backslash on") {
+        return Line::Backslash(true);
+    }
+    if is_word(text, b"backslash off") {
+        return Line::Backslash(false);
+    }
+    if is_word(part_of(text, 0, 9), b"backslash") {
+        return Line::NoSetting;
+    }
+    Line::Passed
+}
+
+fn trimmed_line(line: &[u8], text: &[u8]) -> Line {
+    if starts_at(text, 0, b"--") {
+        return comment(trimmed(part_of(text, 2, text.len())));
+    }
+    if line.len() == 0 {
+        return Line::Passed;
+    }
+    Line::Row
+}
+
+pub(crate) fn line_of(line: &[u8]) -> Line {
+    trimmed_line(line, trimmed(line))
+}
+
+// A line without the CR of a CR LF.
+pub(crate) fn without_cr(line: &[u8]) -> &[u8] {
+    let len = line.len();
+    if len == 0 {
+        return line;
+    }
+    if line[len - 1] == 13 {
+        return &line[..len - 1];
+    }
+    line
+}

@@ -1,0 +1,31 @@
+#!/usr/bin/env python3
+"""Whether the Rust gives what the rows written by hand state: vectors/manuals.tsv and examples.tsv.
+
+    tools/oracle/stated.py
+
+The writer's rows are left out, since the Rust has no writer. Exits 1 if an answer differs. Where literal.rs is not at hand (see oracle.py) it says so and exits 0.
+"""
+import os
+import sys
+
+sys.dont_write_bytecode = True
+sys.path.append(os.path.join(os.path.dirname(os.path.abspath(__file__)), '..'))
+import oracle  # noqa: E402
+import replay  # noqa: E402
+
+
+def main():
+    if not oracle.at_hand():
+        print('literal.rs is not at hand: nothing is asked')
+        return 0
+    rows = [(name, row) for file in ('manuals', 'examples') for name, row in replay.readable(file) if row.question != 'writer']
+    said = oracle.ask([(row.question, row.kind, row.setting, row.start, row.end, row.source) for _, row in rows])
+    wrong = [(row, answer) for (_, row), answer in zip(rows, said) if replay.due(row.source, answer) != (row.number, row.letter, row.values, row.value)]
+    for row, answer in wrong:
+        print(f'{row.name}: the Rust says {answer}')
+    print(f'{len(rows)} rows of manuals.tsv and examples.tsv asked of the Rust, {len(wrong)} different')
+    return 1 if wrong else 0
+
+
+if __name__ == '__main__':
+    sys.exit(main())
