@@ -1,7 +1,7 @@
 /*
  * valdrabus: reads the literals of SQL dumps, and writes plain ones.
  *
- * Link libvaldrabus.a (made by `rt staticlib valdrabus`, x86-64). No function allocates, keeps a pointer, or has any state.
+ * Link libvaldrabus.a (made by `tools/archive`, for x86-64 or Arm). No function allocates, keeps a pointer, or has any state.
  *
  * WHAT THE CALLER OWES, and no more:
  *   - a pointer with a length is valid for that many bytes, for reading, and for writing where it is not const; with the length 0 it is any pointer but NULL;
