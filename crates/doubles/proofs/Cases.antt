@@ -21,6 +21,11 @@ pub befores-computed : table (beforeOf store ends) 6 ≡ 0 ∷ 0 ∷ 1 ∷ 0 ∷
 unfolding beforeOf keyAt partShown
 befores-computed = refl
 
+-- keys of the store ab that do not fit it, past its end and from behind their end, are empty: a, none, none, ab
+pub unfit-computed : table (beforeOf (ascii "ab") (1 ∷ 9 ∷ 0 ∷ 2 ∷ [])) 4 ≡ 0 ∷ 0 ∷ 2 ∷ 0 ∷ []
+unfolding beforeOf keyAt partShown
+unfit-computed = refl
+
 -- the sums of a, b, ab and of no byte: of two buckets, a and ab have one and b and the empty key the other; of one bucket, all have it
 pub links-of-two : table (olderOf store ends 2) 6 ≡ 0 ∷ 0 ∷ 1 ∷ 3 ∷ 2 ∷ 4 ∷ []
 unfolding olderOf headOf bucketAt bucketOf keyAt partShown

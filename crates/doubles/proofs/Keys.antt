@@ -16,7 +16,8 @@ pub start-later : (ends : List ℕ) (i r : ℕ) → (i ≡ 0 → ⊥) → r ≡ 
 start-later ends zero r h e = absurd (h refl)
 start-later ends (suc i) r h e = let z : suc i - 1 ≡ i = omega arith in e ∙ ap (ends !_) z
 
-pub key-part : (store ends : List ℕ) (i from until : ℕ) (key : List ℕ) → from ≡ startOf ends i → until ≡ ends ! i → key ≡ partShown from until store
+pub key-part : (store ends : List ℕ) (i from until : ℕ) (key : List ℕ) → from ≡ startOf ends i → until ≡ ends ! i
+    → key ≡ partShown from until store
     → key ≡ keyAt store ends i
 unfolding keyAt
 key-part store ends i from until key f u e = e ∙ rw (f, u)

@@ -2,9 +2,9 @@
 use mathlib.Core.Bool.{Bool, _&&_}
 use mathlib.Core.Path.{_≡_}
 use mathlib.Core.List.{List, [], _∷_, _++_}
-use Prim.Native.Nat.{ℕ, zero, suc, _+_, _*_, _%_, _<_}
+use Prim.Native.Nat.{ℕ, suc, _+_, _*_, _%_, _<_}
 use lib.Dec.{eqb, leb, ltb}
-use lib.ListN.{length, take, drop, set, getD}
+use lib.ListN.{length, take, drop, set}
 use Rattle.meaning.specs.Bytes.{if_then_else_}
 use Rattle.doubles.specs.Rows.{keyAt, newest, beforeOf, table}
 
@@ -17,6 +17,7 @@ sumFrom s (b ∷ t) = sumFrom ((s * 257 + b) % 65521) t
 unfoldable pub bucketOf : ℕ → List ℕ → ℕ
 bucketOf k key = sumFrom 0 key % k
 
+-- the bucket of a row: its key's
 unfoldable pub bucketAt : List ℕ → List ℕ → ℕ → ℕ → ℕ
 bucketAt store ends k i = bucketOf k (keyAt store ends i)
 

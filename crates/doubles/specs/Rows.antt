@@ -11,6 +11,7 @@ abbrev pub startOf : List ℕ → ℕ → ℕ
 startOf ends zero = 0
 startOf ends (suc i) = ends ! i
 
+-- the key of a row: from there to its own end, where both lie in the store
 unfoldable pub keyAt : List ℕ → List ℕ → ℕ → List ℕ
 keyAt store ends i = partShown (startOf ends i) (ends ! i) store
 

@@ -83,7 +83,8 @@ fn take_row(
     row: usize,
 )
     requires { ⌜ Ready (now store) (now ends) (now heads) (now older) (now before) row ⌝ }
-    ensures { λ _. ⌜ Took (now (store .entry)) (now (ends .entry)) (now (heads .entry)) (now (older .entry)) (now (before .entry)) row (now (heads .exit)) (now (older .exit)) (now (before .exit)) ⌝ }
+    ensures { λ _. ⌜ Took (now (store .entry)) (now (ends .entry)) (now (heads .entry)) (now (older .entry)) (now (before .entry)) row
+        (now (heads .exit)) (now (older .exit)) (now (before .exit)) ⌝ }
 {
     let bucket = bucket_of(key_at(store, ends, row), heads.len());
     let newest = heads[bucket];
@@ -92,8 +93,8 @@ fn take_row(
     heads[bucket] = row + 1;
 }
 
-// For each row the newest row before it that has its key, counted from 1; 0 if there is none. `heads` and `older` are room to work in: the more heads,
-// the less is compared. Where there is no head, or `older` or `before` is shorter than `ends`, it answers false and writes nothing.
+// For each row the newest row before it that has its key, counted from 1; 0 if there is none. `heads` and `older` are room to work in; with about as many
+// heads as rows few keys are compared. Where there is no head, or `older` or `before` is shorter than `ends`, it answers false and writes nothing.
 // Rules out: a double that is missed, because another key of its bucket hides it, or because it is not taken; keys of one bucket taken for one; rows of
 // an earlier call found (must-fail: link_cut, row_passed_over, newest_of_the_bucket_told, buckets_not_cleared).
 pub fn find_before(
@@ -103,7 +104,8 @@ pub fn find_before(
     older: &mut [usize],
     before: &mut [usize],
 ) -> bool
-    ensures { λ r. ⌜ Finds (now (store .entry)) (now (ends .entry)) (now (heads .entry)) (now (older .entry)) (now (before .entry)) r (now (heads .exit)) (now (older .exit)) (now (before .exit)) ⌝ }
+    ensures { λ r. ⌜ Finds (now (store .entry)) (now (ends .entry)) (now (heads .entry)) (now (older .entry)) (now (before .entry)) r
+        (now (heads .exit)) (now (older .exit)) (now (before .exit)) ⌝ }
 {
     let rows = ends.len();
     if heads.len() == 0 {

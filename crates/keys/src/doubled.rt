@@ -7,9 +7,11 @@ use crate::said::say_number;
 use crate::shown::say_key;
 use doubles::find_before;
 use doubles::key_at;
+ghost use mathlib.Core.Path.{_≡_};
+ghost use lib.ListN.{length};
 
 // How many rows there are whose key did not stand before, and how many of these keys stand again.
-pub(crate) struct Counts {
+struct Counts {
     pub products: usize,
     pub doubled: usize,
 }
@@ -122,17 +124,20 @@ fn say_counts(state: State, counts: Counts) {
     say(b" rows refused\n");
 }
 
-fn links() -> [usize; 32768] {
+// A number for each row that is kept.
+pub(crate) fn for_rows() -> [usize; 32768]
+    ensures { λ r. ⌜ 32768 ≡ length r ⌝ }
+{
     [0; 32768]
 }
 
-// Of rows whose keys are kept.
+// Of the rows that are kept; there is room for a link of each.
 fn say_kept(store: &[u8], ends: &[usize], lines: &[usize]) -> Counts {
-    let mut heads = links();
-    let mut older = links();
-    let mut before = links();
+    let mut heads = for_rows();
+    let mut older = for_rows();
+    let mut before = for_rows();
     find_before(store, ends, &mut heads, &mut older, &mut before);
-    let mut after = links();
+    let mut after = for_rows();
     turn_round(first(&before, ends.len()), &mut after);
     say_products(store, ends, lines, &before, &after)
 }

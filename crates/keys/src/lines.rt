@@ -1,14 +1,12 @@
 // What a line of a list is: a row, a setting, or neither. In a setting case and the blanks around it do not count; in a row they do.
 use leaves::texts::starts_at;
 use leaves::views::part_of;
-ghost use Prim.Native.Nat.{_≤_};
-ghost use lib.ListN.{length};
 
 pub(crate) enum Line {
     Row,
     Passed,
     Backslash(bool),
-    // A comment that can only be meant as a setting.
+    // A comment that begins as a setting does, and is none.
     NoSetting,
 }
 

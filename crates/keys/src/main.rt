@@ -1,15 +1,17 @@
 // Decodes a list of products, one string literal a line, from standard input; tells each row's key, then the products that stand in it twice.
 //
-// A line `-- backslash on` or `-- backslash off`, in any case, sets how the rows behind it are read; at first it is off. Other lines that begin with `--`,
-// and empty lines, are no rows. A row that is refused is told with its number and stops nothing. The list is read through a window of 524,288 bytes, and
-// 32,768 rows and 524,288 bytes of keys are kept for comparing: a row longer than the window is told by its line; a row behind those that are kept is told
-// with its key and not compared, and the end says from which line on.
+// A line `-- backslash on` or `-- backslash off`, in any case, sets how the rows behind it are read; at first it is off. Another line that begins with
+// `-- backslash` ends the reading, since no row behind it has a meaning. Other lines that begin with `--`, and empty lines, are no rows. A row that is
+// refused is told with its number and stops nothing. The list is read through a window of 524,288 bytes, and 32,768 rows and 524,288 bytes of keys are kept
+// for comparing: a row that fills the window is told by its line; a row behind those that are kept is told with its key and not compared, and the end says
+// from which line on. Where reading fails, the program says behind which line.
 mod doubled;
 mod lines;
 mod rows;
 mod said;
 mod shown;
 
+use doubled::for_rows;
 use doubled::report;
 use leaves::blocks::Stops;
 use leaves::blocks::free_run;
@@ -18,6 +20,7 @@ use libc::STDIN_FILENO;
 use rows::State;
 use rows::after_line;
 use rows::after_window;
+use rows::cut_off;
 use rows::none;
 ghost use mathlib.Core.Path.{_≡_};
 ghost use Prim.Native.Nat.{_≤_};
@@ -57,22 +60,36 @@ fn after_lines(
     now
 }
 
-// Reads on behind the first bytes of the window; tells how many it then holds.
-fn read_on(window: &mut [u8], unfinished: usize) -> usize
-    requires { ⌜ unfinished ≤ length (now window) ⌝ }
-    ensures { λ r. ⌜ r ≤ length (now (window .exit)) ⌝ }
-{
-    unfinished + io::read_full(STDIN_FILENO, &mut window[unfinished..])
+// How many bytes the window holds; whether the list has ended, or could not be read on.
+struct Held {
+    pub bytes: usize,
+    pub ended: bool,
+    pub failed: bool,
 }
 
-// Moves what stands in the window from a place on to its start; tells how long it is.
-fn to_front(window: &mut [u8], from: usize) -> usize
+// Reads on behind the first bytes of the window. A list that cannot be read on has not ended: its last line may be cut off.
+fn read_on(window: &mut [u8], unfinished: usize) -> Held
+    requires { ⌜ unfinished ≤ length (now window) ⌝ }
+    ensures { λ r. ⌜ r .bytes ≤ length (now (window .exit)) ⌝ }
+{
+    let got = libc::read(STDIN_FILENO, &mut window[unfinished..]);
+    let n = io::count(got, &window[unfinished..]);
+    Held {
+        bytes: unfinished + n,
+        ended: got == 0,
+        failed: got < 0,
+    }
+}
+
+// Moves a part of the window to its start; tells how long it is.
+fn to_front(window: &mut [u8], from: usize, until: usize) -> usize
+    requires { ⌜ until ≤ length (now window) ⌝ }
     ensures { λ r. ⌜ r ≤ length (now (window .exit)) ⌝ }
 {
-    if window.len() <= from {
+    if until <= from {
         return 0;
     }
-    let len = window.len() - from;
+    let len = until - from;
     let mut n: usize = 0;
     while n < len {
         window[n] = window[from + n];
@@ -81,31 +98,38 @@ fn to_front(window: &mut [u8], from: usize) -> usize
     n
 }
 
-// Takes the lines of the first bytes of the window; all of them at the list's end, where the last line needs no line feed.
+// Takes the lines that end in the window; at the list's end also the last line, which needs no line feed.
 fn after_bytes(
     state: State,
     window: &[u8],
-    held: usize,
+    held: Held,
     value: &mut [u8],
     store: &mut [u8],
     ends: &mut [usize],
     lines: &mut [usize],
 ) -> State {
-    let after = after_lines(part_of(window, 0, held), value, state, store, ends, lines);
-    if window.len() <= held {
-        return after_window(after, held);
-    }
-    let mut last = after_line(
-        part_of(window, after.begun, held),
+    let after = after_lines(
+        part_of(window, 0, held.bytes),
         value,
-        after,
+        state,
         store,
         ends,
         lines,
     );
-    last.begun = window.len();
-    last.last = true;
-    last
+    if held.failed {
+        return cut_off(after);
+    }
+    if held.ended {
+        let rest = part_of(window, after.begun, held.bytes);
+        let mut last = after_line(rest, value, after, store, ends, lines);
+        last.last = true;
+        last.begun = held.bytes;
+        return last;
+    }
+    if held.bytes < window.len() {
+        return after;
+    }
+    after_window(window, after)
 }
 
 // Reads on, and takes the lines that end in the window.
@@ -122,11 +146,11 @@ fn next_block(
 {
     let held = read_on(window, state.unfinished);
     let mut after = after_bytes(state, window, held, value, store, ends, lines);
-    after.unfinished = to_front(window, after.begun);
+    after.unfinished = to_front(window, after.begun, held.bytes);
     after
 }
 
-// Reads the list to its end, or to a setting that cannot be read.
+// Reads the list to its end, or as far as it can be read.
 fn after_list(
     window: &mut [u8],
     value: &mut [u8],
@@ -152,18 +176,12 @@ fn room() -> [u8; 524288]
     [0; 524288]
 }
 
-fn row_room() -> [usize; 32768]
-    ensures { λ r. ⌜ 32768 ≡ length r ⌝ }
-{
-    [0; 32768]
-}
-
 fn main() {
     let mut window = room();
     let mut value = room();
     let mut store = room();
-    let mut ends = row_room();
-    let mut lines = row_room();
+    let mut ends = for_rows();
+    let mut lines = for_rows();
     let state = after_list(&mut window, &mut value, &mut store, &mut ends, &mut lines);
     if !state.stopped {
         report(state, &store, &ends, &lines);

@@ -22,9 +22,9 @@ ghost use mathlib.Core.Path.{_≡_};
 pub(crate) struct State {
     // the setting that holds for the rows to come
     pub backslash: bool,
-    // a setting could not be read: no row behind it has a meaning
+    // the list could not be read on, or a setting not be told: no row behind it has a meaning
     pub stopped: bool,
-    // the line at hand is longer than the window, and told already
+    // the line at hand filled the window, and is told already
     pub skipping: bool,
     // no input is left
     pub last: bool,
@@ -184,7 +184,9 @@ fn no_setting(line: &[u8], state: State) -> State {
     say_number(b"line ", state.lines);
     say(b": ");
     say_key(line);
-    say(b" is neither -- backslash on nor -- backslash off; no row from here on is read\n");
+    say(
+        b" is neither -- backslash on nor -- backslash off; no row from here on is read, and none is compared\n",
+    );
     let mut after = state;
     after.stopped = true;
     after
@@ -231,26 +233,51 @@ pub(crate) fn after_line(
     after_counted(without_cr(line), value, counted, store, ends, lines)
 }
 
-// A line that fills the window and goes on: the window is passed. The rest of one that was told already is not told again.
-fn too_long(state: State, window: usize) -> State {
-    let mut after = state;
-    after.skipping = true;
-    after.begun = window;
-    if state.skipping | state.stopped {
-        return after;
-    }
-    after.lines = one_more(state.lines);
-    after.unread = one_more(state.unread);
-    say_line(after.lines);
-    say_number(b"not read: it has ", window);
+// A row that fills the window.
+fn unread(bytes: usize, state: State) -> State {
+    say_line(state.lines);
+    say_number(b"not read: it has ", bytes);
     say(b" bytes or more\n");
+    let mut after = state;
+    after.unread = one_more(state.unread);
     after
 }
 
-// A full window, of so many bytes, of which the lines are taken that end in it.
-pub(crate) fn after_window(state: State, window: usize) -> State {
+// What a line that fills the window and goes on is, by its beginning. A setting cannot be told from it.
+fn after_begun(line: &[u8], state: State) -> State {
+    match line_of(line) {
+        Line::Row => unread(line.len(), state),
+        Line::Passed => state,
+        Line::Backslash(_) => no_setting(b"a line that fills the window", state),
+        Line::NoSetting => no_setting(b"a line that fills the window", state),
+    }
+}
+
+// A line that fills the window: the window is passed. The rest of one that was told already is not told again.
+fn too_long(line: &[u8], state: State) -> State {
+    let mut after = state;
+    after.skipping = true;
+    after.begun = line.len();
+    if state.skipping {
+        return after;
+    }
+    after.lines = one_more(state.lines);
+    after_begun(line, after)
+}
+
+// A full window, of which the lines are taken that end in it.
+pub(crate) fn after_window(window: &[u8], state: State) -> State {
     if state.begun == 0 {
-        return too_long(state, window);
+        return too_long(window, state);
     }
     state
+}
+
+// Reading fails: the line at hand may be cut off, so it is no row.
+pub(crate) fn cut_off(state: State) -> State {
+    say_number(b"behind line ", state.lines);
+    say(b" the list cannot be read on; no row from there on is read, and none is compared\n");
+    let mut after = state;
+    after.stopped = true;
+    after
 }

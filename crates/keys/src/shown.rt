@@ -1,5 +1,4 @@
 // A key as it can stand in a line: control characters by their numbers, between marks. The opening mark is shown so too, so that no two keys look alike.
-// A key is UTF-8, as every value is.
 use crate::said::say;
 use leaves::texts::starts_at;
 ghost use Prim.Native.Nat.{_+_, _≤_, _<_};
@@ -17,7 +16,7 @@ fn marked_len(key: &[u8], at: usize) -> usize
     if key.len() - at < 2 {
         return 0;
     }
-    if (first == 0xC2) & (key[at + 1] < 0xA0) {
+    if (first == 0xC2) & (0x80 <= key[at + 1]) & (key[at + 1] < 0xA0) {
         return 2;
     }
     if key.len() - at < 3 {

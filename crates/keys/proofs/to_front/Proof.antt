@@ -7,10 +7,10 @@ use Rattle.keys.proofs.to_front.Statement.{statement}
 use Rattle.keys.proofs.to_front.Tie as tie
 
 abbrev Inv-loop : tie.InvT-loop
-Inv-loop window₀ from len n₀ window n = (n ≤ len) × (from + len ≤ length window) × (length window ≡ length window₀)
+Inv-loop window₀ from until len n₀ window n = (n ≤ len) × (from + len ≤ length window) × (length window ≡ length window₀)
 
 abbrev μ-loop : tie.MeasureT-loop
-μ-loop window₀ from len n₀ window n = len - n
+μ-loop window₀ from until len n₀ window n = len - n
 
 returns : tie.Need-returns Inv-loop μ-loop
 returns c = search needs

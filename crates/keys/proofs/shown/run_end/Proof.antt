@@ -1,4 +1,5 @@
--- `keys::shown::run_end` keeps to the key. The loop's invariant: the end lies behind the place, within the key. The measure is what is left of it. Assumes nothing.
+-- `keys::shown::run_end` keeps to the key. The loop's invariant: the end lies behind the place, within the key. The measure is what is left of it.
+-- Assumes nothing.
 use Prim.Native.Nat.{_≤_, _<_, _-_}
 use lib.ListN.{length}
 use borrow.Author.Needs.{needs}
