@@ -44,8 +44,8 @@ fn supported() -> Option<&'static str> {
 fn unsupported() -> String {
     format!(
         "archives are made for Linux on x86_64 and on aarch64, and this build is for {} on {}: set VALDRABUS_ARCHIVE to an archive for it",
-        told("CARGO_CFG_TARGET_OS").display(),
-        told("CARGO_CFG_TARGET_ARCH").display()
+        told("CARGO_CFG_TARGET_OS").to_string_lossy(),
+        told("CARGO_CFG_TARGET_ARCH").to_string_lossy()
     )
 }
 
@@ -83,7 +83,7 @@ fn machine_of(archive: &Path) -> String {
 fn members(archive: &[u8]) -> impl Iterator<Item = &[u8]> {
     let mut rest = archive.strip_prefix(b"!<arch>\n").unwrap_or_default();
     std::iter::from_fn(move || {
-        let size: usize = str::from_utf8(rest.get(48..58)?).ok()?.trim_end().parse().ok()?;
+        let size: usize = std::str::from_utf8(rest.get(48..58)?).ok()?.trim_end().parse().ok()?;
         let member = rest.get(60..)?.get(..size)?;
         rest = rest.get(60 + size + size % 2..).unwrap_or_default();
         Some(member)

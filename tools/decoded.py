@@ -1,11 +1,11 @@
 #!/usr/bin/env python3
 """Makes a list of the vectors' strings, at both settings, has Rattle's compiled program `keys` decode it, and compares each line with the row's answer.
 
-    tools/decoded.py
+    tools/decoded.py [HOST]
 
 The list is target/lists/vectors.txt. A row of the vectors is in it where its literal's text can be a line of a list, and means there what it means in its
-source: a text that is refused by its place in a larger source is left out, and so is one that is refused for want of room. Where the host's own `keys` is
-built, it must print the same for the list, byte for byte. Status 1 if a row differs, or none is asked.
+source: a text that is refused by its place in a larger source is left out, and so is one that is refused for want of room. HOST is the host's own `keys`:
+where it is given, it must print the same for the list, byte for byte. Status 1 if a row differs, or none is asked.
 """
 import collections
 import pathlib
@@ -15,7 +15,6 @@ import sys
 
 ROOT = pathlib.Path(__file__).resolve().parent.parent
 LIST = ROOT / 'target/lists/vectors.txt'
-HOST = ROOT / 'target/host/release/examples/keys'
 # What is asked of a row of the vectors: its text and setting, and what its line has to say.
 Asked = collections.namedtuple('Asked', 'identity text setting due')
 
@@ -69,7 +68,9 @@ def keys(*command):
         return subprocess.run(command, stdin=list_, capture_output=True)
 
 
-def main():
+def main(host=None):
+    if host and not pathlib.Path(host).is_file():
+        sys.exit(f'there is no {host}: the host\'s keys cannot be run')
     rows = list(asked())
     listed = list(lines(rows))
     LIST.parent.mkdir(parents=True, exist_ok=True)
@@ -86,11 +87,11 @@ def main():
                 different += 1
                 print(f'{row.identity}: {text!r}: {row.due!r} is due, keys printed {line!r}')
     print(f'{len(rows)} rows asked, {different} different')
-    same = not HOST.exists() or keys(HOST).stdout == run.stdout
-    if HOST.exists():
+    same = not host or keys(pathlib.Path(host).resolve()).stdout == run.stdout
+    if host:
         print('the host\'s keys prints the same' if same else 'the host\'s keys prints something else')
     return 0 if rows and not different and same else 1
 
 
 if __name__ == '__main__':
-    sys.exit(main())
+    sys.exit(main(*sys.argv[1:2]))

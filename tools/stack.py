@@ -1,7 +1,7 @@
 #!/usr/bin/env python3
 """How many bytes of stack each exported call takes at most, read off the archive's machine code.
 
-    tools/stack.py [ARCHIVE]     by default what tools/archive prints; of either machine, on either
+    tools/stack.py [ARCHIVE]     by default what tools/archive prints; of either machine, on either; a relative path counts from where you stand
 
 A function's frame is what it takes off the stack pointer, wherever in it that is done; on x86-64 also what it pushes, and 8 bytes for its return
 address, which on Arm is saved in the frame. A call's depth is its frame with the deepest of the functions that it calls or jumps on to. No function
@@ -14,7 +14,7 @@ import subprocess
 import sys
 import typing
 
-os.chdir(os.path.join(os.path.dirname(os.path.abspath(__file__)), '..'))
+ROOT = os.path.join(os.path.dirname(os.path.abspath(__file__)), '..')
 
 
 class Machine(typing.NamedTuple):
@@ -46,8 +46,11 @@ MACHINES = {
 
 def machine_of(archive):
     """By the header of the archive's first object: it holds ELF's mark first, and the machine's number at byte 18."""
-    with open(archive, 'rb') as file:
-        start = file.read()
+    try:
+        with open(archive, 'rb') as file:
+            start = file.read()
+    except OSError as why:
+        sys.exit(f'{archive} cannot be read: {why.strerror}')
     at = start.find(b'\x7fELF')
     number = int.from_bytes(start[at + 18:at + 20], 'little')
     if at < 0 or number not in MACHINES:
@@ -103,8 +106,14 @@ def depth(name, functions, path=()):
     return frame + max([depth(f, functions, path + (name,)) for f in called if f in functions], default=0)
 
 
+def made():
+    run = subprocess.run([os.path.join(ROOT, 'tools/archive')], stdout=subprocess.PIPE, text=True)
+    # It has said why itself.
+    return run.stdout.strip() if run.returncode == 0 else sys.exit(run.returncode)
+
+
 def main():
-    archive = sys.argv[1] if len(sys.argv) > 1 else subprocess.run(['tools/archive'], stdout=subprocess.PIPE, text=True, check=True).stdout.strip()
+    archive = os.path.abspath(sys.argv[1]) if len(sys.argv) > 1 else made()
     machine = machine_of(archive)
     functions = code(archive, machine)
     print(f'{machine.name}, bytes of stack:')

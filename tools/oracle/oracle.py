@@ -3,9 +3,9 @@
 
     tools/oracle/oracle.py < REQUESTS > ANSWERS
 
-literal.rs is no part of this repository. Its folder is VALDRABUS_RUST_SRC (that which holds crates/squonk-ast), by default
-../shared/docs/src beside the repository. Its neighbours are the shims of host/original. The program is built into target/oracle, as a
-release build.
+literal.rs is no part of this repository. Its folder is VALDRABUS_RUST_SRC (that which holds crates/squonk-ast; a relative path counts from
+the repository's root), by default ../shared/docs/src beside the repository. Its neighbours are the shims of host/original. The program is
+built into target/oracle, as a release build.
 
 A request is a line: QUESTION KIND SETTING START END HEX. The questions are
     string plain decimal bits temporal money source charset i64 bool null isnull     on a literal
@@ -48,13 +48,21 @@ fn main() {{
 '''
 
 
+def source_folder():
+    return os.path.abspath(os.path.join(ROOT, os.environ.get('VALDRABUS_RUST_SRC') or '../shared/docs/src'))
+
+
 def literal_rs():
-    source = os.environ.get('VALDRABUS_RUST_SRC', os.path.join(ROOT, '..', 'shared', 'docs', 'src'))
-    return os.path.abspath(os.path.join(source, LITERAL))
+    return os.path.join(source_folder(), LITERAL)
 
 
 def at_hand():
-    return os.path.exists(literal_rs())
+    """Not at hand is a default folder that is missing. A folder that is named, or there, and has no literal.rs is a failure."""
+    if os.path.isfile(literal_rs()):
+        return True
+    if os.environ.get('VALDRABUS_RUST_SRC') or os.path.exists(source_folder()):
+        sys.exit(f'there is no {literal_rs()}: VALDRABUS_RUST_SRC has to be the folder that holds crates/squonk-ast')
+    return False
 
 
 @functools.cache
