@@ -5,7 +5,7 @@
     tools/contracts.py --check    exits 1 if the table is not what the sources say, if a public function has no contract, asks something of its caller or has
                                   fewer than two wrong programs under must-fail/, or if an edit no longer fits its file
 
-A program (a crate whose root has fn main) has no public function. `out` is a lent buffer before the call and `out′` behind it.
+A program (a crate whose root has fn main) has no public function. `out` is a lent buffer before the call and `out′` behind it; `&out` is the slice, with its place.
 """
 import glob
 import os
@@ -53,10 +53,11 @@ def wrong_programs():
 
 
 def clause(text):
-    """a contract's text, with slices named for their bytes"""
+    """a contract's text, with slices named for their bytes, or by & for themselves"""
     text = re.sub(r'^\s*λ _?r?\. ⌜ | ⌝\s*$', '', text.strip())
     text = re.sub(r'\(now \((\w+) \.exit\)\)|now \((\w+) \.exit\)', lambda m: (m[1] or m[2]) + '′', text)
     text = re.sub(r'\(now \((\w+) \.entry\)\)|now \((\w+) \.entry\)', lambda m: m[1] or m[2], text)
+    text = re.sub(r'\((\w+) \.entry\)', r'&\1', text)
     return text.replace('«', '').replace('»', '')
 
 

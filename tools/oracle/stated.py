@@ -3,7 +3,8 @@
 
     tools/oracle/stated.py
 
-The writer's rows are left out, since the Rust has no writer. Exits 1 if an answer differs. Where literal.rs is not at hand (see oracle.py) it says so and exits 0.
+The writer's rows are left out, since the Rust has no writer, and texts that are no UTF-8, which no &str holds. Exits 1 if an answer differs. Where literal.rs
+is not at hand (see oracle.py) it says so and exits 0.
 """
 import os
 import sys
@@ -18,9 +19,9 @@ def main():
     if not oracle.at_hand():
         print('literal.rs is not at hand: nothing is asked')
         return 0
-    rows = [(name, row) for file in ('manuals', 'examples') for name, row in replay.readable(file) if row.question != 'writer']
-    said = oracle.ask([(row.question, row.kind, row.setting, row.start, row.end, row.source) for _, row in rows])
-    wrong = [(row, answer) for (_, row), answer in zip(rows, said) if replay.due(row.source, answer) != (row.number, row.letter, row.values, row.value)]
+    rows = [row for file in ('manuals', 'examples') for _, row in replay.readable(file) if row.question != 'writer' and replay.is_utf8(row.source)]
+    said = oracle.ask([(row.question, row.kind, row.setting, row.start, row.end, row.source) for row in rows])
+    wrong = [(row, answer) for row, answer in zip(rows, said) if replay.due(row.source, answer) != (row.number, row.letter, row.values, row.value)]
     for row, answer in wrong:
         print(f'{row.name}: the Rust says {answer}')
     print(f'{len(rows)} rows of manuals.tsv and examples.tsv asked of the Rust, {len(wrong)} different')

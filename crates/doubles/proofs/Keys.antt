@@ -6,21 +6,22 @@ use Prim.Native.Nat.{ℕ, zero, suc, _-_}
 use native.Mathlib.Omega.{arith}
 use borrow.Author.Tests.{eqb-true}
 use lib.Dec.{eqb}
-use Rattle.meaning.specs.Answers.{partShown}
+use denote.Ref.{RefT, now}
+use Rattle.meaning.specs.Answers.{IsPart, partShown, partPlace}
 use Rattle.meaning.specs.Bytes.{_!_, same}
 use Rattle.laws.proofs.Tests.{and-left, and-right, eqb-same}
-use Rattle.doubles.specs.Rows.{startOf, keyAt}
+use Rattle.doubles.specs.Rows.{startOf, keyAt, keyPlace}
 
 -- CUT OUT
 pub start-later : (ends : List ℕ) (i r : ℕ) → (i ≡ 0 → ⊥) → r ≡ ends ! (i - 1) → r ≡ startOf ends i
 start-later ends zero r h e = absurd (h refl)
 start-later ends (suc i) r h e = let z : suc i - 1 ≡ i = omega arith in e ∙ ap (ends !_) z
 
-pub key-part : (store ends : List ℕ) (i from until : ℕ) (key : List ℕ) → from ≡ startOf ends i → until ≡ ends ! i
-    → key ≡ partShown from until store
-    → key ≡ keyAt store ends i
+pub key-part : (store key : RefT (List ℕ)) (ends : List ℕ) (i from until : ℕ) → from ≡ startOf ends i → until ≡ ends ! i
+    → IsPart (partShown from until (now store)) (partPlace from until store) key
+    → IsPart (keyAt (now store) ends i) (keyPlace store ends i) key
 unfolding keyAt
-key-part store ends i from until key f u e = e ∙ rw (f, u)
+key-part store key ends i from until f u p = rw (f, u) at p
 
 -- COMPARED: as lists, and as a test
 pub same-refl : (s : List ℕ) → same s s ≡ true

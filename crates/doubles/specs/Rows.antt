@@ -3,7 +3,8 @@
 use mathlib.Core.Bool.{Bool}
 use mathlib.Core.List.{List, [], _∷_, _++_}
 use Prim.Native.Nat.{ℕ, zero, suc}
-use Rattle.meaning.specs.Answers.{partShown}
+use denote.Ref.{RefT}
+use Rattle.meaning.specs.Answers.{partShown, partPlace}
 use Rattle.meaning.specs.Bytes.{_!_, if_then_else_, same}
 
 -- where the key of a row begins: where the row before it ends, the first at 0
@@ -14,6 +15,10 @@ startOf ends (suc i) = ends ! i
 -- the key of a row: from there to its own end, where both lie in the store
 unfoldable pub keyAt : List ℕ → List ℕ → ℕ → List ℕ
 keyAt store ends i = partShown (startOf ends i) (ends ! i) store
+
+-- and where it stands in the memory of the store
+abbrev pub keyPlace : RefT (List ℕ) → List ℕ → ℕ → ℕ × ℕ
+keyPlace store ends i = partPlace (startOf ends i) (ends ! i) store
 
 -- the newest of the rows before row n that pass a test, counted from 1; 0 if none does
 abbrev pub newest : (ℕ → Bool) → ℕ → ℕ

@@ -5,7 +5,8 @@ use leaves::views::part_of;
 ghost use mathlib.Core.Path.{_≡_};
 ghost use Prim.Native.Nat.{_<_};
 ghost use lib.ListN.{length, getD, replicate};
-ghost use Rattle.doubles.specs.Rows.{startOf, keyAt, beforeOf};
+ghost use Rattle.meaning.specs.Answers.{IsPart};
+ghost use Rattle.doubles.specs.Rows.{startOf, keyAt, keyPlace, beforeOf};
 ghost use Rattle.doubles.specs.Finding.{bucketOf, Linked, Ready, Took, Finds};
 
 // Where the key of a row ends, and where it begins.
@@ -28,7 +29,7 @@ fn start_of(ends: &[usize], row: usize) -> usize
 // Rules out: a key with those before it; a key ended where the first ends; a key begun where it ends (must-fail: key_with_those_before,
 // key_ends_with_the_first, key_begins_at_its_end).
 pub fn key_at<'a>(store: &'a [u8], ends: &[usize], row: usize) -> &'a [u8]
-    ensures { λ r. ⌜ now r ≡ keyAt (now (store .entry)) (now (ends .entry)) row ⌝ }
+    ensures { λ r. ⌜ IsPart (keyAt (now (store .entry)) (now (ends .entry)) row) (keyPlace (store .entry) (now (ends .entry)) row) r ⌝ }
 {
     part_of(store, start_of(ends, row), end_of(ends, row))
 }

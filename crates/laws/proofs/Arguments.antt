@@ -7,13 +7,13 @@ use Prim.Native.Nat.{ℕ, zero, suc, _+_, _-_}
 use native.Mathlib.Omega.{arith}
 use lib.Dec.{eqb, leb, ltb}
 use lib.ListN.{length}
-use borrow.Author.Tests.{leb-true, eqb-true, ne-eqb}
-use Rattle.meaning.specs.Bytes.{if_then_else_, _!_, part, ascii, has, quote, digit}
+use borrow.Author.Tests.{eqb-true, ne-eqb}
+use Rattle.meaning.specs.Bytes.{if_then_else_, _!_, part, ascii, has, within, quote, digit}
 use Rattle.meaning.specs.Chars.{Due, due, broken, lead, laters, space}
 use Rattle.meaning.specs.Walk.{walk, stops, value}
 use Rattle.meaning.specs.Steps.{standardStep, doubled}
 use Rattle.meaning.specs.Spelling.{isOne, legalEscape, argumentBy, encloses, argument}
-use Rattle.laws.proofs.Tests.{and-left, and-right, or-left, or-right, eqb-sym}
+use Rattle.laws.proofs.Tests.{and-left, and-right, or-left, or-right, eqb-sym, within-bounds}
 
 -- without a quote mark the text is its own value
 quoteless : (t : List ℕ) → has quote t ≡ false → (value (walk (standardStep false quote) 0 t) ≡ t) × (stops (walk (standardStep false quote) 0 t) ≡ false)
@@ -55,8 +55,8 @@ laters-quoteless zero [] h = refl
 laters-quoteless zero (b ∷ t) h = absurd (false≢true h)
 laters-quoteless (suc n) [] h = absurd (false≢true h)
 laters-quoteless (suc n) (b ∷ t) h =
-    let l = leb-true 0x80 b (and-left (leb 0x80 b) (laters n t) h) in
-    rw (ne-eqb quote b (λ e. omega arith)) (laters-quoteless n t (and-right (leb 0x80 b) (laters n t) h))
+    let l = within-bounds 0x80 0xBF b (and-left (within 0x80 0xBF b) (laters n t) h) in
+    rw (ne-eqb quote b (λ e. omega arith)) (laters-quoteless n t (and-right (within 0x80 0xBF b) (laters n t) h))
 
 legal-quoteless : (t : List ℕ) → legalEscape t ≡ true → has quote t ≡ false
 legal-quoteless [] h = refl

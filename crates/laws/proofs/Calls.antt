@@ -3,11 +3,10 @@
 use mathlib.Core.Path.{_≡_, sym, _∙_}
 use mathlib.Core.Bool.{true}
 use mathlib.Core.List.{List, [], _∷_, _++_}
-use Prim.Native.Nat.{ℕ, _≤_}
+use Prim.Native.Nat.{ℕ, _+_, _≤_, _<_}
 use lib.ListN.{length, take}
 use Rattle.meaning.specs.declared.Settings.{Settings}
 use Rattle.meaning.specs.declared.PartSize.{PartSize}
-use Rattle.meaning.specs.declared.PartSize.the-variants.{Whole}
 use Rattle.meaning.specs.declared.Literal.{Literal}
 use Rattle.meaning.specs.declared.Text.{Text}
 use Rattle.meaning.specs.declared.Writing.{Writing}
@@ -16,19 +15,17 @@ use Rattle.meaning.specs.Bytes.{_!_, isMark}
 use Rattle.meaning.specs.Cutting.{complete}
 use Rattle.meaning.specs.Answers.{Meets, textNumber, shown}
 use Rattle.meaning.specs.Questions.{isString, stringQuestion}
-use Rattle.meaning.specs.Writer.{literal, writtenText, writeQuestion}
+use Rattle.meaning.specs.Writer.{writeQuestion}
 use Rattle.laws.proofs.Asked.{Spans}
-use Rattle.laws.proofs.Sources.{Agree, stringQuestion-same}
-use Rattle.laws.proofs.Determined.{Same, meets-unique}
 use Rattle.laws.proofs.Utf8.{utf8-join}
 use Rattle.laws.proofs.WhiteUtf8.{white-utf8}
 use Rattle.laws.proofs.JoiningLaw.{Accepts, Complete, Gap, join-read}
 use Rattle.laws.proofs.Answered.{answered-accepts}
 use Rattle.laws.proofs.Ranges.{Answered, string-answered}
-use Rattle.laws.proofs.Parts.{Next, chain}
+use Rattle.laws.proofs.Parts.{Part, textOf, Next, chain, all-of}
 use Rattle.laws.proofs.WriterParts.{Accepted}
-use Rattle.laws.proofs.WrittenParts.{Each, each-of, CutInto, parts-accepted, parts-law}
-use Rattle.laws.proofs.RoundTrip.{writer-answers, written-wrote, writer-round-trip}
+use Rattle.laws.proofs.WrittenParts.{Each, each-of, Sized, PartAccepted, CutInto, chain-answered, parts-accepted}
+use Rattle.laws.proofs.RoundTrip.{writer-answers, written-accepted, written-wrote, writer-round-trip}
 
 -- A CALL of the string question on the text t: what went in, and what came out
 pub record StringCall (σ : Settings) (t : List ℕ) : Type 0 where
@@ -78,51 +75,56 @@ joining-calls σ A G B v w a b sa sb ca cb g m c r =
     record { valid = utf8-join A G B (x .accepts .valid) (white-utf8 G (g .white)) (y .accepts .valid); value = rw (join-read σ A G B v w x g y m) } in
     shows-by c (v ++ w) (string-answered (c .literal) (c .source) (A ++ (G ++ B)) (v ++ w) σ (c .lent) (c .kind) (c .spans) z r)
 
--- THE ROUND TRIP: what a call of the writer wrote, asked in a span of any source, shows the value
+-- THE ROUND TRIP: what a call of the writer wrote, asked in a span of any source, shows the value. It needs room only if it is longer than the value and its
+-- two marks: else it is borrowed
 pub round-trip-calls : (σ : Settings) (size : PartSize) (v : List ℕ) (w : WriterCall σ size v) (n : ℕ) → w .result ≡ Written n
-    → (c : StringCall σ (take n (w .after))) → length v ≤ length (c .lent) → Shows c v
+    → (c : StringCall σ (take n (w .after))) → (length v + 2 < n → length v ≤ length (c .lent)) → Shows c v
 round-trip-calls σ size v w n e c r =
     shows-by c v
     (writer-round-trip σ size v (w .lent) n (sym (w .contract .answer) ∙ e) (c .literal) (c .source) (c .lent) (c .kind)
     (rw (w .contract .buffer) at (c .spans)) r)
 
--- PARTS of a value, each by a call of the writer that wrote it
-pub record PartWritten (σ : Settings) (q : List ℕ) : Type 0 where
-  pub call : WriterCall σ Whole q
-  pub size : ℕ
-  pub wrote : call .result ≡ Written size
+-- PARTS of a value, each by a call of the writer that wrote it, at a part size of its own
+pub record PartWritten (σ : Settings) (q : Part) : Type 0 where
+  pub call : WriterCall σ (q .size) (q .value)
+  pub count : ℕ
+  pub wrote : call .result ≡ Written count
 
--- such a call wrote the part's literal
-part-literal : (σ : Settings) (q : List ℕ) (w : PartWritten σ q) → take (w .size) (w .call .after) ≡ literal (σ .backslash) q
-unfolding writtenText
-part-literal σ q w = rw (w .call .contract .buffer) (written-wrote σ Whole q (w .call .lent) (w .size) (sym (w .call .contract .answer) ∙ w .wrote) .text)
+module _ (σ : Settings) (q : Part) (w : PartWritten σ q) where
+  answered : writeQuestion σ (q .size) (q .value) (w .call .lent) .answer ≡ Written (w .count)
+  answered = sym (w .call .contract .answer) ∙ w .wrote
+
+  -- such a call wrote the part's text, and the writer accepts the part
+  part-text : take (w .count) (w .call .after) ≡ textOf σ q
+  part-text = rw (w .call .contract .buffer) (written-wrote σ (q .size) (q .value) (w .call .lent) (w .count) answered .text)
+
+  part-taken : PartAccepted σ q
+  part-taken = written-accepted σ (q .size) (q .value) (w .call .lent) (w .count) answered
 
 -- the bytes that the calls wrote, with white space between
-abbrev pub calls-chain : (σ : Settings) (p : List ℕ) (xs : List Next) → Each (PartWritten σ) p xs → List ℕ
-calls-chain σ p [] w = take (w .size) (w .call .after)
-calls-chain σ p (x ∷ xs) w = take (w .0 .size) (w .0 .call .after) ++ ((x .first ∷ x .rest) ++ calls-chain σ (x .value) xs (w .1))
+abbrev pub calls-chain : (σ : Settings) (p : Part) (xs : List Next) → Each (PartWritten σ) p xs → List ℕ
+calls-chain σ p [] w = take (w .count) (w .call .after)
+calls-chain σ p (x ∷ xs) w = take (w .0 .count) (w .0 .call .after) ++ ((x .first ∷ x .rest) ++ calls-chain σ (x .part) xs (w .1))
 
-calls-chain-is : (σ : Settings) (p : List ℕ) (xs : List Next) (w : Each (PartWritten σ) p xs) → calls-chain σ p xs w ≡ chain σ p xs
-calls-chain-is σ p [] w = part-literal σ p w
-calls-chain-is σ p (x ∷ xs) w = rw (part-literal σ p (w .0), calls-chain-is σ (x .value) xs (w .1))
+calls-chain-is : (σ : Settings) (p : Part) (xs : List Next) (w : Each (PartWritten σ) p xs) → calls-chain σ p xs w ≡ chain σ p xs
+calls-chain-is σ p [] w = part-text σ p w
+calls-chain-is σ p (x ∷ xs) w = rw (part-text σ p (w .0), calls-chain-is σ (x .part) xs (w .1))
 
--- asked in a span of any source, they show the value
-pub parts-calls : (σ : Settings) (v p : List ℕ) (xs : List Next) → Accepted σ Whole v → CutInto v p xs
-    → (w : Each (PartWritten σ) p xs) (c : StringCall σ (calls-chain σ p xs w)) → length v ≤ length (c .lent) → Shows c v
-parts-calls σ v p xs a i w c r =
-    shows-by c v (parts-law σ v p xs a i (c .literal) (c .source) (c .lent) (c .kind) (rw (calls-chain-is σ p xs w) at (c .spans)) r)
+-- asked in a span of any source, they show the value. (Each part that a call wrote is UTF-8: so the value was cut between characters.) They need room as above
+pub parts-calls : (σ : Settings) (v : List ℕ) (p : Part) (xs : List Next) → all-of p xs ≡ v
+    → (w : Each (PartWritten σ) p xs) (c : StringCall σ (calls-chain σ p xs w)) → (length v + 2 < length (calls-chain σ p xs w) → length v ≤ length (c .lent))
+    → Shows c v
+parts-calls σ v p xs e w c r =
+    shows-by c v
+    (rw e at (chain-answered σ p xs (each-of (PartWritten σ) (PartAccepted σ) (part-taken σ) p xs w) (c .literal) (c .source) (c .lent) (c .kind)
+    (rw (calls-chain-is σ p xs w) at (c .spans)) (rw (e, ← calls-chain-is σ p xs w) r)))
 
--- and such calls are to be had: each call of the writer on a part, with room for its literal, wrote it
-abbrev pub Writes : Settings → List ℕ → Type 0
-Writes σ q = (w : WriterCall σ Whole q) → length (literal (σ .backslash) q) ≤ length (w .lent) → w .result ≡ Written (length (literal (σ .backslash) q))
+-- and such calls are to be had of a value that the writer accepts, cut between characters: each call of the writer on a part, with room for its text, wrote it
+abbrev pub Writes : Settings → Part → Type 0
+Writes σ q = (w : WriterCall σ (q .size) (q .value)) → length (textOf σ q) ≤ length (w .lent) → w .result ≡ Written (length (textOf σ q))
 
-pub parts-calls-write : (σ : Settings) (v p : List ℕ) (xs : List Next) → Accepted σ Whole v → CutInto v p xs
+pub parts-calls-write : (σ : Settings) (size : PartSize) (v : List ℕ) (p : Part) (xs : List Next) → Accepted σ size v → CutInto v p xs → Each Sized p xs
     → Each (Writes σ) p xs
-unfolding writtenText
-parts-calls-write σ v p xs a i =
-    each-of (Accepted σ Whole) (Writes σ) (λ q b w r. w .contract .answer ∙ writer-answers σ Whole q (w .lent) b r) p xs (parts-accepted σ v p xs a i)
-
--- AGREEMENT: one literal in two sources that agree inside its span, with one buffer
-pub agreement-calls : (l : Literal) (S S′ : List ℕ) → Agree l S S′ → (σ : Settings) (out : List ℕ) (r r′ : Text) (d d′ : List ℕ)
-    → Meets (stringQuestion l S σ out) r d → Meets (stringQuestion l S′ σ out) r′ d′ → Same r r′ d d′
-agreement-calls l S S′ a σ out r r′ d d′ m m′ = meets-unique (stringQuestion l S′ σ out) r r′ d d′ (rw (stringQuestion-same l S S′ a σ out) at m) m′
+parts-calls-write σ size v p xs a i s =
+    each-of (PartAccepted σ) (Writes σ) (λ q b w r. w .contract .answer ∙ writer-answers σ (q .size) (q .value) (w .lent) b r) p xs
+    (parts-accepted σ size v p xs a i s)

@@ -22,7 +22,7 @@ use Rattle.meaning.specs.Reading.{meaning, means, read, written}
 use Rattle.laws.proofs.Tests.{true→T, eqb-sym, and-left, and-right, or-right}
 use Rattle.laws.proofs.Walks.{stop-at, stops-inside}
 use Rattle.laws.proofs.Parts.{is-quote}
-use Rattle.laws.proofs.Gaps.{Solid}
+use Rattle.laws.proofs.Gaps.{Solid, due-high}
 use Rattle.laws.proofs.Openings.{apart-of-mark}
 use Rattle.laws.proofs.ClauseStops.{Ok, Last, never}
 use Rattle.laws.proofs.ClauseFacts.{Calm, AllQ, high-quiet, gap-quiet, last-take, last-append}
@@ -51,7 +51,8 @@ laters-quiet : (n : ℕ) (t : List ℕ) → laters n t ≡ true → AllQ t
 laters-quiet zero [] h = tt
 laters-quiet zero (b ∷ t) h = absurd (true→T false h)
 laters-quiet (suc n) [] h = absurd (true→T false h)
-laters-quiet (suc n) (b ∷ t) h = (high-quiet b (and-left (leb 0x80 b) (laters n t) h), laters-quiet n t (and-right (leb 0x80 b) (laters n t) h))
+laters-quiet (suc n) (b ∷ t) h =
+    (high-quiet b (due-high 0x80 0xBF b refl (and-left (within 0x80 0xBF b) (laters n t) h)), laters-quiet n t (and-right (within 0x80 0xBF b) (laters n t) h))
 
 no-quote : (t : List ℕ) → AllQ t → has quote t ≡ false
 no-quote [] a = refl
@@ -205,7 +206,7 @@ module _ (i : ℕ) (t : List ℕ) (f : Legal i t) where
   gather-more zero lo hi v s h = refl
   gather-more (suc n) lo hi v [] h = absurd (true→T false h)
   gather-more (suc n) lo hi v (b ∷ s) h =
-      ap (λ (m : ℕ). if within lo hi b then m else 0) (gather-more n 0x80 0xBF (v * 64 + (b - 0x80)) s (and-right (leb 0x80 b) (laters n s) h))
+      ap (λ (m : ℕ). if within lo hi b then m else 0) (gather-more n 0x80 0xBF (v * 64 + (b - 0x80)) s (and-right (within 0x80 0xBF b) (laters n s) h))
 
   arg-tight : gap (i ∷ (t ++ (quote ∷ []))) ≡ 0
   arg-tight =

@@ -1,4 +1,4 @@
--- Laws of white space: what follows a gap changes nothing in it, and a gap ends where none follows; no byte that opens a segment begins white space.
+-- Laws of white space: what follows a gap changes nothing in it, and a gap ends where none follows; no quote mark begins white space.
 -- Assumes nothing.
 use mathlib.Core.Path.{_≡_, refl, ap, sym, _∙_, subst}
 use mathlib.Core.Bool.{Bool, true, false, _||_}
@@ -9,7 +9,7 @@ use native.Mathlib.Omega.{arith}
 use lib.Dec.{T, eqb, leb}
 use borrow.Author.Tests.{le-leb, leb-true, leb-false, eqb-true}
 use lib.ListN.{length}
-use Rattle.meaning.specs.Bytes.{if_then_else_, has, ascii, within, isMark}
+use Rattle.meaning.specs.Bytes.{if_then_else_, has, within, isMark}
 use Rattle.meaning.specs.Chars.{Due, due, broken, lead, gather, base, isSpace, space, spaceAt}
 use Rattle.meaning.specs.Walk.{walk, size}
 use Rattle.meaning.specs.Steps.{spaceStep, spaceBy, gap}
@@ -108,24 +108,10 @@ has-all P b (c ∷ l) a h = go (eqb b c) refl h (has-all P b l (a .1))
     go true e g ih = subst P (sym (eqb-true b c e)) (a .0)
     go false e g ih = ih g
 
--- no byte that opens a segment begins white space
+-- a byte that begins no white space; a quote mark is one
 abbrev pub Solid : ℕ → Type 0
 Solid b = (t : List ℕ) → space (b ∷ t) ≡ 0
 
 pub mark-solid : (b : ℕ) → isMark b ≡ true → Solid b
 unfolding isMark lead within isSpace
 mark-solid b h = has-all Solid b (39 ∷ 34 ∷ []) ((λ t. refl), ((λ t. refl), tt)) h
-
-pub prefix-solid : (b : ℕ) → has b (ascii "EeNnBbXxUu_") ≡ true → Solid b
-unfolding lead within isSpace
-prefix-solid b h =
-    has-all Solid b (ascii "EeNnBbXxUu_") (
-      (λ t. refl),
-      (
-        (λ t. refl),
-        (
-          (λ t. refl),
-          ((λ t. refl), ((λ t. refl), ((λ t. refl), ((λ t. refl), ((λ t. refl), ((λ t. refl), ((λ t. refl), ((λ t. refl), tt)))))))),
-        ),
-      ),
-    ) h

@@ -1,6 +1,6 @@
 -- Laws of openings and segments: what follows a segment changes nothing in it. Assumes nothing.
 use mathlib.Core.Path.{_≡_, refl, ap, sym, _∙_, subst}
-use mathlib.Core.Bool.{Bool, true, false, _&&_, _||_}
+use mathlib.Core.Bool.{Bool, true, false, _&&_}
 use mathlib.Core.List.{List, [], _∷_, _++_}
 use Prim.Native.Nat.{ℕ, zero, suc, _+_, _≤_, _<_}
 use Prim.Native.Char.{code}
@@ -10,14 +10,15 @@ use borrow.Author.Tests.{eqb-true}
 use lib.ListN.{length, drop, length-drop, List·getD-append}
 use lib.Seq.{drop-append-le}
 use Rattle.meaning.specs.declared.Settings.{Settings}
-use Rattle.meaning.specs.Bytes.{if_then_else_, _!_, has, ascii, isMark, quote, inName, span}
+use Rattle.meaning.specs.Bytes.{if_then_else_, _!_, has, ascii, within, isMark, quote, inName, span}
+use Rattle.meaning.specs.Chars.{lead, isSpace}
 use Rattle.meaning.specs.Walk.{walk, size, stops}
 use Rattle.meaning.specs.Steps.{closingStep, doubled}
 use Rattle.meaning.specs.Cutting.{opening, named, hides, segmentAt, segment}
 use Rattle.laws.proofs.Tests.{true→T, if-suc, and-left, and-right}
 use Rattle.laws.proofs.Walks.{Local, walk-extend, stops-inside}
 use Rattle.laws.proofs.Enclosed.{has-append}
-use Rattle.laws.proofs.Gaps.{Solid, mark-solid, prefix-solid}
+use Rattle.laws.proofs.Gaps.{AllP, has-all, Solid}
 
 -- a byte other than 0 lies inside the text
 pub inside : (f : ℕ → Bool) → f 0 ≡ false → (t : List ℕ) (i : ℕ) → f (t ! i) ≡ true → i < length t
@@ -104,17 +105,31 @@ opening-mark (b ∷ t) n e = go (opens b t n e)
     go (by-unicode m l u a q) = eqb-mark (t ! 1) q
     go (by-name m l u s f k) = k
 
-pub opening-solid : (b : ℕ) (t : List ℕ) (n : ℕ) → opening (b ∷ t) ≡ suc n → Solid b
-opening-solid b t n e = go (opens b t n e)
+-- what holds of every byte that may open a segment holds of the one that does
+opening-all : (P : ℕ → Type 0) → AllP P (ascii "'\"") → AllP P (ascii "EeNnBbXx") → AllP P (ascii "Uu_")
+    → (b : ℕ) (t : List ℕ) (n : ℕ) → opening (b ∷ t) ≡ suc n → P b
+unfolding isMark
+opening-all P a c d b t n e = go (opens b t n e)
   where
-    before-u : has b (ascii "EeNnBbXxUu_") ≡ (has b (ascii "EeNnBbXx") || (has b (ascii "Uu") || has b (ascii "_")))
-    before-u = has-append b (ascii "EeNnBbXx") (ascii "Uu_") ∙ ap (λ (v : Bool). has b (ascii "EeNnBbXx") || v) (has-append b (ascii "Uu") (ascii "_"))
+    go : {n : ℕ} → Opens b t n → P b
+    go (by-mark m) = has-all P b (ascii "'\"") a m
+    go (by-letter m l q) = has-all P b (ascii "EeNnBbXx") c l
+    go (by-unicode m l u a q) = has-all P b (ascii "Uu_") d (has-append b (ascii "Uu") (ascii "_") ∙ rw u)
+    go (by-name m l u s f k) = has-all P b (ascii "Uu_") d (has-append b (ascii "Uu") (ascii "_") ∙ rw (u, s))
 
-    go : {n : ℕ} → Opens b t n → Solid b
-    go (by-mark m) = mark-solid b m
-    go (by-letter m l q) = prefix-solid b (before-u ∙ rw l)
-    go (by-unicode m l u a q) = prefix-solid b (before-u ∙ rw (l, u))
-    go (by-name m l u s f k) = prefix-solid b (before-u ∙ rw (l, u, s))
+pub opening-solid : (b : ℕ) (t : List ℕ) (n : ℕ) → opening (b ∷ t) ≡ suc n → Solid b
+unfolding lead within isSpace
+opening-solid =
+    opening-all Solid ((λ t. refl), ((λ t. refl), tt))
+    ((λ t. refl), ((λ t. refl), ((λ t. refl), ((λ t. refl), ((λ t. refl), ((λ t. refl), ((λ t. refl), ((λ t. refl), tt))))))))
+    ((λ t. refl), ((λ t. refl), ((λ t. refl), tt)))
+
+-- it is ASCII: no later byte of a character
+pub opening-begins : (b : ℕ) (t : List ℕ) (n : ℕ) → opening (b ∷ t) ≡ suc n → within 0x80 0xBF b ≡ false
+unfolding within
+opening-begins =
+    opening-all (λ b. within 0x80 0xBF b ≡ false) (refl, (refl, tt))
+    (refl, (refl, (refl, (refl, (refl, (refl, (refl, (refl, tt)))))))) (refl, (refl, (refl, tt)))
 
 -- the search for the mark q does not look past a text that is followed by another byte than q
 pub closing-local-all : (h : Bool) (q : ℕ) (r : List ℕ) → eqb 0 q ≡ false → eqb (r ! 0) q ≡ false → Local (closingStep h q) r

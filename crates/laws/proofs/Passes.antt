@@ -7,13 +7,14 @@ use Prim.Native.Nat.{ℕ, suc, _+_, _-_, _≤_, _<_}
 use native.Mathlib.Nat.{add-zero, le-of-eq}
 use native.Mathlib.Omega.{arith}
 use lib.ListN.{length, getD, take, drop, length-append, length-drop, drop-of-length-le}
-use lib.Seq.{take-all, take-at, drop-at, drop-drop}
+use lib.Seq.{take-at, drop-at, drop-drop}
 use borrow.Author.Tests.{le-leb}
 use Rattle.meaning.specs.Bytes.{if_then_else_}
 use Rattle.meaning.specs.Chars.{Due, due, broken, fresh, pushes, whole}
 use Rattle.meaning.specs.Walk.{Step, keep, give, stop, Trace, ended, stopped, after, walk, size, stops, plain, value}
 use Rattle.meaning.specs.Steps.{checked}
 use Rattle.meaning.specs.Answers.{filled}
+use Rattle.laws.proofs.Lists.{part-tail}
 use Rattle.laws.proofs.Walks.{graft, size-graft, stops-graft}
 use Rattle.laws.proofs.Utf8.{pushes-append}
 use Rattle.laws.proofs.StepBounds.{Bounded, Steady, steady-at}
@@ -195,6 +196,17 @@ put-part p v d n e =
     ∙ ap (λ (b : List ℕ). p ++ (v ++ b)) (drop-drop (length v) n d)
     ∙ sym (append-assoc p v (drop (n + length v) d))
 
+-- behind p, of n bytes: the rest of the buffer was lent to a callee that put v at its start, and has come back
+pub put-behind : (p v d out last : List ℕ) (n : ℕ) → length p ≡ n → out ≡ p ++ drop n d
+    → last ≡ v ++ drop (length v) (take (length out - n) (drop n out))
+    → take n out ++ (last ++ drop (length out - n) (drop n out)) ≡ (p ++ v) ++ drop (n + length v) d
+put-behind p v d out last n e o l =
+    ap (take n out ++_)
+    (ap (last ++_) (drop-of-length-le (drop n out) (le-of-eq (length-drop n out))) ∙ append-nil last ∙ l
+    ∙ ap (λ (s : List ℕ). v ++ drop (length v) s) (part-tail out n))
+    ∙ ap (λ (s : List ℕ). take n s ++ (v ++ drop (length v) (drop n s))) o
+    ∙ put-part p v d n e
+
 module _ {step : List ℕ → Step} {l d out : List ℕ} {at n : ℕ} (w : Writing step l d out at n) (room : Roomy (walk step 0 l) (length d)) where
   pub writing-within : n ≤ length d
   writing-within = omega (arith, within-room room (w .so-far), w .counted)
@@ -217,16 +229,10 @@ module _ {step : List ℕ → Step} {l d out : List ℕ} {at n : ℕ} (w : Writi
     unfolding filled
     taken-turn n′ last en el =
         let c = value (w .so-far .course) in
-        let k : length (drop n out) ≡ length out - n = length-drop n out in
-        let r : length v ≤ length (drop n out) = omega (arith, k, w .same, taken-room) in
-        let tail : take (length out - n) (drop n out) ≡ drop n out = take-all (length out - n) (drop n out) (le-of-eq k) in
-        let g : last ≡ v ++ drop (length v) (drop n out) = el ∙ ap (filled v) tail ∙ rw (le-leb (length v) (length (drop n out)) r) in
-        let z : last ++ drop (length out - n) (drop n out) ≡ v ++ drop (length v) (drop n out) =
-        ap (last ++_) (drop-of-length-le (drop n out) (le-of-eq k)) ∙ append-nil last ∙ g in
+        let r : length v ≤ length (take (length out - n) (drop n out)) = rw (part-tail out n) (omega (arith, length-drop n out, w .same, taken-room)) in
         let put : take n out ++ (last ++ drop (length out - n) (drop n out)) ≡ (c ++ v) ++ drop n′ d =
-        ap (take n out ++_) z
-        ∙ ap (λ (o : List ℕ). take n o ++ (v ++ drop (length v) (drop n o))) (w .put)
-        ∙ put-part c v d n (w .counted) ∙ ap (λ (i : ℕ). (c ++ v) ++ drop i d) en in
+        put-behind c v d out last n (w .counted) (w .put) (el ∙ rw (le-leb (length v) (length (take (length out - n) (drop n out))) r))
+        ∙ ap (λ (i : ℕ). (c ++ v) ++ drop i d) en in
         let len : length (c ++ v) ≡ n′ = length-append c v ∙ omega (arith, w .counted, en) in
         record {
           so-far = f .next;

@@ -2,7 +2,7 @@
 use mathlib.Core.Path.{_≡_, refl, ap, sym, _∙_}
 use mathlib.Core.Bool.{Bool, true, false, _&&_, _||_}
 use mathlib.Core.List.{List, [], _∷_, _++_}
-use Prim.Native.Nat.{ℕ, zero, suc, _+_, _-_, _≤_}
+use Prim.Native.Nat.{ℕ, zero, suc, _+_, _-_, _≤_, _<_}
 use Prim.Native.Char.{code}
 use native.Mathlib.Omega.{arith}
 use lib.Dec.{eqb, leb, ltb}
@@ -16,6 +16,7 @@ use Rattle.meaning.specs.declared.Refusal.{Refusal}
 use Rattle.meaning.specs.declared.Refusal.the-variants.{InvalidString}
 use Rattle.meaning.specs.declared.Text.{Text}
 use Rattle.meaning.specs.Bytes.{if_then_else_, _!_, part, has, ascii, same, quote, dquote}
+use Rattle.meaning.specs.Chars.{utf8}
 use Rattle.meaning.specs.Walk.{Trace, walk, size, stops, plain, value}
 use Rattle.meaning.specs.Steps.{closingStep, trim}
 use Rattle.meaning.specs.Cutting.{opening, continues, cut}
@@ -26,6 +27,7 @@ use Rattle.meaning.specs.Answers.{Outcome, textNumber, partShown, shown, filled
 use Rattle.meaning.specs.Questions.{cutsCharacter, badSpan, isString, toldAs, stringQuestion}
 use Rattle.laws.proofs.Tests.{true→T, and-left, and-right, or-left, or-right}
 use Rattle.laws.proofs.Walks.{stops-inside}
+use Rattle.laws.proofs.Unchanged.{ReadsBack, unchanged, longer, back-means}
 use Rattle.laws.proofs.Joining.{fails≢means}
 use Rattle.laws.proofs.Asked.{Spans, stringQuestion-reads}
 use Rattle.laws.proofs.JoiningLaw.{Accepts}
@@ -190,26 +192,47 @@ pub record Answered (S v : List ℕ) (o : Outcome Text) : Type 0 where
   pub number : textNumber (o .answer) ≡ 0
   pub shows : shown S (o .buffer) (o .answer) ≡ v
 
-told-answered : (bad : Refusal) (s e : ℕ) (S out v : List ℕ) → Bounds (length S) s e → length v ≤ length out → (a : Answer)
+-- room for what is written: a borrowed text needs none
+abbrev pub RoomFor : Answer → List ℕ → Type 0
+RoomFor (borrowed f u) out = Unit {0}
+RoomFor (written v) out = length v ≤ length out
+RoomFor (refused p) out = Unit {0}
+
+told-answered : (bad : Refusal) (s e : ℕ) (S out v : List ℕ) → Bounds (length S) s e → (a : Answer) → RoomFor a out
     → AnswerIn (length (part s e S)) a → valueOf (part s e S) a ≡ means v → Answered S v (toldAs bad s out a)
-told-answered bad s e S out v r h (borrowed f u) i m =
+told-answered bad s e S out v r (borrowed f u) h i m =
     let n : length (part s e S) ≤ length S - s = rw (length-take, length-drop) (omega arith) in
     record {
       number = refl;
       shows = partShown-range (s + f) (s + u) S (record { ordered = omega arith; inside = omega arith }) ∙ part-inside s e f u S i ∙ (cc);
     }
-told-answered bad s e S out v r h (written w) i m =
+told-answered bad s e S out v r (written w) h i m =
     let z : v ≡ w = cc in
-    rw z (record {
-      number = rw (le-leb (length w) (length out) (rw z at h));
-      shows = rw (le-leb (length w) (length out) (rw z at h)) (filled-shows w out (rw z at h));
-    })
-told-answered bad s e S out v r h (refused p) i m = absurd (fails≢means p v m)
+    rw z (record { number = rw (le-leb (length w) (length out) h); shows = rw (le-leb (length w) (length out) h) (filled-shows w out h) })
+told-answered bad s e S out v r (refused p) h i m = absurd (fails≢means p v m)
 
--- A TEXT THAT IS ACCEPTED AND MEANS v shows v, where it fits a span and the buffer has room
-pub string-answered : (l : Literal) (S t v : List ℕ) (σ : Settings) (out : List ℕ) → isString (l .kind) ≡ true → Spans l S t → Accepts σ t v
-    → length v ≤ length out → Answered S v (stringQuestion l S σ out)
-string-answered l S t v σ out k h a r =
-    rw (stringQuestion-reads l S t σ out k h (a .valid))
-    (told-answered (InvalidString (l .span)) (l .span .start) (l .span .end) S out v (span-range (l .span) S (h .fits)) r (read σ t)
-    (rw (h .text) (read-inside σ t)) (rw (h .text) (a .value)))
+-- A TEXT THAT IS ACCEPTED AND MEANS v shows v, where it fits a span and the buffer has room for what is written
+module _ (l : Literal) (S t v : List ℕ) (σ : Settings) (out : List ℕ) (k : isString (l .kind) ≡ true) (h : Spans l S t) (a : Accepts σ t v) where
+  pub string-shown : RoomFor (read σ t) out → Answered S v (stringQuestion l S σ out)
+  string-shown r =
+      rw (stringQuestion-reads l S t σ out k h (a .valid))
+      (told-answered (InvalidString (l .span)) (l .span .start) (l .span .end) S out v (span-range (l .span) S (h .fits)) (read σ t) r
+      (rw (h .text) (read-inside σ t)) (rw (h .text) (a .value)))
+
+  -- so where there is room for v
+  pub string-answered : length v ≤ length out → Answered S v (stringQuestion l S σ out)
+  string-answered r = string-shown (go (read σ t) (a .value))
+    where
+      go : (x : Answer) → valueOf t x ≡ means v → RoomFor x out
+      go (borrowed f u) m = tt
+      go (written w) m = let z : w ≡ v = cc in rw z r
+      go (refused p) m = tt
+
+-- A TEXT THAT READS BACK AS v shows v: where it is no longer than v and its two marks it is borrowed, and needs no room
+pub back-answered : (l : Literal) (S t v : List ℕ) (σ : Settings) (out : List ℕ) → isString (l .kind) ≡ true → Spans l S t → utf8 t ≡ true → ReadsBack σ t v
+    → (length v + 2 < length t → length v ≤ length out) → Answered S v (stringQuestion l S σ out)
+back-answered l S t v σ out k h u b r = string-shown l S t v σ out k h (record { valid = u; value = back-means b }) (room b)
+  where
+    room : ReadsBack σ t v → RoomFor (read σ t) out
+    room (unchanged e q) = rw q tt
+    room (longer m q) = rw q (r m)

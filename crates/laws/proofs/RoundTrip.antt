@@ -2,7 +2,7 @@
 use mathlib.Core.Path.{_≡_, refl, ap}
 use mathlib.Core.Bool.{Bool, true, false, not}
 use mathlib.Core.List.{List, _++_}
-use Prim.Native.Nat.{ℕ, _≤_}
+use Prim.Native.Nat.{ℕ, _+_, _≤_, _<_}
 use native.Mathlib.Omega.{arith}
 use lib.Dec.{leb}
 use lib.ListN.{length, take, drop}
@@ -19,9 +19,9 @@ use Rattle.meaning.specs.Answers.{Outcome, writingNumber, filled}
 use Rattle.meaning.specs.Questions.{isString, stringQuestion}
 use Rattle.meaning.specs.Writer.{overLimit, unwritableNul, writtenText, writes, writeQuestion}
 use Rattle.laws.proofs.Asked.{Spans}
-use Rattle.laws.proofs.Ranges.{Answered, string-answered}
+use Rattle.laws.proofs.Ranges.{Answered, back-answered}
 use Rattle.laws.proofs.WriterParts.{Accepted, accepted-writes}
-use Rattle.laws.proofs.WriterText.{writtenText-accepts}
+use Rattle.laws.proofs.WriterText.{writtenText-joins}
 
 -- the text t was written: n is its length, and the buffer begins with it
 pub record Wrote (t : List ℕ) (n : ℕ) (after : List ℕ) : Type 0 where
@@ -68,8 +68,10 @@ module _ (σ : Settings) (size : PartSize) (v out : List ℕ) where
     written-wrote =
         rw (accepted-writes σ size v out accepted) (writes-wrote (writtenText σ size v) out n (rw (accepted-writes σ size v out accepted) at answered))
 
-    -- THE ROUND TRIP: the bytes written, in a span of any source, and a buffer with room for the value
+    -- THE ROUND TRIP: the bytes written, in a span of any source, and a buffer with room for the value. Where n is but two more than the value's length, they
+    -- are the value between two quote marks (`WriterText.written-borrowed`), and no room is asked for
     pub writer-round-trip : (l : Literal) (S d : List ℕ) → isString (l .kind) ≡ true → Spans l S (take n (writeQuestion σ size v out .buffer))
-        → length v ≤ length d → Answered S v (stringQuestion l S σ d)
+        → (length v + 2 < n → length v ≤ length d) → Answered S v (stringQuestion l S σ d)
     writer-round-trip l S d k h r =
-        string-answered l S (writtenText σ size v) v σ d k (rw (written-wrote .text) at h) (writtenText-accepts σ size v accepted) r
+        let j = writtenText-joins σ size v accepted in
+        back-answered l S (writtenText σ size v) v σ d k (rw (written-wrote .text) at h) (j .valid) (j .back) (rw (written-wrote .size) at r)

@@ -1,28 +1,31 @@
--- What the laws ask for can be had: closed inputs, at either setting, that meet the hypotheses of the joining law, of its second half and of the rule for
--- segments, and what the laws then say of them. Assumes nothing.
-use mathlib.Core.Path.{_≡_, refl}
+-- What the laws ask for can be had: closed inputs, at either setting, that meet the hypotheses of the joining law, of its second half, of the round trip
+-- and of the rule for segments, and what the laws then say of them. Assumes nothing.
+use mathlib.Core.Path.{_≡_, refl, ap}
 use mathlib.Core.Bool.{Bool, true, false}
-use mathlib.Core.List.{List, [], _∷_, _++_}
+use mathlib.Core.List.{List, [], _∷_, _++_, flatten}
 use Prim.Native.Nat.{ℕ}
 use native.Mathlib.Omega.{arith}
 use lib.ListN.{length, replicate}
 use Rattle.meaning.specs.declared.Settings.{Settings}
-use Rattle.meaning.specs.declared.PartSize.the-variants.{Whole}
+use Rattle.meaning.specs.declared.PartSize.the-variants.{Whole, AtMost}
 use Rattle.meaning.specs.declared.Text.the-variants.{Written}
-use Rattle.meaning.specs.Bytes.{part, ascii, within, isMark}
-use Rattle.meaning.specs.Chars.{lead, utf8, isSpace}
-use Rattle.meaning.specs.Steps.{doubled}
+use Rattle.meaning.specs.Bytes.{part, ascii, within, isMark, digit}
+use Rattle.meaning.specs.Chars.{lead, utf8, width, isSpace}
+use Rattle.meaning.specs.Steps.{doubled, oneByte}
 use Rattle.meaning.specs.Cutting.{off, on, named, segment, segmentStep, cut, complete, continues}
 use Rattle.meaning.specs.Spelling.{encloses, spelling}
-use Rattle.meaning.specs.Reading.{answer, one, read}
-use Rattle.meaning.specs.Writer.{spell, overLimit, unwritableNul}
+use Rattle.meaning.specs.Reading.{answer, one, read, meaning}
+use Rattle.meaning.specs.Writer.{spell, partsOf, writtenText, overLimit, unwritableNul, writeQuestion}
+use Rattle.meaning.specs.Answers.{textNumber, filled}
 use Rattle.meaning.specs.Questions.{cutsCharacter, badSpan, stringQuestion}
 use Rattle.laws.proofs.Asked.{Spans}
 use Rattle.laws.proofs.Controls.{all-of-it}
-use Rattle.laws.proofs.Joining.{White}
+use Rattle.laws.proofs.Joining.{White, fails≢means}
 use Rattle.laws.proofs.JoiningLaw.{Complete, Gap, joining-law}
-use Rattle.laws.proofs.Parts.{Next, chain}
+use Rattle.laws.proofs.Parts.{Part, Next, chain}
 use Rattle.laws.proofs.Ranges.{Answered}
+use Rattle.laws.proofs.RoundTrip.{writer-round-trip}
+use Rattle.laws.proofs.Cuts.{segmentsOf, Each, Values, values-one}
 use Rattle.laws.proofs.Segments as Segments′
 use Rattle.laws.proofs.WriterParts.{Accepted}
 use Rattle.laws.proofs.WrittenParts.{CutInto, between-cuts, parts-law}
@@ -66,43 +69,131 @@ joined-there b =
     joining-law (set b) first white second (ascii "xac") (ascii "b") (first-complete b) white-gap (second-complete b) refl
     (all-of-it (first ++ (white ++ second))) (first ++ (white ++ second)) (replicate 5 0) refl (all-of (first ++ (white ++ second)) refl refl) (omega arith)
 
--- ITS SECOND HALF: a quote, a backslash and a character of two bytes, cut into three parts, one of them empty
+-- ITS SECOND HALF: a quote, a backslash, a character of two bytes twice and a letter, cut into three parts: the second is empty, and the third is itself
+-- written in two parts
 abbrev pub value : List ℕ
-value = ascii "'\\Ã©"
+value = ascii "'\\Ã©Ã©a"
+
+abbrev pub third : List ℕ
+third = ascii "\\Ã©Ã©a"
+
+pub third-parts : partsOf (AtMost 4) third ≡ ascii "\\Ã©" ∷ ascii "Ã©a" ∷ []
+unfolding width lead within
+third-parts = refl
 
 pub line-white : White (10 ∷ [])
 unfolding within lead isSpace
 line-white = refl
 
-abbrev pub next : List ℕ → Next
-next p = record { first = 10; rest = []; white = line-white; value = p }
+abbrev pub next : Part → Next
+next p = record { first = 10; rest = []; white = line-white; part = p }
+
+abbrev pub start : Part
+start = record { value = ascii "'"; size = Whole }
 
 abbrev pub others : List Next
-others = next [] ∷ next (ascii "\\Ã©") ∷ []
+others = next (record { value = []; size = Whole }) ∷ next (record { value = third; size = AtMost 4 }) ∷ []
 
 pub value-accepted : (b : Bool) → Accepted (set b) Whole value
 unfolding overLimit unwritableNul utf8 lead within
 value-accepted true = record { limit = refl; valid = refl; nul = refl }
 value-accepted false = record { limit = refl; valid = refl; nul = refl }
 
-pub value-cut : CutInto value (ascii "'") others
+pub value-cut : CutInto value start others
 unfolding cutsCharacter within utf8 lead
-value-cut = between-cuts value (ascii "'") others refl refl (refl, (refl, tt))
+value-cut = between-cuts value start others refl refl (refl, (refl, tt))
 
-pub parts-there : (b : Bool) → Answered (chain (set b) (ascii "'") others) value
-    (stringQuestion (all-of-it (chain (set b) (ascii "'") others)) (chain (set b) (ascii "'") others) (set b) (replicate 4 0))
-unfolding badSpan cutsCharacter within spell
+pub parts-there : (b : Bool) → Answered (chain (set b) start others) value
+    (stringQuestion (all-of-it (chain (set b) start others)) (chain (set b) start others) (set b) (replicate 7 0))
+unfolding badSpan cutsCharacter within spell writtenText width lead
 parts-there true =
-    parts-law on value (ascii "'") others (value-accepted true) value-cut (all-of-it (chain on (ascii "'") others)) (chain on (ascii "'") others)
-    (replicate 4 0)
-    refl (all-of (chain on (ascii "'") others) refl refl) (omega arith)
+    parts-law on Whole value start others (value-accepted true) value-cut (refl, (refl, refl)) (all-of-it (chain on start others)) (chain on start others)
+    (replicate 7 0)
+    refl (all-of (chain on start others) refl refl) (λ m. omega arith)
 parts-there false =
-    parts-law off value (ascii "'") others (value-accepted false) value-cut (all-of-it (chain off (ascii "'") others)) (chain off (ascii "'") others)
-    (replicate 4 0)
-    refl (all-of (chain off (ascii "'") others) refl refl) (omega arith)
+    parts-law off Whole value start others (value-accepted false) value-cut (refl, (refl, refl)) (all-of-it (chain off start others)) (chain off start others)
+    (replicate 7 0)
+    refl (all-of (chain off start others) refl refl) (λ m. omega arith)
+
+-- THE ROUND TRIP: a value that is written unchanged, read back with an empty buffer
+abbrev pub plain-value : List ℕ
+plain-value = ascii "Ã©a"
+
+abbrev pub plain-text : List ℕ
+plain-text = ascii "'Ã©a'"
+
+pub borrowed-there : (b : Bool) → Answered plain-text plain-value (stringQuestion (all-of-it plain-text) plain-text (set b) [])
+unfolding badSpan cutsCharacter within spell writtenText width lead utf8 overLimit unwritableNul writeQuestion filled
+borrowed-there true =
+    writer-round-trip on (AtMost 4) plain-value (replicate 6 0) 5 refl (all-of-it plain-text) plain-text [] refl (all-of plain-text refl refl)
+    (λ m. absurd (omega arith))
+borrowed-there false =
+    writer-round-trip off (AtMost 4) plain-value (replicate 6 0) 5 refl (all-of-it plain-text) plain-text [] refl (all-of plain-text refl refl)
+    (λ m. absurd (omega arith))
 
 -- THE RULE FOR SEGMENTS: a segment alone
 pub segment-whole : (b : Bool) → Segments′.Whole (set b) (ascii "E'\\''")
 unfolding within isMark doubled named segment
 segment-whole true = record { some = omega arith; all = refl }
 segment-whole false = record { some = omega arith; all = refl }
+
+-- three segments, the third with a prefix, and white space behind them
+abbrev pub spaced : List ℕ
+spaced = ascii "'a' \"b\" E'c' "
+
+abbrev pub letters : List (List ℕ)
+letters = ascii "a" ∷ (ascii "b" ∷ (ascii "c" ∷ []))
+
+pub spaced-several : (b : Bool) → Segments′.Several (set b) spaced
+unfolding within isMark lead isSpace doubled named segment segmentStep cut complete
+spaced-several true = record { whole = refl; first = ascii "'a'"; second = ascii "\"b\""; others = ascii "E'c'" ∷ []; are = refl; mark = refl }
+spaced-several false = record { whole = refl; first = ascii "'a'"; second = ascii "\"b\""; others = ascii "E'c'" ∷ []; are = refl; mark = refl }
+
+-- each segment is accepted alone
+pub spaced-values : (b : Bool) → Values (meaning (set b)) (segmentsOf (cut (set b) spaced)) letters
+unfolding within isMark lead isSpace doubled named segment segmentStep cut continues encloses spelling answer one read
+spaced-values true = (refl, (refl, (refl, tt)))
+spaced-values false = (refl, (refl, (refl, tt)))
+
+pub spaced-utf8 : (b : Bool) → Each (λ s. utf8 s ≡ true) (segmentsOf (cut (set b) spaced))
+unfolding within isMark lead utf8 isSpace doubled named segment segmentStep cut
+spaced-utf8 true = (refl, (refl, (refl, tt)))
+spaced-utf8 false = (refl, (refl, (refl, tt)))
+
+-- so with just the room their values are written, and with one byte less the text is not accepted
+pub spaced-written : (b : Bool)
+    → stringQuestion (all-of-it spaced) spaced (set b) (replicate 3 0) ≡ record { answer = Written 3; buffer = ascii "abc" }
+unfolding badSpan cutsCharacter within flatten
+spaced-written b =
+    Segments′.complete-written (set b) spaced (spaced-several b) (all-of-it spaced) spaced (replicate 3 0) refl (all-of spaced refl refl) letters
+    (spaced-utf8 b) (spaced-values b) (omega arith)
+
+pub spaced-short : (b : Bool) → textNumber (stringQuestion (all-of-it spaced) spaced (set b) (replicate 2 0) .answer) ≡ 0 → ⊥
+unfolding badSpan cutsCharacter within flatten
+spaced-short b h =
+    let a =
+    Segments′.complete-question (set b) spaced (spaced-several b) (all-of-it spaced) spaced (replicate 2 0) refl (all-of spaced refl refl) .0 h in
+    let e = values-one (meaning (set b)) (segmentsOf (cut (set b) spaced)) (a .1) letters (a .2) (spaced-values b) in
+    let n = ap (λ (vs : List (List ℕ)). length (flatten vs)) e in
+    let r = a .3 in
+    omega arith
+
+-- where a segment is refused alone, no buffer has the text accepted: \400 is a zero byte
+abbrev pub zeroed : List ℕ
+zeroed = ascii "'a' 'b' E'\\400' "
+
+pub zeroed-several : (b : Bool) → Segments′.Several (set b) zeroed
+unfolding within isMark lead isSpace doubled named segment segmentStep cut complete
+zeroed-several true = record { whole = refl; first = ascii "'a'"; second = ascii "'b'"; others = ascii "E'\\400'" ∷ []; are = refl; mark = refl }
+zeroed-several false = record { whole = refl; first = ascii "'a'"; second = ascii "'b'"; others = ascii "E'\\400'" ∷ []; are = refl; mark = refl }
+
+pub zeroed-alone : (b : Bool) → Each (Segments′.Accepted (set b)) (segmentsOf (cut (set b) zeroed)) → ⊥
+unfolding within isMark lead isSpace doubled named segment segmentStep cut continues encloses spelling answer one read digit oneByte
+zeroed-alone true a = fails≢means _ (a .1 .1 .0 .0) (a .1 .1 .0 .1)
+zeroed-alone false a = fails≢means _ (a .1 .1 .0 .0) (a .1 .1 .0 .1)
+
+pub zeroed-refused : (b : Bool) (out : List ℕ) → textNumber (stringQuestion (all-of-it zeroed) zeroed (set b) out .answer) ≡ 0 → ⊥
+unfolding badSpan cutsCharacter within
+zeroed-refused b out h =
+    let a = Segments′.complete-question (set b) zeroed (zeroed-several b) (all-of-it zeroed) zeroed out refl (all-of zeroed refl refl) .0 h in
+    zeroed-alone b (Segments′.accepted-of (set b) (segmentsOf (cut (set b) zeroed)) (a .1) (a .2))

@@ -46,7 +46,7 @@ partsFrom-fills w n [] = record { first = []; others = []; are = refl; course = 
 partsFrom-fills w n (b ∷ v) = go (ltb n (width b)) refl (partsFrom-fills w (w - 1) v) (partsFrom-fills w (n - 1) v)
   where
     go : (x : Bool) → ltb n (width b) ≡ x → FillsAs w (w - 1) v (partsFrom w (w - 1) v) → FillsAs w (n - 1) v (partsFrom w (n - 1) v)
-        → FillsAs w n (b ∷ v) (if x then [] ∷ onFirst b (partsFrom w (w - 1) v) else onFirst b (partsFrom w (n - 1) v))
+        → FillsAs w n (b ∷ v) (elim x [ true ↦ [] ∷ onFirst b (partsFrom w (w - 1) v) | false ↦ onFirst b (partsFrom w (n - 1) v) ])
     go true e f g =
         record { first = []; others = (b ∷ f .first) ∷ f .others; are = rw (f .are); course = opens (ltb-true n (width b) e) (f .course) }
     go false e f g = record { first = b ∷ g .first; others = g .others; are = rw (g .are); course = takes (ltb-false n (width b) e) (g .course) }

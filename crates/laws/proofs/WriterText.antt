@@ -1,5 +1,5 @@
 -- [01 The writer] What the writer writes, whole or in parts, is UTF-8 and means the value, at the same setting; and how long it is. Assumes nothing.
-use mathlib.Core.Path.{_≡_, refl, ap, sym, _∙_}
+use mathlib.Core.Path.{_≡_, refl}
 use mathlib.Core.Bool.{Bool, true, false, _&&_, _||_}
 use mathlib.Core.List.{List, [], _∷_, _++_, append-nil}
 use Prim.Native.Nat.{ℕ, _+_, _*_, _≤_, _<_}
@@ -11,48 +11,50 @@ use Rattle.meaning.specs.declared.PartSize.{PartSize}
 use Rattle.meaning.specs.declared.PartSize.the-variants.{Whole, AtMost}
 use Rattle.meaning.specs.Bytes.{if_then_else_, within, quote, backslash}
 use Rattle.meaning.specs.Chars.{lead, isSpace}
+use Rattle.meaning.specs.Reading.{borrowed, written, read}
 use Rattle.meaning.specs.Writer.{spell, spells, literal, between, literals, partsOf, writtenText}
+use Rattle.laws.proofs.Unchanged.{back-means, back-borrowed, back-written}
 use Rattle.laws.proofs.Joining.{White}
 use Rattle.laws.proofs.JoiningLaw.{Accepts}
-use Rattle.laws.proofs.Parts.{Next, chain, all-of}
-use Rattle.laws.proofs.WriterParts.{concat, Every, Valid, Writable, Five, Parted, partsFrom-fills, partsOf-concat, partsOf-parts, nul-writable, Accepted}
-use Rattle.laws.proofs.WriterParts.{limit-length, limit-size}
-use Rattle.laws.proofs.WrittenParts.{Each, chain-accepts}
+use Rattle.laws.proofs.Parts.{Joinable, joins, literal-joins}
+use Rattle.laws.proofs.WriterParts.{concat, Every, Valid, Writable, Five, Parted, partsFrom-fills, partsOf-concat, partsOf-parts, writable-append}
+use Rattle.laws.proofs.WriterParts.{nul-writable, Accepted, limit-length, limit-size}
 
--- THE TEXT. One space is white space, so the parts are a chain
-pub between-white : White between
+-- THE TEXT. One space is white space, so the literals of the parts join
+between-white : White between
 unfolding lead within isSpace
 between-white = refl
 
-abbrev spaced : List (List ℕ) → List Next
-spaced [] = []
-spaced (p ∷ ps) = record { first = 32; rest = []; white = between-white; value = p } ∷ spaced ps
-
-literals-chain : (σ : Settings) (p : List ℕ) (ps : List (List ℕ)) → literals (σ .backslash) (p ∷ ps) ≡ chain σ p (spaced ps)
-literals-chain σ p [] = refl
-literals-chain σ p (q ∷ ps) = ap (λ (t : List ℕ). literal (σ .backslash) p ++ (between ++ t)) (literals-chain σ q ps)
-
-spaced-all : (p : List ℕ) (ps : List (List ℕ)) → all-of p (spaced ps) ≡ concat (p ∷ ps)
-spaced-all p [] = sym (append-nil p)
-spaced-all p (q ∷ ps) = ap (p ++_) (spaced-all q ps)
-
-spaced-each : (P : List ℕ → Type 0) (p : List ℕ) (ps : List (List ℕ)) → Every P (p ∷ ps) → Each P p (spaced ps)
-spaced-each P p [] e = e .0
-spaced-each P p (q ∷ ps) e = (e .0, spaced-each P q ps (e .1))
-
-literals-accepts : (σ : Settings) (v : List ℕ) (ps : List (List ℕ)) → Writable (σ .backslash) v → Parted v ps → Accepts σ (literals (σ .backslash) ps) v
-literals-accepts σ v [] w r = let h = r .any in absurd (omega arith)
-literals-accepts σ v (p ∷ ps) w r =
-    rw (literals-chain σ p ps)
-    (chain-accepts σ v p (spaced ps) w (record { valid = spaced-each Valid p ps (r .valid); together = spaced-all p ps ∙ r .together }))
+literals-join : (σ : Settings) (p : List ℕ) (ps : List (List ℕ)) → Every Valid (p ∷ ps) → Writable (σ .backslash) (concat (p ∷ ps))
+    → Joinable σ (literals (σ .backslash) (p ∷ ps)) (concat (p ∷ ps))
+literals-join σ p [] u w = rw (append-nil p) (literal-joins σ p (u .0) (rw (append-nil p) at w))
+literals-join σ p (q ∷ ps) u w =
+    let r = writable-append (σ .backslash) p (concat (q ∷ ps)) w in
+    joins σ 32 [] between-white (literal-joins σ p (u .0) (r .0)) (literals-join σ q ps (u .1) (r .1))
 
 parted : (σ : Settings) (size : PartSize) (v : List ℕ) → Accepted σ size v → Parted v (partsOf size v)
 parted σ size v a = partsOf-parts size v (limit-size size v (a .limit)) (a .valid)
 
--- WHAT IS WRITTEN READS BACK
-pub writtenText-accepts : (σ : Settings) (size : PartSize) (v : List ℕ) → Accepted σ size v → Accepts σ (writtenText σ size v) v
-unfolding writtenText
-writtenText-accepts σ size v a = literals-accepts σ v (partsOf size v) (nul-writable σ v (a .nul)) (parted σ size v a)
+module _ (σ : Settings) (size : PartSize) (v : List ℕ) (a : Accepted σ size v) where
+  pub writtenText-joins : Joinable σ (writtenText σ size v) v
+  unfolding writtenText
+  writtenText-joins = go (partsOf size v) (parted σ size v a)
+    where
+      go : (ps : List (List ℕ)) → Parted v ps → Joinable σ (literals (σ .backslash) ps) v
+      go [] r = let h = r .any in absurd (omega arith)
+      go (p ∷ ps) r = rw (r .together) at (literals-join σ p ps (r .valid) (rw (r .together) (nul-writable σ v (a .nul))))
+
+  -- WHAT IS WRITTEN READS BACK
+  pub writtenText-accepts : Accepts σ (writtenText σ size v) v
+  writtenText-accepts = record { valid = writtenText-joins .valid; value = back-means (writtenText-joins .back) }
+
+  -- borrowed, where the text has but two bytes more than the value; written, where it has more
+  pub written-borrowed : length (writtenText σ size v) ≡ length v + 2
+      → (writtenText σ size v ≡ quote ∷ (v ++ (quote ∷ []))) × (read σ (writtenText σ size v) ≡ borrowed 1 (1 + length v))
+  written-borrowed = back-borrowed (writtenText-joins .back)
+
+  pub written-longer : length v + 2 < length (writtenText σ size v) → read σ (writtenText σ size v) ≡ written v
+  written-longer = back-written (writtenText-joins .back)
 
 -- HOW LONG. A byte of the value is spelled by one byte or two
 unfoldable pub cost : Bool → ℕ → ℕ

@@ -1,8 +1,8 @@
--- What the plain writer writes reads back, at either setting. Assumes nothing.
+-- A literal of the writer, at either setting: its body means the value, its closing mark is found behind the body, and it holds no NUL. Assumes nothing.
 use mathlib.Core.Path.{_≡_, refl, ap, sym, _∙_, subst}
 use mathlib.Core.Bool.{Bool, true, false, _&&_, _||_, not, or-false, and-false}
-use mathlib.Core.List.{List, [], _∷_, _++_, append-assoc, append-nil}
-use Prim.Native.Nat.{ℕ, _-_}
+use mathlib.Core.List.{List, [], _∷_, _++_, append-assoc}
+use Prim.Native.Nat.{ℕ}
 use native.Mathlib.Nat.{zero-add}
 use native.Mathlib.Omega.{arith}
 use lib.Dec.{T, eqb, ltb}
@@ -10,16 +10,15 @@ use borrow.Author.Tests.{eqb-true}
 use lib.ListN.{length, length-append}
 use lib.Seq.{drop-length}
 use Rattle.meaning.specs.declared.Settings.{Settings}
-use Rattle.meaning.specs.Bytes.{if_then_else_, _!_, has, quote, backslash, isMark, part}
-use Rattle.meaning.specs.Walk.{Step, keep, give, stop, stopped, walk, size, stops, plain, value}
+use Rattle.meaning.specs.Bytes.{if_then_else_, _!_, has, quote, backslash, isMark}
+use Rattle.meaning.specs.Walk.{keep, give, stop, stopped, walk, size, stops, value}
 use Rattle.meaning.specs.Steps.{standardStep, closingStep, doubled}
 use Rattle.meaning.specs.Cutting.{segment, continues}
-use Rattle.meaning.specs.Spelling.{spelling}
-use Rattle.meaning.specs.Reading.{means, valueOf, answer, one, read}
+use Rattle.meaning.specs.Reading.{one, read}
 use Rattle.meaning.specs.Writer.{spell, spells, literal}
-use Rattle.laws.proofs.Tests.{true→T, eqb-sym}
-use Rattle.laws.proofs.Enclosed.{has-append, encloses-body, part-body}
-use Rattle.laws.proofs.Walks.{walk-plain, walk-append, LocalIn, Inside, Exact, exact-append, exact-ends, graft, size-graft, stops-graft}
+use Rattle.laws.proofs.Tests.{eqb-sym}
+use Rattle.laws.proofs.Enclosed.{has-append}
+use Rattle.laws.proofs.Walks.{walk-append, LocalIn, Inside, Exact, exact-append, exact-ends, graft, size-graft, stops-graft}
 
 -- READING. A byte's spelling is read as the byte, whatever follows
 module _ (b : ℕ) (t : List ℕ) where
@@ -148,33 +147,7 @@ no-nul false (b ∷ v) w = go (eqb 0 b) refl w (no-nul false v)
     go true e w ih = absurd (subst T (sym w) tt)
     go false e w ih = rw (has-append 0 (spell false b) (spells false v), no-nul-spell false b (rw e), ih w)
 
--- what a course means, borrowed or written
-pub answer-value : (f u : ℕ) (step : List ℕ → Step) (t : List ℕ) (v : List ℕ) → stops (walk step 0 (part f u t)) ≡ false
-    → value (walk step 0 (part f u t)) ≡ v → valueOf t (answer f u (walk step 0 (part f u t))) ≡ means v
-unfolding answer
-answer-value f u step t v st e = go (plain (walk step 0 (part f u t))) refl
-  where
-    go : (x : Bool) → plain (walk step 0 (part f u t)) ≡ x → valueOf t (answer f u (walk step 0 (part f u t))) ≡ means v
-    go true p = rw p (ap means (sym (walk-plain step (part f u t) (true→T (plain (walk step 0 (part f u t))) p)) ∙ e))
-    go false p = rw (p, st) (ap means e)
-
-pub literal-one : (σ : Settings) (v : List ℕ) → writable (σ .backslash) v ≡ true
-    → valueOf (literal (σ .backslash) v) (one σ (literal (σ .backslash) v)) ≡ means v
-unfolding one spelling
-literal-one σ v w =
-    rw (has-append 0 (spells (σ .backslash) v) (quote ∷ []), no-nul (σ .backslash) v w, encloses-body quote (spells (σ .backslash) v))
-    (answer-value 1 (length (literal (σ .backslash) v) - 1) (standardStep (σ .backslash) quote) (literal (σ .backslash) v) v
-    (rw (part-body quote (spells (σ .backslash) v)) (spells-goes (σ .backslash) v))
-    (rw (part-body quote (spells (σ .backslash) v)) (spells-value (σ .backslash) v)))
-
 -- a text that is one whole segment is read as one
 pub lone : (σ : Settings) (t : List ℕ) → segment σ t ≡ length t → read σ t ≡ one σ t
 unfolding read continues isMark
 lone σ t e = rw (e, drop-length t, and-false (ltb 0 (length t)))
-
-pub round-trip : (σ : Settings) (v : List ℕ) → writable (σ .backslash) v ≡ true
-    → valueOf (literal (σ .backslash) v) (read σ (literal (σ .backslash) v)) ≡ means v
-round-trip σ v w =
-    rw (lone σ (literal (σ .backslash) v) (subst (λ (t : List ℕ). segment σ t ≡ length (literal (σ .backslash) v)) (append-nil (literal (σ .backslash) v))
-    (literal-segment σ v [] refl)))
-    (literal-one σ v w)

@@ -1,13 +1,12 @@
 // Parts of lent slices, and the view of an answer.
 use meaning::Read;
-ghost use mathlib.Core.Path.{_≡_};
-ghost use Rattle.meaning.specs.Answers.{partShown};
-ghost use Rattle.meaning.specs.Reads.{readShown};
+ghost use Rattle.meaning.specs.Answers.{IsPart, partShown, partPlace};
+ghost use Rattle.meaning.specs.Reads.{readShown, readPlace};
 
-// Either the text's part or the buffer's; a range that does not fit its slice, or a refusal, shows an empty part.
-// Rules out: the buffer shown for a borrowed answer; written bytes shown from the second on (must-fail: tag_from_81, tag_starts_with_dollar).
+// Either the text's part or the buffer's; a range that does not fit its slice shows an empty part at the slice's start, and a refusal one at the text's.
+// Rules out: the buffer shown for a borrowed answer; an empty part of the buffer for a refusal (must-fail: tag_starts_with_dollar, empty_part_of_the_buffer).
 pub fn shown<'a>(text: &'a [u8], out: &'a [u8], answer: Read) -> &'a [u8]
-    ensures { λ r. ⌜ now r ≡ readShown (now (text .entry)) (now (out .entry)) answer ⌝ }
+    ensures { λ r. ⌜ IsPart (readShown (now (text .entry)) (now (out .entry)) answer) (readPlace (text .entry) (out .entry) answer) r ⌝ }
 {
     match answer {
         Read::Borrowed { from, until } => part_of(text, from, until),
@@ -17,10 +16,10 @@ pub fn shown<'a>(text: &'a [u8], out: &'a [u8], answer: Read) -> &'a [u8]
     }
 }
 
-// A part of a slice, empty where it does not fit.
-// Rules out: every part that fits shown empty; a part that ends past the slice (must-fail: first_of_each, second_of_each).
+// A part of a slice: these bytes, at their place. Where it does not fit, an empty one at the slice's start.
+// Rules out: every part that fits shown empty; an empty part shown at another place than its own (must-fail: first_of_each, empty_part_at_the_start).
 pub fn part_of(bytes: &[u8], from: usize, until: usize) -> &[u8]
-    ensures { λ r. ⌜ now r ≡ partShown from until (now (bytes .entry)) ⌝ }
+    ensures { λ r. ⌜ IsPart (partShown from until (now (bytes .entry))) (partPlace from until (bytes .entry)) r ⌝ }
 {
     if until < from {
         return &bytes[..0];

@@ -1,47 +1,100 @@
--- Lines collected in a buffer: how far the input is answered, and how many bytes are still to be written. Assumes nothing.
-use mathlib.Core.Path.{_≡_, refl, ap, _∙_}
+-- Lines collected in a buffer: which records of the input are answered, where their lines stand, and that a further line has room. Assumes nothing.
+use mathlib.Core.Path.{_≡_, refl, ap, sym, _∙_, subst}
 use mathlib.Core.Bool.{Bool, true, false}
-use mathlib.Core.List.{List, _++_}
-use Prim.Native.Nat.{ℕ, _+_, _-_, _≤_}
+use mathlib.Core.List.{List, [], _++_, append-assoc, append-nil}
+use Prim.Native.Nat.{ℕ, _+_, _*_, _-_, _≤_, _<_, min}
 use native.Mathlib.Omega.{arith}
-use borrow.Author.Tests.{leb-true}
-use borrow.Rule.Slice.PartMut.{same-len-mid}
+use borrow.Author.Tests.{le-leb, leb-true, leb-false}
 use lib.Dec.{leb}
-use lib.ListN.{length, take, drop, length-append, length-drop}
-use Rattle.meaning.specs.Bytes.{if_then_else_}
+use lib.ListN.{length, take, drop, length-append, length-drop, drop-of-length-le}
+use lib.Seq.{take-all, drop-drop}
 use Rattle.meaning.specs.Answers.{filled}
+use Rattle.meaning.specs.Records.{recordLine, output}
 use Rattle.laws.proofs.Lists.{part-tail}
+use Rattle.laws.proofs.Passes.{put-behind}
+use Rattle.laws.proofs.RecordOutput.{output-none, output-first}
 use Rattle.leaves.specs.Puts.{Puts}
+use Rattle.leaves.proofs.Putting.{puts-room}
+use Rattle.records.proofs.Lengths.{recordLine-length}
+use Rattle.litrec.specs.Lines.{Lines}
 
-pub record Answered (input start output : List ℕ) (at full : ℕ) : Type 0 where
+-- the records before `at` are answered, by the first `full` bytes of a buffer that held `start`; where a record is left, at is no place inside one
+pub record Answered (input start buffer : List ℕ) (at full : ℕ) : Type 0 where
+  pub lines : List ℕ
+  pub counted : length lines ≡ full
+  pub put : buffer ≡ lines ++ drop full start
+  pub rest : output input ≡ lines ++ output (drop at input)
   pub inside : at ≤ length input
-  pub room : full ≤ length output
-  pub same : length output ≡ length start
+  pub few : at < length input → full ≤ 3 * at
+  pub room : full ≤ length start
+  pub same : length buffer ≡ length start
 
-pub answered-none : (input output : List ℕ) → Answered input output output 0 0
-answered-none input output = record { inside = omega arith; room = omega arith; same = refl }
+pub answered-none : (input start : List ℕ) → Answered input start start 0 0
+answered-none input start =
+    record { lines = []; counted = refl; put = refl; rest = refl; inside = omega arith; few = λ h. omega arith; room = omega arith; same = refl }
 
-module _ {v out after : List ℕ} {r : ℕ} (p : Puts v out r after) where
-  pub puts-within : r ≤ length out
-  puts-within = go (leb (length v) (length out)) refl (p .answer)
-    where
-      go : (x : Bool) → leb (length v) (length out) ≡ x → r ≡ (if x then length v else 0) → r ≤ length out
-      go true e h = let l = leb-true (length v) (length out) e in omega arith
-      go false e h = omega arith
+module _ (input start buffer : List ℕ) (at full : ℕ) (c : Answered input start buffer at full) where
+  pub answered-end : length input ≤ at → Lines input start full buffer
+  answered-end h =
+      let e : c .lines ≡ output input = sym (c .rest ∙ ap (λ (t : List ℕ). c .lines ++ output t) (drop-of-length-le input h)
+      ∙ ap (c .lines ++_) output-none ∙ append-nil (c .lines)) in
+      let n : full ≡ length (output input) = sym (c .counted) ∙ ap length e in
+      record { long = n; buffer = c .put ∙ rw (e, n) }
 
-  puts-long : length after ≡ length out
-  unfolding filled
-  puts-long = ap length (p .buffer) ∙ go (leb (length v) (length out)) refl
-    where
-      go : (x : Bool) → leb (length v) (length out) ≡ x → length (if x then v ++ drop (length v) out else out) ≡ length out
-      go true e = let l = leb-true (length v) (length out) e in omega (arith, length-append v (drop (length v) out), length-drop (length v) out)
-      go false e = refl
+  module _ (enough : 3 * length input + 192 ≤ length start) (h : at < length input) (end : ℕ) (e : end ≡ min (at + 64) (length input)) where
+    -- the record here, and what follows it
+    here : take (end - at) (drop at input) ≡ take 64 (drop at input)
+    here = go (leb (at + 64) (length input)) refl
+      where
+        go : (x : Bool) → leb (at + 64) (length input) ≡ x → take (end - at) (drop at input) ≡ take 64 (drop at input)
+        go true t = let k = leb-true (at + 64) (length input) t in ap (λ (n : ℕ). take n (drop at input)) (let z : end - at ≡ 64 = omega arith in z)
+        go false t =
+            let k = leb-false (at + 64) (length input) t in
+            let l = length-drop at input in
+            take-all (end - at) (drop at input) (omega arith) ∙ sym (take-all 64 (drop at input) (omega arith))
 
-module _ {input start output : List ℕ} {at full : ℕ} (c : Answered input start output at full) where
-  pub answered-turn : (end kept : ℕ) → end ≤ length input → kept ≤ length output → {v part : List ℕ} {r : ℕ}
-      → Puts v (take (length output - kept) (drop kept output)) r part
-      → Answered input start (take kept output ++ (part ++ drop (length output - kept) (drop kept output))) end (kept + r)
-  answered-turn end kept h k {v} {part} {r} p =
-      let l = same-len-mid kept (length output - kept) output part (puts-long p) in
-      let e = ap length (part-tail output kept) ∙ length-drop kept output in
-      record { inside = h; room = let w = puts-within p in omega (arith, w, e, l); same = l ∙ c .same }
+    behind : drop end input ≡ drop 64 (drop at input)
+    behind = go (leb (at + 64) (length input)) refl
+      where
+        go : (x : Bool) → leb (at + 64) (length input) ≡ x → drop end input ≡ drop 64 (drop at input)
+        go true t =
+            let k = leb-true (at + 64) (length input) t in
+            sym (drop-drop 64 at input ∙ ap (λ (n : ℕ). drop n input) (let z : at + 64 ≡ end = omega arith in z))
+        go false t =
+            let k = leb-false (at + 64) (length input) t in
+            let l = length-drop at input in
+            drop-of-length-le input {i = end} (omega arith) ∙ sym (drop-of-length-le (drop at input) {i = 64} (omega arith))
+
+    pub answered-turn : (r : ℕ) (last : List ℕ) → Puts (recordLine (take (end - at) (drop at input))) (take (length buffer - full) (drop full buffer)) r last
+        → Answered input start (take full buffer ++ (last ++ drop (length buffer - full) (drop full buffer))) end (full + r)
+    unfolding filled
+    answered-turn r last p =
+        let v = recordLine (take 64 (drop at input)) in
+        let few = c .few h in
+        let long : length v ≤ 192 = recordLine-length (take 64 (drop at input)) in
+        let lent = take (length buffer - full) (drop full buffer) in
+        let fits : length v ≤ length lent = rw (part-tail buffer full) (omega (arith, length-drop full buffer, c .same)) in
+        let q : Puts v lent r last = subst (λ (t : List ℕ). Puts (recordLine t) lent r last) here p in
+        let n : r ≡ length v = puts-room q fits in
+        let put =
+        put-behind (c .lines) v start buffer last full (c .counted) (c .put) (q .buffer ∙ rw (le-leb (length v) (length lent) fits)) in
+        let len : length (c .lines ++ v) ≡ full + length v = length-append (c .lines) v ∙ omega (arith, c .counted) in
+        subst (λ (m : ℕ). Answered input start (take full buffer ++ (last ++ drop (length buffer - full) (drop full buffer))) end (full + m)) (sym n)
+        (record {
+          lines = c .lines ++ v;
+          counted = len;
+          put = put;
+          rest =
+              c .rest
+              ∙ ap (c .lines ++_) (output-first (drop at input) (omega (arith, length-drop at input)) ∙ ap (λ (t : List ℕ). v ++ output t) (sym behind))
+              ∙ sym (append-assoc (c .lines) v (output (drop end input)));
+          inside = omega arith;
+          few = λ k. omega arith;
+          room = omega arith;
+          same = ap length put ∙ length-append (c .lines ++ v) (drop (full + length v) start) ∙ omega (arith, len, length-drop (full + length v) start);
+        })
+
+-- they are within the buffer
+pub lines-within : {input before after : List ℕ} {r : ℕ} → Lines input before r after → r ≤ length after
+lines-within {input} {before} p =
+    omega (arith, p .long, ap length (p .buffer), length-append (output input) (drop (length (output input)) before))

@@ -1,15 +1,17 @@
 // [01 Record program litrec] Records of 64 bytes from standard input, one line each to standard output; a short last record is refused with 10.
-// It reads and writes blocks of up to 65,536 bytes.
+// It reads blocks of 256 records, and writes the lines of each block at once.
 use libc::STDIN_FILENO;
 use libc::STDOUT_FILENO;
 use records::record::record_line;
-ghost use Prim.Native.Nat.{_≤_, _<_};
+ghost use mathlib.Core.Path.{_≡_};
+ghost use Prim.Native.Nat.{_+_, _*_, _≤_, _<_, min};
 ghost use lib.ListN.{length};
+ghost use Rattle.litrec.specs.Lines.{Lines};
 
 // Where the record at a place ends: 64 bytes on, or where the input does.
 fn record_end(input: &[u8], at: usize) -> usize
     requires { ⌜ at < length (now input) ⌝ }
-    ensures { λ r. ⌜ (at < r) × (r ≤ length (now (input .entry))) ⌝ }
+    ensures { λ r. ⌜ r ≡ min (at + 64) (length (now (input .entry))) ⌝ }
 {
     if input.len() - at < 64 {
         return input.len();
@@ -17,38 +19,32 @@ fn record_end(input: &[u8], at: usize) -> usize
     at + 64
 }
 
-// Writes the lines so far where there may be no room for another; tells how many bytes are still to be written.
-fn flushed(output: &[u8], full: usize) -> usize
-    requires { ⌜ full ≤ length (now output) ⌝ }
-    ensures { λ r. ⌜ r ≤ length (now (output .entry)) ⌝ }
+// Puts the line of each record at the buffer's start, one behind the other, and says how long they are; a line has at most 192 bytes.
+// Rules out: each line put over the one before; the first record passed over; the records behind the first left out
+// (must-fail: records_over_each_other, record_passed_over, later_records_left_out).
+fn answer_records(input: &[u8], output: &mut [u8]) -> usize
+    requires { ⌜ 3 * length (now input) + 192 ≤ length (now output) ⌝ }
+    ensures { λ r. ⌜ Lines (now (input .entry)) (now (output .entry)) r (now (output .exit)) ⌝ }
 {
-    if output.len() - full < 192 {
-        io::write_all(STDOUT_FILENO, &output[..full]);
-        return 0;
-    }
-    full
-}
-
-// Answers each record of the input.
-fn answer_records(input: &[u8], output: &mut [u8]) {
     let mut at: usize = 0;
     let mut full: usize = 0;
     while at < input.len() {
         let end = record_end(input, at);
-        full = flushed(output, full);
         full += record_line(&input[at..end], &mut output[full..]);
         at = end;
     }
-    io::write_all(STDOUT_FILENO, &output[..full]);
+    full
 }
 
-// Answers a block of records; tells whether there may be more.
+// Answers a block of records; tells whether there may be more. Every block but the last has 256 whole records, so that the lines of the blocks,
+// one behind the other, are the lines of the whole input (laws: blocks-output).
 fn answer_block() -> bool {
-    let mut input = io::large_buffer();
+    let mut input = [0u8; 16384];
     let mut output = io::large_buffer();
     let n = io::read_full(STDIN_FILENO, &mut input);
-    answer_records(&input[..n], &mut output);
-    n == 65536
+    let full = answer_records(&input[..n], &mut output);
+    io::write_all(STDOUT_FILENO, &output[..full]);
+    n == 16384
 }
 
 fn main() {

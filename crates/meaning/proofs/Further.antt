@@ -1,8 +1,11 @@
--- Rows beside those of vectors/: document 01's examples that are not starred; the manuals' own examples; the ends of RFC 3629's ranges; records of
--- every question. What is UTF-8 was asked of the Rust (tools/oracle/oracle.py); 4 and the records' lines are document 01's. Assumes nothing.
+-- Rows beside the tables made from vectors/: document 01's examples that are not starred; the manuals' own examples; the ends of RFC 3629's ranges; what is
+-- no UTF-8, asked of each helper; records of every question; long values written, and read back. What is UTF-8 was asked of the Rust
+-- (tools/oracle/oracle.py); 4, the helpers' no, the writer's text and the records' lines are document 01's. Assumes nothing.
 use mathlib.Core.Bool.{true, false}
 use mathlib.Core.List.{List, [], _∷_, _++_}
+use Prim.Native.String.{String}
 use lib.Dec.{T}
+use Rattle.meaning.specs.declared.PartSize.the-variants.{Whole, AtMost}
 use Rattle.meaning.specs.Bytes.{within, isMark, isLetter, isDecimal, inName, startsTag, inTag, digit, allDigits}
 use Rattle.meaning.specs.Chars.{lead, utf8, more, encode, isScalar, width, isSpace}
 use Rattle.meaning.specs.Steps.{doubled, oneByte, mayEscape, scalarBy, pair, lowHalf, uescaped}
@@ -15,9 +18,11 @@ use Rattle.meaning.specs.Helpers.{uescapeLegal, escapeValid, unicodeVali
 use Rattle.meaning.specs.Answers.{partShown, filled}
 use Rattle.meaning.specs.Questions.{cutsCharacter, badSpan, sourceText, tested, stringQuestion, decimalQuestion, bitsQuestion, temporalQuestion}
 use Rattle.meaning.specs.Questions.{sourceQuestion, moneyQuestion, charsetQuestion, i64Question, identifierQuestion}
+use Rattle.meaning.specs.Writer.{spell, writtenText, overLimit, unwritableNul, writeQuestion}
 use Rattle.meaning.specs.Records.{line, goodRecord, recordLine, output}
-use Rattle.meaning.proofs.Rows.{Row, asks, spans, helps, names, prints, string, decimal-text, bit-text, temporal-text, source-text, charset, i64}
-use Rattle.meaning.proofs.Rows.{escape-valid, borrows, writes, plus, refuses, all}
+use Rattle.meaning.proofs.Rows.{Row, asks, spans, helps, names, prefixed, spells, prints, string, decimal-text, bit-text, temporal-text, source-text}
+use Rattle.meaning.proofs.Rows.{charset, i64, uescape-legal, escape-valid, unicode-valid, embeds-nul, is-ident, borrows, writes, plus, refuses, wrote}
+use Rattle.meaning.proofs.Rows.{needs, refused, all}
 
 -- [01 Examples] without a star
 abbrev pub examples : List Row
@@ -118,6 +123,59 @@ broken-texts =
     asks (string false) 4 "" "'þ'" "" (refuses 4) ∷
     asks (string false) 4 "" "'ÿ'" "" (refuses 4) ∷ []
 
+-- [01 Numbers an answer can carry] "the two validators and `uescape_argument_is_legal` answer no on text that isn't UTF-8; the others read bytes": inside the
+-- spelling and outside, each beside a neighbour that is UTF-8. Most of the arguments are as long as their first bytes say, and some of the E strings expand to
+-- UTF-8: the text itself has to be asked
+abbrev pub helpers : List Row
+helpers =
+    helps uescape-legal "'Ãÿ'" false ∷
+    helps uescape-legal "'Ã¿'" true ∷
+    helps uescape-legal "'à\u{80}\u{80}'" false ∷
+    helps uescape-legal "'à\u{9f}¿'" false ∷
+    helps uescape-legal "'à\u{a0}\u{80}'" true ∷
+    helps uescape-legal "'í\u{a0}\u{80}'" false ∷
+    helps uescape-legal "'í\u{9f}¿'" true ∷
+    helps uescape-legal "'í¿¿'" false ∷
+    helps uescape-legal "'î\u{80}\u{80}'" true ∷
+    helps uescape-legal "'ð\u{8f}¿¿'" false ∷
+    helps uescape-legal "'ð\u{80}\u{80}\u{80}'" false ∷
+    helps uescape-legal "'ð\u{90}\u{80}\u{80}'" true ∷
+    helps uescape-legal "'ô\u{90}\u{80}\u{80}'" false ∷
+    helps uescape-legal "'ô\u{8f}¿¿'" true ∷
+    helps uescape-legal "'Ã'" false ∷
+    helps uescape-legal "ÿ" false ∷
+    helps escape-valid "E'\\xC3©'" false ∷
+    helps escape-valid "E'Ã\\xA9'" false ∷
+    helps escape-valid "E'\\xC3\\xA9'" true ∷
+    helps escape-valid "E'Ã©'" true ∷
+    helps escape-valid "E'ÿ'" false ∷
+    helps escape-valid "E'\\342\\202¬'" false ∷
+    helps escape-valid "E'\\342\\202\\254'" true ∷
+    helps escape-valid "E'ÿ" false ∷
+    helps escape-valid "E'Ã¿" true ∷
+    helps escape-valid "'ÿ'" false ∷
+    helps escape-valid "'Ã¿'" true ∷
+    helps unicode-valid "U&'ÿ'" false ∷
+    helps unicode-valid "U&'Ã¿'" true ∷
+    helps unicode-valid "U&'\\00E9©'" false ∷
+    helps unicode-valid "U&'\\00E9Ã©'" true ∷
+    helps unicode-valid "U&'í\u{a0}\u{80}'" false ∷
+    helps unicode-valid "U&'í\u{9f}¿'" true ∷
+    helps unicode-valid "U&'a' UESCAPE 'à\u{80}\u{80}'" false ∷
+    helps unicode-valid "U&'a' UESCAPE 'à\u{a0}\u{80}'" true ∷
+    helps unicode-valid "U&'a' UESCAPE ÿ" false ∷
+    helps unicode-valid "U&'a' UESCAPE Ã¿" true ∷
+    helps unicode-valid "U&'ÿ" false ∷
+    helps unicode-valid "U&'Ã¿" true ∷
+    helps unicode-valid "U&\"ÿ\"" false ∷
+    helps unicode-valid "U&\"Ã¿\"" true ∷
+    names "U&\"ÿ\"" (refuses 4) ∷
+    names "U&\"Ã¿\"" (borrows 3 5 "Ã¿") ∷
+    helps is-ident "U&\"ÿ" true ∷
+    helps embeds-nul "ÿ\0" true ∷
+    helps embeds-nul "ÿ" false ∷
+    prefixed "0xÿ" 16 2 ∷ []
+
 -- the same ends by escapes
 abbrev pub escapes : List Row
 escapes =
@@ -180,13 +238,70 @@ records =
     prints "\u{1}\u{4}\0\u{2}''x" 57 "" "10 - 0 -\n" ∷
     prints "\u{1}\u{4}\0\u{1}''" 58 "" "10 - 0 -\n" ∷ []
 
+-- [01 The writer] values of 28 and of 60 bytes: marks, backslashes and NUL; characters of two, three and four bytes at the parts' ends
+abbrev pub nuls : String
+nuls = "\0it's \0\\Ã©â\u{82}¬'\\\0ð\u{9d}\u{84}\u{9e}'' done\0"
+
+abbrev pub clefs : String
+clefs = "Don't fold \\n: 3 Âµm, 5 â\u{82}¬, Â½ tick'd; clef: ð\u{9d}\u{84}\u{9e} ð\u{9d}\u{84}¢ '\\Ã©"
+
+abbrev pub long-values : List Row
+long-values =
+    spells true Whole nuls 40 (wrote "'\\0it''s \\0\\\\Ã©â\u{82}¬''\\\\\\0ð\u{9d}\u{84}\u{9e}'''' done\\0'") ∷
+    spells false Whole nuls 3 (refused 11) ∷
+    spells true (AtMost 4) nuls 61 (wrote "'\\0it''' 's \\0\\\\' 'Ã©' 'â\u{82}¬''' '\\\\\\0' 'ð\u{9d}\u{84}\u{9e}' ''''' d' 'one\\0'") ∷
+    spells true (AtMost 5) nuls 56 (wrote "'\\0it''s' ' \\0\\\\Ã©' 'â\u{82}¬''\\\\' '\\0ð\u{9d}\u{84}\u{9e}' ''''' do' 'ne\\0'") ∷
+    spells true (AtMost 7) nuls 49 (wrote "'\\0it''s \\0' '\\\\Ã©â\u{82}¬''' '\\\\\\0ð\u{9d}\u{84}\u{9e}''' ''' done\\0'") ∷
+    spells true (AtMost 16) nuls 44 (wrote "'\\0it''s \\0\\\\Ã©â\u{82}¬''\\\\\\0' 'ð\u{9d}\u{84}\u{9e}'''' done\\0'") ∷
+    spells false (AtMost 7) nuls 3 (refused 11) ∷
+    spells false Whole clefs 66 (wrote "'Don''t fold \\n: 3 Âµm, 5 â\u{82}¬, Â½ tick''d; clef: ð\u{9d}\u{84}\u{9e} ð\u{9d}\u{84}¢ ''\\Ã©'") ∷
+    spells true Whole clefs 67 (wrote "'Don''t fold \\\\n: 3 Âµm, 5 â\u{82}¬, Â½ tick''d; clef: ð\u{9d}\u{84}\u{9e} ð\u{9d}\u{84}¢ ''\\\\Ã©'") ∷
+    spells false (AtMost 4) clefs 114
+    (wrote
+    "'Don''' 't fo' 'ld \\' 'n: 3' ' Âµm' ', 5 ' 'â\u{82}¬,' ' Â½ ' 'tick' '''d; ' 'clef' ': ' 'ð\u{9d}\u{84}\u{9e}' ' ' 'ð\u{9d}\u{84}¢' ' ''\\' 'Ã©'") ∷
+    spells true (AtMost 4) clefs 115
+    (wrote
+    "'Don''' 't fo' 'ld \\\\' 'n: 3' ' Âµm' ', 5 ' 'â\u{82}¬,' ' Â½ ' 'tick' '''d; ' 'clef' ': ' 'ð\u{9d}\u{84}\u{9e}' ' ' 'ð\u{9d}\u{84}¢' ' ''\\\\' 'Ã©'") ∷
+    spells true (AtMost 5) clefs 104
+    (wrote "'Don''t' ' fold' ' \\\\n: ' '3 Âµm' ', 5 ' 'â\u{82}¬, ' 'Â½ ti' 'ck''d;' ' clef' ': ' 'ð\u{9d}\u{84}\u{9e} ' 'ð\u{9d}\u{84}¢ ' '''\\\\Ã©'") ∷
+    spells false (AtMost 7) clefs 92
+    (wrote "'Don''t f' 'old \\n:' ' 3 Âµm,' ' 5 â\u{82}¬,' ' Â½ tic' 'k''d; cl' 'ef: ' 'ð\u{9d}\u{84}\u{9e} ' 'ð\u{9d}\u{84}¢ ''\\' 'Ã©'") ∷
+    spells false (AtMost 16) clefs 75
+    (wrote "'Don''t fold \\n: 3' ' Âµm, 5 â\u{82}¬, Â½ ' 'tick''d; clef: ' 'ð\u{9d}\u{84}\u{9e} ð\u{9d}\u{84}¢ ''\\Ã©'") ∷
+    spells true (AtMost 16) clefs 76
+    (wrote "'Don''t fold \\\\n: 3' ' Âµm, 5 â\u{82}¬, Â½ ' 'tick''d; clef: ' 'ð\u{9d}\u{84}\u{9e} ð\u{9d}\u{84}¢ ''\\\\Ã©'") ∷
+    spells true (AtMost 59) clefs 71
+    (wrote "'Don''t fold \\\\n: 3 Âµm, 5 â\u{82}¬, Â½ tick''d; clef: ð\u{9d}\u{84}\u{9e} ð\u{9d}\u{84}¢ ''\\\\' 'Ã©'") ∷
+    spells true (AtMost 60) clefs 67
+    (wrote "'Don''t fold \\\\n: 3 Âµm, 5 â\u{82}¬, Â½ tick''d; clef: ð\u{9d}\u{84}\u{9e} ð\u{9d}\u{84}¢ ''\\\\Ã©'") ∷
+    spells false (AtMost 61) clefs 66
+    (wrote "'Don''t fold \\n: 3 Âµm, 5 â\u{82}¬, Â½ tick''d; clef: ð\u{9d}\u{84}\u{9e} ð\u{9d}\u{84}¢ ''\\Ã©'") ∷
+    spells true (AtMost 4) clefs 114 (needs 115) ∷
+    spells true (AtMost 3) clefs 3 (refused 12) ∷
+    spells false (AtMost 16) "Don't fold \\n: 3 Âµm, 5 â\u{82}¬, Â½ tick'd; clef: ð\u{9d}\u{84}\u{9e} ð\u{9d}\u{84}¢ '\\Ã" 3 (refused 4) ∷ []
+
+-- the same literals, read at the setting that they are written at
+abbrev pub read-back : List Row
+read-back =
+    asks (string true) 4 "" "'\\0it''s \\0\\\\Ã©â\u{82}¬''\\\\\\0ð\u{9d}\u{84}\u{9e}'''' done\\0'" "" (writes 0 nuls) ∷
+    asks (string true) 4 "" "'\\0it''s' ' \\0\\\\Ã©' 'â\u{82}¬''\\\\' '\\0ð\u{9d}\u{84}\u{9e}' ''''' do' 'ne\\0'" "" (writes 1 nuls) ∷
+    asks (string false) 4 "" "'Don''t fold \\n: 3 Âµm, 5 â\u{82}¬, Â½ tick''d; clef: ð\u{9d}\u{84}\u{9e} ð\u{9d}\u{84}¢ ''\\Ã©'" "" (writes 0 clefs) ∷
+    asks (string false) 4 ""
+    "'Don''' 't fo' 'ld \\' 'n: 3' ' Âµm' ', 5 ' 'â\u{82}¬,' ' Â½ ' 'tick' '''d; ' 'clef' ': ' 'ð\u{9d}\u{84}\u{9e}' ' ' 'ð\u{9d}\u{84}¢' ' ''\\' 'Ã©'" ""
+    (writes 1 clefs) ∷
+    asks (string true) 4 ""
+    "'Don''t' ' fold' ' \\\\n: ' '3 Âµm' ', 5 ' 'â\u{82}¬, ' 'Â½ ti' 'ck''d;' ' clef' ': ' 'ð\u{9d}\u{84}\u{9e} ' 'ð\u{9d}\u{84}¢ ' '''\\\\Ã©'" ""
+    (writes 0 clefs) ∷
+    asks (string true) 4 "" "'Don''t fold \\\\n: 3 Âµm, 5 â\u{82}¬, Â½ tick''d; clef: ð\u{9d}\u{84}\u{9e} ð\u{9d}\u{84}¢ ''\\\\' 'Ã©'" "" (writes 1 clefs) ∷ []
+
 abbrev pub rows : List Row
-rows = examples ++ (postgres ++ (mysql ++ (ranges ++ (broken-texts ++ (escapes ++ (cut-places ++ records))))))
+rows = examples ++ (postgres ++ (mysql ++ (ranges ++ (broken-texts ++ (helpers ++ (escapes ++ (cut-places ++ (records ++ (long-values ++ read-back)))))))))
 
 pub rows-right : T (all rows)
 unfolding within isMark isLetter isDecimal inName startsTag inTag digit allDigits lead utf8 more encode isScalar width isSpace doubled oneByte mayEscape
     scalarBy pair lowHalf uescaped named segment segmentStep cut continues encloses argument upper isUnicode unicodeSpelling delimiter spelling answer one read
     signLength isMinus baseBy radixPrefix parsed separated radixValue i64Of digitsBy digitsOf decimalOf bitBody bits money tokenStart quoteToken temporalToken
     temporal charsetEnd uescapeLegal escapeValid unicodeValid ident partShown filled cutsCharacter badSpan sourceText tested stringQuestion decimalQuestion
-    bitsQuestion temporalQuestion sourceQuestion moneyQuestion charsetQuestion i64Question identifierQuestion line goodRecord recordLine output
+    bitsQuestion temporalQuestion sourceQuestion moneyQuestion charsetQuestion i64Question identifierQuestion spell writtenText overLimit unwritableNul
+    writeQuestion line goodRecord recordLine output
 rows-right = tt

@@ -1,5 +1,6 @@
 -- What the definitions say and no question shows: which texts cut completely; the place that a refusal keeps inside; the numbers and values of
--- answers that no row reaches; the view of a range that does not fit; where each range of white space ends. Assumes nothing.
+-- answers that no row reaches; the view of a range that does not fit; where each range of white space ends; the bytes that an argument of UESCAPE
+-- gives. Assumes nothing.
 use mathlib.Core.Bool.{Bool, true, false, _&&_}
 use mathlib.Core.List.{List, [], _∷_, map}
 use Prim.Native.Nat.{ℕ}
@@ -48,6 +49,8 @@ pub data Fact : Type 0 where
   breaks-inside : String → ℕ → Fact
   -- a number is a white-space character, or it is none
   blank : ℕ → Bool → Fact
+  -- a quoted argument of UESCAPE gives the bytes of an escape character; no bytes: it is no legal argument
+  argues : String → String → Fact
   -- a kind has a code, and holds these besides; the code of a record gives a kind of that code
   kind : LiteralKind → List ℕ → Fact
   coded : ℕ → Fact
@@ -68,6 +71,7 @@ holds (cuts b t x) = equal (complete (record { backslash = b }) (ascii t)) x
 holds (breaks b t p) = refusedAt p (read (record { backslash = b }) (ascii t))
 holds (breaks-inside t p) = refusedAt p (temporal (ascii t))
 holds (blank c x) = equal (isSpace c) x
+holds (argues a e) = same (argument (ascii a)) (ascii e)
 holds (kind k vs) = same (kindCode k ∷ payload k) vs
 holds (coded c) = eqb (kindCode (kindOf c)) c
 holds (gives vs ws) = same vs ws
@@ -109,6 +113,15 @@ blanks =
     blank 0x1681 false ∷ blank 0x180E false ∷ blank 0x1FFF false ∷ blank 0x2000 true ∷ blank 0x200A true ∷ blank 0x200B false ∷ blank 0x2027 false ∷
     blank 0x2028 true ∷ blank 0x2029 true ∷ blank 0x202A false ∷ blank 0x202E false ∷ blank 0x202F true ∷ blank 0x2030 false ∷ blank 0x205E false ∷
     blank 0x205F true ∷ blank 0x2060 false ∷ blank 0x2FFF false ∷ blank 0x3000 true ∷ blank 0x3001 false ∷ blank 0xFEFF false ∷ []
+
+-- [01 One segment] "the escape is one character": a first byte and as many later ones as it makes due, 80 to BF each. The questions that read an argument ask
+-- first whether the text is UTF-8, so none shows what becomes of a later byte that is no such byte
+abbrev pub arguments : List Fact
+arguments =
+    argues "'!'" "!" ∷ argues "''" "" ∷ argues "'!!'" "" ∷ argues "''''" "" ∷ argues "'a'" "" ∷ argues "'Ã\u{80}'" "Ã\u{80}" ∷ argues "'Ã¿'" "Ã¿" ∷
+    argues "'Ã\u{7f}'" "" ∷ argues "'ÃÀ'" "" ∷ argues "'Ãÿ'" "" ∷ argues "'Ã'" "" ∷ argues "'Ã¿¿'" "" ∷ argues "'¿'" "" ∷ argues "'ÿ'" "" ∷
+    argues "'â\u{82}¬'" "â\u{82}¬" ∷ argues "'â\u{82}ÿ'" "" ∷ argues "'âÿ¬'" "" ∷ argues "'ð\u{9d}\u{84}\u{9e}'" "ð\u{9d}\u{84}\u{9e}" ∷
+    argues "'ð\u{9d}\u{84}À'" "" ∷ []
 
 -- [01 Record program] the kinds' codes; docs/DECISIONS.md, 10: what a kind holds besides
 abbrev pub kinds : List Fact
@@ -164,7 +177,7 @@ views =
     part-shows (Range′.Refused (InvalidMoney here)) "abc" "" ∷ name-shows (Charset′.Named 1 2) "abc" "b" ∷ name-shows (Charset′.Named 1 4) "abc" "" ∷
     name-shows Charset′.Unnamed "abc" "" ∷ name-shows (Charset′.Refused (NotUtf8 here)) "abc" "" ∷ []
 
-pub facts-hold : T (allHold cutting && allHold places && allHold blanks && allHold kinds && allHold numbers && allHold views)
+pub facts-hold : T (allHold cutting && allHold places && allHold blanks && allHold arguments && allHold kinds && allHold numbers && allHold views)
 unfolding within isMark isLetter isDecimal inName startsTag inTag digit allDigits lead utf8 more encode isScalar isSpace doubled oneByte mayEscape scalarBy pair
     lowHalf uescaped named segment segmentStep cut complete continues encloses argument upper isUnicode unicodeSpelling delimiter spelling answer one read
     bitBody bits tokenStart quoteToken temporalToken temporal partShown

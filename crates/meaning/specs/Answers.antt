@@ -3,10 +3,11 @@
 use mathlib.Core.Bool.{true, false, _&&_}
 use mathlib.Core.Path.{_≡_}
 use mathlib.Core.List.{List, [], _∷_, _++_, map}
-use Prim.Native.Nat.{ℕ}
+use Prim.Native.Nat.{ℕ, _+_}
 use lib.Dec.{leb}
 use lib.ListN.{length, drop}
 use lib.IntN.{ℤ, pos}
+use denote.Ref.{RefT, now}
 use Rattle.meaning.specs.declared.TimeZone.{TimeZone}
 use Rattle.meaning.specs.declared.TimeZone.the-variants as Zone
 use Rattle.meaning.specs.declared.IntervalFields.{IntervalFields}
@@ -255,7 +256,35 @@ charsetShown source (Charset′.Named f u) = partShown f u source
 charsetShown source Charset′.Unnamed = []
 charsetShown source (Charset′.Refused r) = []
 
--- THE BUFFER. "Written text fills the buffer's start; the remainder is unchanged"
+-- WHERE IT STANDS. "returned as slices of the lent source, proved to be that range": in the memory of a lent slice, as many bytes behind its start as the
+-- range's; a range that doesn't fit its slice shows an empty part at the slice's start, and a refusal one at the source's
+abbrev pub partPlace : ℕ → ℕ → RefT (List ℕ) → ℕ × ℕ
+partPlace f u lent = (lent .ptr .0, lent .ptr .1 + (if leb f u && leb u (length (now lent)) then f else 0))
+
+abbrev pub shownPlace : RefT (List ℕ) → RefT (List ℕ) → Text → ℕ × ℕ
+shownPlace source out (Text′.Borrowed f u) = partPlace f u source
+shownPlace source out (Text′.Written n) = partPlace 0 n out
+shownPlace source out (Text′.Refused r) = source .ptr
+
+abbrev pub rangePlace : RefT (List ℕ) → Range → ℕ × ℕ
+rangePlace source (Range′.Found f u) = partPlace f u source
+rangePlace source (Range′.Refused r) = source .ptr
+
+abbrev pub charsetPlace : RefT (List ℕ) → Charset → ℕ × ℕ
+charsetPlace source (Charset′.Named f u) = partPlace f u source
+charsetPlace source Charset′.Unnamed = source .ptr
+charsetPlace source (Charset′.Refused r) = source .ptr
+
+-- what a contract says of a returned slice: its bytes, and where it stands
+pub record IsPart (v : List ℕ) (at : ℕ × ℕ) (r : RefT (List ℕ)) : Type 0 where
+  pub bytes : now r ≡ v
+  pub place : r .ptr ≡ at
+
+-- THE BUFFER. A length n with room for m: "would be written, and the buffer is shorter"
+abbrev pub byRoom : {A : Type 0} → (ℕ → A) → (ℕ → A) → ℕ → ℕ → A
+byRoom written short n m = if leb n m then written n else short n
+
+-- "Written text fills the buffer's start; the remainder is unchanged"
 unfoldable pub filled : List ℕ → List ℕ → List ℕ
 filled v out = if leb (length v) (length out) then v ++ drop (length v) out else out
 

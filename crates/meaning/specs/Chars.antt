@@ -78,12 +78,12 @@ gather zero lo hi v t = v
 gather (suc n) lo hi v [] = 0
 gather (suc n) lo hi v (b ∷ t) = if within lo hi b then gather n 0x80 0xBF (v * 64 + (b - 0x80)) t else 0
 
--- n later bytes, and nothing more
+-- n later bytes, 80 to BF each, and nothing more
 abbrev pub laters : ℕ → List ℕ → Bool
 laters zero [] = true
 laters zero (b ∷ t) = false
 laters (suc n) [] = false
-laters (suc n) (b ∷ t) = leb 0x80 b && laters n t
+laters (suc n) (b ∷ t) = within 0x80 0xBF b && laters n t
 
 -- how many bytes the character has that a byte begins; 0: it begins none
 abbrev pub widthBy : Due → ℕ

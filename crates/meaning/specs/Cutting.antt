@@ -58,7 +58,7 @@ segmentStep σ t = segmentBy t (segment σ t)
 unfoldable pub cut : Settings → List ℕ → Trace
 cut σ t = walk (segmentStep σ) 0 t
 
--- segments cover the text; a lone one is all of it
+-- segments cover the text; a lone one is all of it. (A cut's units are segments: it keeps no byte)
 abbrev pub covers : List ℕ → Trace → Bool
 covers t (gave n s ended) = same s t
 covers t (gave n s (gave m s′ r)) = not (stops r)

@@ -21,13 +21,17 @@ escapeValid t =
     utf8 t
     && (if has (t ! 0) (ascii "Ee") && encloses 1 quote t then not (stops (checked fresh (walk escapeStep 0 (part 2 (length t - 1) t)))) else true)
 
+-- what is said of U& by its escape character and body, and of a text that is not spelled so: `unicodeSpelling` gives no other spelling
+abbrev pub ifUnicode : {A : Type 0} → (List ℕ → ℕ → ℕ → A) → A → Spelling → A
+ifUnicode f other (unicode e g u) = f e g u
+ifUnicode f other unspelt = other
+ifUnicode f other (standard q g u) = other
+ifUnicode f other (escape g u) = other
+ifUnicode f other (dollar g u) = other
+
 -- `unicode_escape_string_is_valid`: yes for text outside its spelling, "a bad UESCAPE clause included"
 abbrev pub unicodeValidAs : List ℕ → Spelling → Bool
-unicodeValidAs t (standard q f u) = true
-unicodeValidAs t (escape f u) = true
-unicodeValidAs t (unicode e f u) = not (stops (walk (unicodeStep e quote) 0 (part f u t)))
-unicodeValidAs t (dollar f u) = true
-unicodeValidAs t unspelt = true
+unicodeValidAs t s = ifUnicode (λ e f u. not (stops (walk (unicodeStep e quote) 0 (part f u t)))) true s
 
 unfoldable pub unicodeValid : List ℕ → Bool
 unicodeValid t = utf8 t && unicodeValidAs t (unicodeSpelling quote t)
@@ -42,11 +46,7 @@ isUnicodeIdent t = isUnicode dquote t
 
 -- `materialize_unicode_ident`: "U& with \" as its mark by the same rules, a raw NUL kept"
 abbrev pub identAs : List ℕ → Spelling → Answer
-identAs t (standard q f u) = refused 0
-identAs t (escape f u) = refused 0
-identAs t (unicode e f u) = answer f u (walk (unicodeStep e dquote) 0 (part f u t))
-identAs t (dollar f u) = refused 0
-identAs t unspelt = refused 0
+identAs t s = ifUnicode (λ e f u. answer f u (walk (unicodeStep e dquote) 0 (part f u t))) (refused 0) s
 
 unfoldable pub ident : List ℕ → Answer
 ident t = identAs t (unicodeSpelling dquote t)

@@ -26,7 +26,7 @@ abbrev pub borrowedAs : ℕ → ℕ → Value → Answer
 borrowedAs f u (means v) = borrowed f u
 borrowedAs f u (fails p) = refused p
 
--- "written if more than the first segment"
+-- "written if more than the first segment". (A cut keeps no byte)
 abbrev pub bitsBy : ℕ → List ℕ → Trace → Answer
 bitsBy β t (gave n s r) =
     if eqb (length s) (length t) then borrowedAs 2 (length t - 1) (firstBits β s)

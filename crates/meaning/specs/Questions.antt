@@ -35,7 +35,8 @@ use Rattle.meaning.specs.Reading.{Answer, borrowed, written, refused, re
 use Rattle.meaning.specs.Numbers.{Parsed, none, int, i64Of, decimalOf}
 use Rattle.meaning.specs.Kinds.{bits, money, temporal, charsetEnd}
 use Rattle.meaning.specs.Helpers.{ident}
-use Rattle.meaning.specs.Answers.{Outcome, kindCode, filled}
+use Rattle.meaning.specs.Answers.{Outcome, kindCode}
+use Rattle.meaning.specs.Reads.{outcomeBy}
 
 -- SPANS. "A place cuts a character when it is below the source length and its byte is 80 to BF hex"
 unfoldable pub cutsCharacter : ℕ → List ℕ → Bool
@@ -85,10 +86,7 @@ bitBase k = if eqb (kindCode k) 12 then 2 else if eqb (kindCode k) 13 then 16 el
 
 -- TEXTS. A reading of the text in a span that begins at s, for a buffer: `bad` is why a refused one is refused
 abbrev pub toldAs : Refusal → ℕ → List ℕ → Answer → Outcome Text
-toldAs bad s out (borrowed f u) = record { answer = Text′.Borrowed (s + f) (s + u); buffer = out }
-toldAs bad s out (written v) =
-    record { answer = if leb (length v) (length out) then Text′.Written (length v) else Text′.Refused (NoRoom (length v)); buffer = filled v out }
-toldAs bad s out (refused p) = record { answer = Text′.Refused bad; buffer = out }
+toldAs bad s out a = outcomeBy (λ f u. Text′.Borrowed (s + f) (s + u)) Text′.Written (λ n. Text′.Refused (NoRoom n)) (λ p. Text′.Refused bad) out a
 
 abbrev pub told : (List ℕ → Answer) → (Span → Refusal) → Literal → List ℕ → Tested → Outcome Text
 told f bad l out (passes t) = toldAs (bad (l .span)) (l .span .start) out (f t)
@@ -111,7 +109,7 @@ bitsQuestion l source out =
 unfoldable pub temporalQuestion : Literal → List ℕ → List ℕ → Outcome Text
 temporalQuestion l source out = told temporal InvalidString l out (tested (isTemporal (l .kind)) Expected.Temporal l source)
 
--- PARTS of the source. `source_text` tests no kind
+-- PARTS of the source: neither question writes. `source_text` tests no kind, and is refused by the tests alone
 abbrev pub rangeAs : Refusal → ℕ → Answer → Range
 rangeAs bad s (borrowed f u) = Range′.Found (s + f) (s + u)
 rangeAs bad s (written v) = Range′.Refused bad
@@ -163,10 +161,7 @@ nullQuestion k = if isNull k then Nullness′.IsNull else Nullness′.Refused (W
 
 -- IDENTIFIERS, on bare text: 4, then 6, then 9
 abbrev pub identifierAs : List ℕ → Answer → Outcome Identifier
-identifierAs out (borrowed f u) = record { answer = Identifier′.Borrowed f u; buffer = out }
-identifierAs out (written v) =
-    record { answer = if leb (length v) (length out) then Identifier′.Written (length v) else Identifier′.NoRoom (length v); buffer = filled v out }
-identifierAs out (refused p) = record { answer = Identifier′.InvalidString; buffer = out }
+identifierAs out a = outcomeBy Identifier′.Borrowed Identifier′.Written Identifier′.NoRoom (λ p. Identifier′.InvalidString) out a
 
 unfoldable pub identifierQuestion : List ℕ → List ℕ → Outcome Identifier
 identifierQuestion t out = if utf8 t then identifierAs out (ident t) else record { answer = Identifier′.NotUtf8; buffer = out }

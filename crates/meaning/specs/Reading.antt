@@ -51,7 +51,7 @@ both (fails p) y = fails p
 both (means v) (means w) = means (v ++ w)
 both (means v) (fails p) = fails p
 
--- the segments of a cut, each read by itself, one value after the other
+-- the segments of a cut, each read by itself, one value after the other. (A cut keeps no byte)
 abbrev pub each : (List ℕ → Value) → Trace → Value
 each f ended = means []
 each f stopped = fails 0

@@ -27,7 +27,7 @@ use Rattle.meaning.specs.Numbers.{digitsOf, printed}
 use Rattle.meaning.specs.Answers.{Outcome, refusalNumber, shown, rangeShown, charsetShown}
 use Rattle.meaning.specs.Questions.{stringQuestion, i64Question, decimalQuestion, bitsQuestion, moneyQuestion, temporalQuestion, charsetQuestion}
 
--- KINDS by code, time zones unspecified, interval data absent; codes outside 1 to 14 are no kind
+-- KINDS by code, time zones unspecified, interval data absent; codes outside 1 to 14 are no kind, and no question is asked of what the list gives there
 abbrev pub kindBy : List LiteralKind → ℕ → LiteralKind
 kindBy [] c = Kind.Null
 kindBy (k ∷ ks) zero = k

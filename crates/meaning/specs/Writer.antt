@@ -1,9 +1,9 @@
 -- [01 The writer] Plain literals at a setting, whole or in parts. "Writing tests 12, 4, 11, 9." Assumes nothing.
-use mathlib.Core.Bool.{Bool, false, _&&_, _||_, not}
+use mathlib.Core.Bool.{Bool, true, false, _&&_, _||_, not}
 use mathlib.Core.List.{List, [], _∷_, _++_}
 use Prim.Native.Nat.{ℕ, _-_}
 use Prim.Native.Char.{code}
-use lib.Dec.{eqb, leb, ltb}
+use lib.Dec.{eqb, ltb}
 use lib.ListN.{length}
 use Rattle.meaning.specs.declared.Settings.{Settings}
 use Rattle.meaning.specs.declared.PartSize.{PartSize}
@@ -12,7 +12,7 @@ use Rattle.meaning.specs.declared.Writing.{Writing}
 use Rattle.meaning.specs.declared.Writing.the-variants.{Written, OverLimit, NotUtf8, HoldsNul, NoRoom}
 use Rattle.meaning.specs.Bytes.{if_then_else_, has, quote, backslash}
 use Rattle.meaning.specs.Chars.{utf8, width}
-use Rattle.meaning.specs.Answers.{Outcome, filled}
+use Rattle.meaning.specs.Answers.{Outcome, byRoom, filled}
 
 -- "Doubles '. Setting on: doubles backslash, NUL becomes \0." How one byte of the value is spelled
 unfoldable pub spell : Bool → ℕ → List ℕ
@@ -31,14 +31,14 @@ abbrev pub literal : Bool → List ℕ → List ℕ
 literal bs v = quote ∷ spells bs v ++ (quote ∷ [])
 
 -- PARTS. "fills each part with as many whole characters as fit that many value bytes": the part at hand, which may take n bytes
--- more, and the parts behind it, of w bytes each at the most
+-- more, and the parts behind it, of w bytes each at the most. There is always one at hand: `onFirst` is asked of no empty list
 abbrev pub onFirst : ℕ → List (List ℕ) → List (List ℕ)
 onFirst b [] = (b ∷ []) ∷ []
 onFirst b (p ∷ ps) = (b ∷ p) ∷ ps
 
 abbrev pub partsFrom : ℕ → ℕ → List ℕ → List (List ℕ)
 partsFrom w n [] = [] ∷ []
-partsFrom w n (b ∷ v) = if ltb n (width b) then [] ∷ onFirst b (partsFrom w (w - 1) v) else onFirst b (partsFrom w (n - 1) v)
+partsFrom w n (b ∷ v) = elim (ltb n (width b)) [ true ↦ [] ∷ onFirst b (partsFrom w (w - 1) v) | false ↦ onFirst b (partsFrom w (n - 1) v) ]
 
 abbrev pub partsOf : PartSize → List ℕ → List (List ℕ)
 partsOf Whole v = v ∷ []
@@ -69,7 +69,7 @@ unfoldable pub unwritableNul : Settings → List ℕ → Bool
 unwritableNul σ v = not (σ .backslash) && has 0 v
 
 abbrev pub writes : List ℕ → List ℕ → Outcome Writing
-writes t out = record { answer = if leb (length t) (length out) then Written (length t) else NoRoom (length t); buffer = filled t out }
+writes t out = record { answer = byRoom Written NoRoom (length t) (length out); buffer = filled t out }
 
 unfoldable pub writeQuestion : Settings → PartSize → List ℕ → List ℕ → Outcome Writing
 writeQuestion σ size v out =

@@ -17,7 +17,7 @@ use spans::tests::test_source;
 ghost use mathlib.Core.Path.{_≡_};
 ghost use Rattle.meaning.specs.Questions.{sourceQuestion, moneyQuestion, charsetQuestion};
 ghost use Rattle.meaning.specs.Kinds.{charsetEnd};
-ghost use Rattle.meaning.specs.Answers.{rangeShown, charsetShown};
+ghost use Rattle.meaning.specs.Answers.{IsPart, rangeShown, rangePlace, charsetShown, charsetPlace};
 ghost use Rattle.questions.specs.Told.{InText, rangeBy};
 
 // Where a literal's text stands; no kind is asked.
@@ -34,7 +34,7 @@ pub fn source_range(literal: Literal, source: &[u8]) -> Range
 // A literal's text, a part of the source; empty on a refusal.
 // Rules out: the source's first byte shown; the whole source shown (must-fail: first_byte_shown, whole_source_shown).
 pub fn source_text(literal: Literal, source: &[u8]) -> &[u8]
-    ensures { λ r. ⌜ now r ≡ rangeShown (now (source .entry)) (sourceQuestion literal (now (source .entry))) ⌝ }
+    ensures { λ r. ⌜ IsPart (rangeShown (now (source .entry)) (sourceQuestion literal (now (source .entry)))) (rangePlace (source .entry) (sourceQuestion literal (now (source .entry)))) r ⌝ }
 {
     let text = source_range(literal, source);
     range_shown(source, text)
@@ -76,7 +76,7 @@ pub fn money_range(literal: Literal, source: &[u8]) -> Range
 // A money literal's text behind its $, a part of the source; empty on a refusal.
 // Rules out: the source's first byte shown; the whole source shown (must-fail: first_byte_shown, whole_source_shown).
 pub fn as_money_text(literal: Literal, source: &[u8]) -> &[u8]
-    ensures { λ r. ⌜ now r ≡ rangeShown (now (source .entry)) (moneyQuestion literal (now (source .entry))) ⌝ }
+    ensures { λ r. ⌜ IsPart (rangeShown (now (source .entry)) (moneyQuestion literal (now (source .entry)))) (rangePlace (source .entry) (moneyQuestion literal (now (source .entry)))) r ⌝ }
 {
     let money = money_range(literal, source);
     range_shown(source, money)
@@ -121,7 +121,7 @@ pub fn charset_range(literal: Literal, source: &[u8]) -> Charset
 // The name of a string literal's charset, a part of the source; empty on a refusal and without a name.
 // Rules out: the source's first byte shown; the whole source shown (must-fail: first_byte_shown, whole_source_shown).
 pub fn charset_introducer(literal: Literal, source: &[u8]) -> &[u8]
-    ensures { λ r. ⌜ now r ≡ charsetShown (now (source .entry)) (charsetQuestion literal (now (source .entry))) ⌝ }
+    ensures { λ r. ⌜ IsPart (charsetShown (now (source .entry)) (charsetQuestion literal (now (source .entry)))) (charsetPlace (source .entry) (charsetQuestion literal (now (source .entry)))) r ⌝ }
 {
     let name = charset_range(literal, source);
     charset_shown(source, name)

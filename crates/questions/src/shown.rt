@@ -1,15 +1,16 @@
-// The view: what an answer shows of the source or of the buffer. A range that does not fit its slice, or a refusal, shows an empty part.
+// The view: what an answer shows of the source or of the buffer, as a part of that very slice. A range that does not fit its slice shows an empty part
+// at the slice's start, and a refusal one at the source's.
 use leaves::views::part_of;
 use meaning::Charset;
 use meaning::Range;
 use meaning::Text;
-ghost use mathlib.Core.Path.{_≡_};
-ghost use Rattle.meaning.specs.Answers.{shown, rangeShown, charsetShown};
+ghost use Rattle.meaning.specs.Answers.{IsPart, shown, shownPlace, rangeShown, rangePlace, charsetShown, charsetPlace};
 
 // Either the source's part or the buffer's.
-// Rules out: the source shown for a written text; a written text shown from its second byte on (must-fail: first_of_each, second_of_each).
+// Rules out: the source shown for a written text; the buffer for a borrowed one; an empty part of the buffer for a refusal; a written text shown from its
+// second byte on (must-fail: first_of_each, other_slice, empty_part_of_the_buffer, offset_one_too_far).
 pub fn text_shown<'a>(source: &'a [u8], out: &'a [u8], answer: Text) -> &'a [u8]
-    ensures { λ r. ⌜ now r ≡ shown (now (source .entry)) (now (out .entry)) answer ⌝ }
+    ensures { λ r. ⌜ IsPart (shown (now (source .entry)) (now (out .entry)) answer) (shownPlace (source .entry) (out .entry) answer) r ⌝ }
 {
     match answer {
         Text::Borrowed { start, end } => part_of(source, start, end),
@@ -21,7 +22,7 @@ pub fn text_shown<'a>(source: &'a [u8], out: &'a [u8], answer: Text) -> &'a [u8]
 // The part of the source that a range stands for.
 // Rules out: the part from the source's start; an empty part (must-fail: first_of_each, second_of_each).
 pub fn range_shown(source: &[u8], answer: Range) -> &[u8]
-    ensures { λ r. ⌜ now r ≡ rangeShown (now (source .entry)) answer ⌝ }
+    ensures { λ r. ⌜ IsPart (rangeShown (now (source .entry)) answer) (rangePlace (source .entry) answer) r ⌝ }
 {
     match answer {
         Range::Found { start, end } => part_of(source, start, end),
@@ -32,7 +33,7 @@ pub fn range_shown(source: &[u8], answer: Range) -> &[u8]
 // The charset's name.
 // Rules out: the part from the source's start; an empty part (must-fail: first_of_each, second_of_each).
 pub fn charset_shown(source: &[u8], answer: Charset) -> &[u8]
-    ensures { λ r. ⌜ now r ≡ charsetShown (now (source .entry)) answer ⌝ }
+    ensures { λ r. ⌜ IsPart (charsetShown (now (source .entry)) answer) (charsetPlace (source .entry) answer) r ⌝ }
 {
     match answer {
         Charset::Named { start, end } => part_of(source, start, end),

@@ -5,3 +5,4 @@ pub mod Signs
 pub mod Heading
 pub mod Answering
 pub mod Goods
+pub mod Lengths

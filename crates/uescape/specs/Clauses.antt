@@ -2,9 +2,8 @@
 use mathlib.Core.Bool.{Bool, true, _&&_}
 use mathlib.Core.List.{List, [], _∷_, map}
 use Prim.Native.Nat.{ℕ, suc, _+_, _-_}
-use lib.Dec.{leb}
 use lib.ListN.{length, take, drop}
-use Rattle.meaning.specs.Bytes.{if_then_else_, ascii, same}
+use Rattle.meaning.specs.Bytes.{if_then_else_, ascii, same, within}
 use Rattle.meaning.specs.Steps.{gap, trim}
 use Rattle.meaning.specs.Spelling.{upper, argument}
 use Rattle.uescape.specs.declared.Argument.{Argument}
@@ -12,10 +11,10 @@ use Rattle.uescape.specs.declared.Argument.the-variants.{Legal, Illegal}
 use Rattle.uescape.specs.declared.Clause.{Clause}
 use Rattle.uescape.specs.declared.Clause.the-variants.{Default, Chosen, Bad}
 
--- each byte is 80 hex or above
-abbrev pub allHigh : List ℕ → Bool
-allHigh [] = true
-allHigh (b ∷ t) = leb 0x80 b && allHigh t
+-- each byte is a later one of a character
+abbrev pub allLater : List ℕ → Bool
+allLater [] = true
+allLater (b ∷ t) = within 0x80 0xBF b && allLater t
 
 unfoldable pub isKeyword : List ℕ → Bool
 isKeyword t = same (map upper (take 7 t)) (ascii "UESCAPE")

@@ -7,15 +7,18 @@ use spaces::space_at;
 ghost use mathlib.Core.Path.{_≡_};
 ghost use lib.ListN.{drop};
 ghost use Rattle.meaning.specs.Spelling.{legalEscape, upper};
-ghost use Rattle.uescape.specs.Clauses.{allHigh, isKeyword, argumentOf, clauseOf};
+ghost use Rattle.uescape.specs.Clauses.{allLater, isKeyword, argumentOf, clauseOf};
 
-// Whether each byte from a place on is 80 hex or above.
+// Whether each byte from a place on is 80 to BF hex.
 fn later_bytes(bytes: &[u8], from: usize) -> bool
-    ensures { λ r. ⌜ r ≡ allHigh (drop from (now (bytes .entry))) ⌝ }
+    ensures { λ r. ⌜ r ≡ allLater (drop from (now (bytes .entry))) ⌝ }
 {
     let mut i = from;
     while i < bytes.len() {
         if bytes[i] < 128 {
+            return false;
+        }
+        if 191 < bytes[i] {
             return false;
         }
         i += 1;

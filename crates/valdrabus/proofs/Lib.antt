@@ -5,3 +5,5 @@ mod Lending
 mod Numbering
 mod Viewing
 mod Determined
+mod Demands
+mod Witnesses

@@ -55,7 +55,7 @@ text-from bs w k (b ∷ v) =
   where
     go : (x : Bool) → literals bs (partsFrom w (w - 1) v) ≡ quote ∷ (turns bs w 1 v ++ (quote ∷ []))
         → literals bs (partsFrom w (w - k - 1) v) ≡ quote ∷ (turns bs w (k + 1) v ++ (quote ∷ []))
-        → literals bs (if x then [] ∷ onFirst b (partsFrom w (w - 1) v) else onFirst b (partsFrom w (w - k - 1) v))
+        → literals bs (elim x [ true ↦ [] ∷ onFirst b (partsFrom w (w - 1) v) | false ↦ onFirst b (partsFrom w (w - k - 1) v) ])
         ≡ quote ∷ ((turn bs x b ++ turns bs w (usedBehind x k) v) ++ (quote ∷ []))
     go true e f =
         part-more bs [] (onFirst b (partsFrom w (w - 1) v)) (spell bs b ++ (turns bs w 1 v ++ (quote ∷ [])))
@@ -68,7 +68,12 @@ text-from bs w k (b ∷ v) =
 -- a part that does not end: a character has four bytes at the most
 endless : (w n : ℕ) (v : List ℕ) → length v + 3 ≤ n → partsFrom w n v ≡ v ∷ []
 endless w n [] h = refl
-endless w n (b ∷ v) h = let m = width-most b in rw (le-ltb n (width b) (omega arith), endless w (n - 1) v (omega arith))
+endless w n (b ∷ v) h = go (ltb n (width b)) refl (endless w (n - 1) v (omega arith))
+  where
+    go : (x : Bool) → ltb n (width b) ≡ x → partsFrom w (n - 1) v ≡ v ∷ []
+        → elim x [ true ↦ [] ∷ onFirst b (partsFrom w (w - 1) v) | false ↦ onFirst b (partsFrom w (n - 1) v) ] ≡ (b ∷ v) ∷ []
+    go true e ih = let l = ltb-true n (width b) e in let m = width-most b in absurd (omega arith)
+    go false e ih = ap (onFirst b) ih
 
 -- WHAT IS PUT IS WHAT IS TO BE WRITTEN
 pub text-is : (σ : Settings) (size : PartSize) (v : List ℕ) → length v ≤ 268435456 → textBy (σ .backslash) (limitOf size) v ≡ writtenText σ size v

@@ -39,7 +39,7 @@ pub fn main() -> ExitCode {
     let (all, seconds) = (tally.comparisons(), began.elapsed().as_secs());
     match outcome {
         Ok(()) => {
-            println!("{all} comparisons in {seconds} s, 0 different");
+            println!("compared with the Rust original: {all} comparisons in {seconds} s, 0 different");
             ExitCode::SUCCESS
         }
         Err(difference) => {

@@ -1,11 +1,10 @@
--- `litrec::answer_records` keeps to its buffers. The loop's invariant: the places lie within them. The measure is what is left of the input. Assumes nothing.
-use mathlib.Core.Path.{sym}
-use lib.Seq.{length-take-le}
-use native.Mathlib.Omega.{arith}
-use borrow.Author.Needs.{needs}
+-- `litrec::answer_records` meets its contract. The loop's invariant: the lines of the records before a place are put. The measure is what is left of the
+-- input. Assumes nothing.
 use Prim.Native.Nat.{_-_}
+use native.Mathlib.Omega.{arith}
 use lib.ListN.{length}
-use Rattle.litrec.proofs.Filling.{Answered, answered-none, answered-turn}
+use borrow.Author.Needs.{needs}
+use Rattle.litrec.proofs.Filling.{Answered, answered-none, answered-turn, answered-end}
 use Rattle.litrec.proofs.answer_records.Statement.{statement}
 use Rattle.litrec.proofs.answer_records.Tie as tie
 
@@ -20,9 +19,6 @@ loop-holds c = answered-none _ _
 
 record-end-requires : tie.Need-record-end-requires Inv-loop μ-loop
 record-end-requires c κs = search needs
-
-flushed-requires : tie.Need-flushed-requires Inv-loop μ-loop
-flushed-requires c κs = search needs
 
 sub-record-line : tie.Need-sub-record-line Inv-loop μ-loop
 sub-record-line c = search needs
@@ -52,22 +48,13 @@ add-full : tie.Need-add-full Inv-loop μ-loop
 add-full c = let a = loop-again c in omega (arith, a .room)
 
 loop-less : tie.Need-loop-less Inv-loop μ-loop
-loop-less c = omega arith
-
-slice-reshare-prefix-write-all : tie.Need-slice-reshare-prefix-write-all Inv-loop μ-loop
-slice-reshare-prefix-write-all c = search needs
-
-slice-aggregate-write-all : tie.Need-slice-aggregate-write-all Inv-loop μ-loop
-slice-aggregate-write-all c = sym (length-take-le _ _ (c .before .before .loop .inv .room))
-
-write-all-requires : tie.Need-write-all-requires Inv-loop μ-loop
-write-all-requires c κs = search needs
+loop-less c = search needs
 
 same-length : tie.Need-same-length Inv-loop μ-loop
-same-length c = c .before .before .before .loop .inv .same
+same-length c = search needs
 
 returns : tie.Need-returns Inv-loop μ-loop
-returns c = search needs
+returns c = search answered-end
 
 pub answer-records-spec : {M : Type 1} → statement M
 answer-records-spec =
@@ -77,7 +64,6 @@ answer-records-spec =
     μ-loop
     loop-holds
     record-end-requires
-    flushed-requires
     sub-record-line
     part-record-line-start
     part-record-line-end
@@ -88,8 +74,5 @@ answer-records-spec =
     add-full
     loop-less
     loop-again
-    slice-reshare-prefix-write-all
-    slice-aggregate-write-all
-    write-all-requires
     same-length
     returns)

@@ -1,6 +1,6 @@
 -- `leaves::views::shown` meets its contract: the text's part or the buffer's. Assumes nothing.
 use borrow.Author.Needs.{needs}
-use Rattle.leaves.proofs.Shown.{shown-borrowed, shown-written}
+use Rattle.leaves.proofs.Shown.{shown-borrowed, shown-written, shown-refused, shown-short}
 use Rattle.leaves.proofs.views.shown.Statement.{statement}
 use Rattle.leaves.proofs.views.shown.Tie as tie
 
@@ -35,10 +35,10 @@ returns-2 : tie.Need-returns-2
 returns-2 c = search shown-written
 
 returns-3 : tie.Need-returns-3
-returns-3 c = search needs
+returns-3 c = search shown-refused
 
 returns-4 : tie.Need-returns-4
-returns-4 c = search needs
+returns-4 c = search shown-short
 
 pub shown-spec : {M : Type 1} → statement M
 shown-spec =

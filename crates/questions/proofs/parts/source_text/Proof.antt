@@ -1,4 +1,5 @@
 -- `questions::parts::source_text` meets its contract: the range is shown. Assumes nothing.
+use Rattle.questions.proofs.Viewing.{range-as}
 use borrow.Author.Needs.{needs}
 use Rattle.questions.proofs.parts.source_text.Statement.{statement}
 use Rattle.questions.proofs.parts.source_text.Tie as tie
@@ -10,7 +11,7 @@ range-shown-requires : tie.Need-range-shown-requires
 range-shown-requires c κs = search needs
 
 returns : tie.Need-returns
-returns c = rw (← c .before .source-range .ensures) (c .range-shown .ensures)
+returns c = search range-as
 
 pub source-text-spec : {M : Type 1} → statement M
 source-text-spec = tie.close (tie.spec source-range-requires range-shown-requires returns)

@@ -1,5 +1,5 @@
 -- `questions::shown::charset_shown` meets its contract, by the answer. Assumes nothing.
-use Rattle.questions.proofs.Viewing.{charset-named}
+use Rattle.questions.proofs.Viewing.{charset-named, charset-unnamed, charset-refused}
 use borrow.Author.Needs.{needs}
 use Rattle.questions.proofs.shown.charset_shown.Statement.{statement}
 use Rattle.questions.proofs.shown.charset_shown.Tie as tie
@@ -26,10 +26,10 @@ returns : tie.Need-returns
 returns c = search charset-named
 
 returns-2 : tie.Need-returns-2
-returns-2 c = search needs
+returns-2 c = search charset-unnamed
 
 returns-3 : tie.Need-returns-3
-returns-3 c = search needs
+returns-3 c = search charset-refused
 
 pub charset-shown-spec : {M : Type 1} → statement M
 charset-shown-spec =

@@ -1,5 +1,5 @@
 -- `questions::shown::range_shown` meets its contract, by the answer. Assumes nothing.
-use Rattle.questions.proofs.Viewing.{range-found}
+use Rattle.questions.proofs.Viewing.{range-found, range-refused}
 use borrow.Author.Needs.{needs}
 use Rattle.questions.proofs.shown.range_shown.Statement.{statement}
 use Rattle.questions.proofs.shown.range_shown.Tie as tie
@@ -20,7 +20,7 @@ returns : tie.Need-returns
 returns c = search range-found
 
 returns-2 : tie.Need-returns-2
-returns-2 c = search needs
+returns-2 c = search range-refused
 
 pub range-shown-spec : {M : Type 1} → statement M
 range-shown-spec =

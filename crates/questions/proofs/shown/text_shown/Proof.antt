@@ -1,5 +1,5 @@
 -- `questions::shown::text_shown` meets its contract, by the answer. Assumes nothing.
-use Rattle.questions.proofs.Viewing.{shown-borrowed, shown-written}
+use Rattle.questions.proofs.Viewing.{shown-borrowed, shown-written, shown-refused}
 use borrow.Author.Needs.{needs}
 use Rattle.questions.proofs.shown.text_shown.Statement.{statement}
 use Rattle.questions.proofs.shown.text_shown.Tie as tie
@@ -29,7 +29,7 @@ returns-2 : tie.Need-returns-2
 returns-2 c = search shown-written
 
 returns-3 : tie.Need-returns-3
-returns-3 c = search needs
+returns-3 c = search shown-refused
 
 pub text-shown-spec : {M : Type 1} → statement M
 text-shown-spec =

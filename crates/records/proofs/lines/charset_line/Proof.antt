@@ -13,7 +13,7 @@ part-of-requires c κs = search needs
 shown-line-requires : tie.Need-shown-line-requires
 shown-line-requires c κs =
     let s = c .before .before .before .before .before .before .before in
-    (short _ _ _ _ (c .before .part-of .ensures) (s .pre .0), s .pre .1)
+    (short _ _ _ _ (c .before .part-of .ensures .bytes) (s .pre .0), s .pre .1)
 
 enum-told : tie.Need-enum-told
 enum-told c = search needs

@@ -13,7 +13,7 @@ part-of-requires c κs = search needs
 shown-line-requires : tie.Need-shown-line-requires
 shown-line-requires c κs =
     let s = c .before .before .before .before .before .before .before .before in
-    (short _ _ _ _ (c .before .part-of .ensures) (s .pre .0), s .pre .2)
+    (short _ _ _ _ (c .before .part-of .ensures .bytes) (s .pre .0), s .pre .2)
 
 enum-known-answer-2 : tie.Need-enum-known-answer-2
 enum-known-answer-2 c = search needs
@@ -24,7 +24,7 @@ part-of-requires-2 c κs = search needs
 shown-line-requires-2 : tie.Need-shown-line-requires-2
 shown-line-requires-2 c κs =
     let s = c .before .before .before .before .before .before .before .before in
-    (short _ _ _ _ (c .before .part-of2 .ensures) (s .pre .1), s .pre .2)
+    (short _ _ _ _ (c .before .part-of2 .ensures .bytes) (s .pre .1), s .pre .2)
 
 enum-known-answer-3 : tie.Need-enum-known-answer-3
 enum-known-answer-3 c = search needs

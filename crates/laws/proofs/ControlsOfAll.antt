@@ -1,0 +1,138 @@
+-- [01 What the contracts owe] "Shut out" by the contract of each other question that is lent a buffer: a closed input that it writes text for, and so all of
+-- `Controls`. Those that join have an input of two segments; the writer's has two parts, so that one which writes the first part only is shut out too.
+-- Assumes nothing.
+use mathlib.Core.Path.{refl}
+use mathlib.Core.List.{List, []}
+use Prim.Native.Nat.{ℕ}
+use native.Mathlib.Omega.{arith}
+use Rattle.meaning.specs.declared.Settings.{Settings}
+use Rattle.meaning.specs.declared.PartSize.{PartSize}
+use Rattle.meaning.specs.declared.PartSize.the-variants.{AtMost}
+use Rattle.meaning.specs.declared.BitStringRadix.the-variants.{Binary}
+use Rattle.meaning.specs.declared.LiteralKind.the-variants as Kind
+use Rattle.meaning.specs.declared.Literal.{Literal}
+use Rattle.meaning.specs.declared.Text.{Text}
+use Rattle.meaning.specs.declared.Identifier.{Identifier}
+use Rattle.meaning.specs.declared.Identifier.the-variants as Identifier′
+use Rattle.meaning.specs.declared.Writing.{Writing}
+use Rattle.meaning.specs.declared.Writing.the-variants as Writing′
+use Rattle.meaning.specs.Bytes.{ascii, within, isMark, digit, allDigits}
+use Rattle.meaning.specs.Chars.{lead, utf8, width, more, encode, isScalar, isSpace}
+use Rattle.meaning.specs.Steps.{doubled, mayEscape, scalarBy, uescaped}
+use Rattle.meaning.specs.Cutting.{off, named, segment, segmentStep, cut, continues}
+use Rattle.meaning.specs.Spelling.{encloses, isUnicode, unicodeSpelling, spelling}
+use Rattle.meaning.specs.Reading.{answer, one, read}
+use Rattle.meaning.specs.Numbers.{signLength, baseBy, radixPrefix, separated, decimalOf}
+use Rattle.meaning.specs.Kinds.{bitBody, bits, tokenStart, quoteToken, temporalToken, temporal}
+use Rattle.meaning.specs.Helpers.{ident}
+use Rattle.meaning.specs.Answers.{identifierNumber, identifierValues, writingNumber, writingValues, partShown, filled}
+use Rattle.meaning.specs.Questions.{cutsCharacter, badSpan, sourceText, tested, stringQuestion, plainQuestion, decimalQuestion, bitsQuestion, temporalQuestion}
+use Rattle.meaning.specs.Questions.{identifierQuestion}
+use Rattle.meaning.specs.Writer.{spell, writtenText, overLimit, unwritableNul, writeQuestion}
+use Rattle.laws.proofs.Controls.{Program, Telling, WritesAt, ShutOut, shut-out, all-as, all-of-it, textTelling, two}
+
+-- questions on a literal and its source
+abbrev pub OnSource : Type 0
+OnSource = Program (Literal × List ℕ) Text
+
+abbrev pub sourceTelling : Telling (Literal × List ℕ) Text
+sourceTelling = textTelling (λ x. x .1)
+
+-- AS_STR writes ab for 'a' 'b'
+abbrev pub onPlain : OnSource
+onPlain x out = plainQuestion (x .0) (x .1) out
+
+pub plain-writes : WritesAt onPlain sourceTelling (all-of-it two, two) (ascii "ab")
+unfolding stringQuestion tested sourceText badSpan cutsCharacter within utf8 lead read continues segment isMark segmentStep cut isSpace one spelling
+    encloses answer doubled named filled partShown
+plain-writes = record { begins = omega arith; answered = refl; leaves = refl; shows = refl; short = refl; needs = refl }
+
+pub plain-shut-out : ShutOut onPlain sourceTelling (all-of-it two, two) (ascii "ab")
+plain-shut-out = shut-out plain-writes
+
+-- DECIMAL TEXT: 10 for 1_0
+abbrev pub onDecimal : OnSource
+onDecimal x out = decimalQuestion (x .0) (x .1) out
+
+abbrev pub ten : List ℕ
+ten = ascii "1_0"
+
+pub decimal-writes : WritesAt onDecimal sourceTelling (all-as Kind.Integer ten, ten) (ascii "10")
+unfolding decimalQuestion tested sourceText badSpan cutsCharacter within utf8 lead decimalOf separated radixPrefix baseBy signLength digit filled partShown
+decimal-writes = record { begins = omega arith; answered = refl; leaves = refl; shows = refl; short = refl; needs = refl }
+
+pub decimal-shut-out : ShutOut onDecimal sourceTelling (all-as Kind.Integer ten, ten) (ascii "10")
+decimal-shut-out = shut-out decimal-writes
+
+-- BITS: 01 for B'0' '1'
+abbrev pub onBits : OnSource
+onBits x out = bitsQuestion (x .0) (x .1) out
+
+abbrev pub twoBits : List ℕ
+twoBits = ascii "B'0' '1'"
+
+pub bits-writes : WritesAt onBits sourceTelling (all-as (Kind.BitString Binary) twoBits, twoBits) (ascii "01")
+unfolding bitsQuestion tested sourceText badSpan cutsCharacter within utf8 lead bits cut segmentStep segment isMark isSpace doubled named bitBody allDigits
+    digit filled partShown
+bits-writes = record { begins = omega arith; answered = refl; leaves = refl; shows = refl; short = refl; needs = refl }
+
+pub bits-shut-out : ShutOut onBits sourceTelling (all-as (Kind.BitString Binary) twoBits, twoBits) (ascii "01")
+bits-shut-out = shut-out bits-writes
+
+-- TEMPORAL TEXTS: ab for DATE 'a' 'b'
+abbrev pub onTemporal : OnSource
+onTemporal x out = temporalQuestion (x .0) (x .1) out
+
+abbrev pub twoDates : List ℕ
+twoDates = ascii "DATE 'a' 'b'"
+
+pub temporal-writes : WritesAt onTemporal sourceTelling (all-as Kind.Date twoDates, twoDates) (ascii "ab")
+unfolding temporalQuestion tested sourceText badSpan cutsCharacter within utf8 lead temporal temporalToken quoteToken tokenStart read continues segment isMark
+    segmentStep cut isSpace one spelling encloses answer doubled named filled partShown
+temporal-writes = record { begins = omega arith; answered = refl; leaves = refl; shows = refl; short = refl; needs = refl }
+
+pub temporal-shut-out : ShutOut onTemporal sourceTelling (all-as Kind.Date twoDates, twoDates) (ascii "ab")
+temporal-shut-out = shut-out temporal-writes
+
+-- IDENTIFIERS: a for U&"\0061". Of an answer the text's part or the buffer's is shown
+abbrev pub identifierView : List ℕ → List ℕ → Identifier → List ℕ
+identifierView t out (Identifier′.Borrowed f u) = partShown f u t
+identifierView t out (Identifier′.Written n) = partShown 0 n out
+identifierView t out Identifier′.NotUtf8 = []
+identifierView t out Identifier′.InvalidString = []
+identifierView t out (Identifier′.NoRoom n) = []
+
+abbrev pub identifierTelling : Telling (List ℕ) Identifier
+identifierTelling = record { number = identifierNumber; values = identifierValues; view = λ t o. identifierView t (o .buffer) (o .answer) }
+
+abbrev pub unicodeName : List ℕ
+unicodeName = ascii "U&\"\\0061\""
+
+pub identifier-writes : WritesAt identifierQuestion identifierTelling unicodeName (ascii "a")
+unfolding identifierQuestion utf8 lead within ident unicodeSpelling isUnicode isSpace doubled uescaped scalarBy mayEscape isScalar digit encode more answer
+    filled partShown
+identifier-writes = record { begins = omega arith; answered = refl; leaves = refl; shows = refl; short = refl; needs = refl }
+
+pub identifier-shut-out : ShutOut identifierQuestion identifierTelling unicodeName (ascii "a")
+identifier-shut-out = shut-out identifier-writes
+
+-- THE WRITER, for the value 'abcd in parts of four bytes. What it wrote is shown
+abbrev pub writingView : List ℕ → Writing → List ℕ
+writingView out (Writing′.Written n) = partShown 0 n out
+writingView out Writing′.OverLimit = []
+writingView out Writing′.NotUtf8 = []
+writingView out Writing′.HoldsNul = []
+writingView out (Writing′.NoRoom n) = []
+
+abbrev pub writerTelling : Telling (Settings × PartSize × List ℕ) Writing
+writerTelling = record { number = writingNumber; values = writingValues; view = λ x o. writingView (o .buffer) (o .answer) }
+
+abbrev pub onWriter : Program (Settings × PartSize × List ℕ) Writing
+onWriter x out = writeQuestion (x .0) (x .1) (x .2) out
+
+pub writer-writes : WritesAt onWriter writerTelling (off, AtMost 4, ascii "'abcd") (ascii "'''abc' 'd'")
+unfolding writeQuestion overLimit utf8 lead within unwritableNul writtenText width spell filled partShown
+writer-writes = record { begins = omega arith; answered = refl; leaves = refl; shows = refl; short = refl; needs = refl }
+
+pub writer-shut-out : ShutOut onWriter writerTelling (off, AtMost 4, ascii "'abcd") (ascii "'''abc' 'd'")
+writer-shut-out = shut-out writer-writes
