@@ -36,21 +36,24 @@ fn answer_records(input: &[u8], output: &mut [u8]) -> usize
     full
 }
 
-// Answers a block of records; tells whether there may be more. Every block but the last has 256 whole records, so that the lines of the blocks,
-// one behind the other, are the lines of the whole input (laws: blocks-output).
-fn answer_block() -> bool {
-    let mut input = [0u8; 16384];
-    let mut output = io::large_buffer();
-    let n = io::read_full(STDIN_FILENO, &mut input);
-    let full = answer_records(&input[..n], &mut output);
+// Answers a block of records; tells whether there may be more.
+fn answer_block(input: &mut [u8], output: &mut [u8]) -> bool
+    requires { ⌜ 3 * length (now input) + 192 ≤ length (now output) ⌝ }
+{
+    let n = io::read_full(STDIN_FILENO, input);
+    let full = answer_records(&input[..n], output);
     io::write_all(STDOUT_FILENO, &output[..full]);
-    n == 16384
+    n == input.len()
 }
 
+// Every block but the last fills the buffer with 256 whole records, so that the lines of the blocks, one behind the other, are the lines of the whole
+// input (laws: blocks-output). The buffers are made once: to clear them for each block took as long as all else.
 fn main() {
+    let mut input = [0u8; 16384];
+    let mut output = io::large_buffer();
     let mut blocks: u64 = 0xFFFF_FFFF_FFFF_FFFF;
     while 0 < blocks {
-        if !answer_block() {
+        if !answer_block(&mut input, &mut output) {
             return;
         }
         blocks -= 1;

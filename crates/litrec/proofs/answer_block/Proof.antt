@@ -6,35 +6,32 @@ use borrow.Author.Needs.{needs}
 use Rattle.litrec.proofs.answer_block.Statement.{statement}
 use Rattle.litrec.proofs.answer_block.Tie as tie
 
-large-buffer-requires : tie.Need-large-buffer-requires
-large-buffer-requires c κs = search needs
-
-slice-aggregate-read-full : tie.Need-slice-aggregate-read-full
-slice-aggregate-read-full c = search needs
-
 read-full-requires : tie.Need-read-full-requires
 read-full-requires c κs = search needs
 
-array-share-prefix-input : tie.Need-array-share-prefix-input
-array-share-prefix-input c = search needs
+slice-reshare-prefix-answer-records : tie.Need-slice-reshare-prefix-answer-records
+slice-reshare-prefix-answer-records c = search needs
 
 slice-aggregate-answer-records : tie.Need-slice-aggregate-answer-records
 slice-aggregate-answer-records c = search needs
 
-slice-aggregate-answer-records-2 : tie.Need-slice-aggregate-answer-records-2
-slice-aggregate-answer-records-2 c = search needs
-
 answer-records-requires : tie.Need-answer-records-requires
 answer-records-requires c κs = search needs
 
-array-share-prefix-output : tie.Need-array-share-prefix-output
-array-share-prefix-output c = search lines-within
+slice-reshare-prefix-write-all : tie.Need-slice-reshare-prefix-write-all
+slice-reshare-prefix-write-all c = search lines-within
 
 slice-aggregate-write-all : tie.Need-slice-aggregate-write-all
 slice-aggregate-write-all c = sym (length-take-le _ _ (search lines-within))
 
 write-all-requires : tie.Need-write-all-requires
 write-all-requires c κs = search needs
+
+same-length : tie.Need-same-length
+same-length c = search needs
+
+same-length-2 : tie.Need-same-length-2
+same-length-2 c = search needs
 
 returns : tie.Need-returns
 returns c = search needs
@@ -43,14 +40,13 @@ pub answer-block-spec : {M : Type 1} → statement M
 answer-block-spec =
     tie.close
     (tie.spec
-    large-buffer-requires
-    slice-aggregate-read-full
     read-full-requires
-    array-share-prefix-input
+    slice-reshare-prefix-answer-records
     slice-aggregate-answer-records
-    slice-aggregate-answer-records-2
     answer-records-requires
-    array-share-prefix-output
+    slice-reshare-prefix-write-all
     slice-aggregate-write-all
     write-all-requires
+    same-length
+    same-length-2
     returns)

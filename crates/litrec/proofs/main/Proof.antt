@@ -1,16 +1,27 @@
--- `litrec::main` ends. The loop's invariant says nothing; the measure is the count of blocks. Assumes nothing.
+-- `litrec::main` ends. The loop's invariant: the buffers keep their lengths, so that all lines of a block fit. The measure is the count of blocks. Assumes nothing.
+use mathlib.Core.Path.{_≡_}
+use lib.ListN.{length}
 use borrow.Author.Needs.{needs}
 use Rattle.litrec.proofs.main.Statement.{statement}
 use Rattle.litrec.proofs.main.Tie as tie
 
 abbrev Inv-loop : tie.InvT-loop
-Inv-loop blocks₀ blocks = Unit {0}
+Inv-loop input₀ output₀ blocks₀ input output blocks = (length input ≡ 16384) × (length output ≡ 65536)
 
 abbrev μ-loop : tie.MeasureT-loop
-μ-loop blocks₀ blocks = blocks
+μ-loop input₀ output₀ blocks₀ input output blocks = blocks
+
+large-buffer-requires : tie.Need-large-buffer-requires Inv-loop μ-loop
+large-buffer-requires c κs = search needs
 
 loop-holds : tie.Need-loop-holds Inv-loop μ-loop
 loop-holds c = search needs
+
+slice-aggregate-answer-block : tie.Need-slice-aggregate-answer-block Inv-loop μ-loop
+slice-aggregate-answer-block c = search needs
+
+slice-aggregate-answer-block-2 : tie.Need-slice-aggregate-answer-block-2 Inv-loop μ-loop
+slice-aggregate-answer-block-2 c = search needs
 
 answer-block-requires : tie.Need-answer-block-requires Inv-loop μ-loop
 answer-block-requires c κs = search needs
@@ -36,7 +47,10 @@ main-spec =
     (tie.spec
     Inv-loop
     μ-loop
+    large-buffer-requires
     loop-holds
+    slice-aggregate-answer-block
+    slice-aggregate-answer-block-2
     answer-block-requires
     returns
     sub-blocks
