@@ -1,11 +1,11 @@
 -- [01 Record program litrec] What the record program prints, record by record and block by block: "a line for each 64 bytes, and one for a short last
 -- record; nothing for no input". Assumes nothing.
 use mathlib.Core.Path.{_≡_, refl, ap, ap₂, sym, _∙_}
-use mathlib.Core.List.{List, [], _∷_, _++_, append-assoc, append-nil, map, flatten}
+use mathlib.Core.List.{List, [], _∷_, _++_, append-assoc, map, flatten}
 use Prim.Native.Nat.{ℕ, zero, suc, _*_, _≤_, _<_}
 use native.Mathlib.Omega.{arith}
-use lib.ListN.{length, take, drop, length-append, length-drop, drop-of-length-le}
-use lib.Seq.{take-all, take-append-le, drop-append-le}
+use lib.ListN.{length, take, drop, length-append, length-drop}
+use lib.Seq.{take-append-le, drop-append-le}
 use Rattle.meaning.specs.Walk.{value}
 use Rattle.meaning.specs.Records.{recordLine, recordStep, output}
 use Rattle.laws.proofs.Walks.{walk-drop}
@@ -20,13 +20,6 @@ pub output-first : (t : List ℕ) → 0 < length t → output t ≡ recordLine (
 unfolding output
 output-first [] h = absurd (omega arith)
 output-first (b ∷ t) h = ap (λ (r : List ℕ). recordLine (take 64 (b ∷ t)) ++ r) (ap value (walk-drop recordStep 63 t))
-
--- one record, whole or short
-pub output-one : (t : List ℕ) → 0 < length t → length t ≤ 64 → output t ≡ recordLine t
-output-one t h k =
-    output-first t h
-    ∙ ap₂ (λ (a b : List ℕ). recordLine a ++ output b) (take-all 64 t k) (drop-of-length-le t k)
-    ∙ ap (recordLine t ++_) output-none ∙ append-nil (recordLine t)
 
 -- whole records, and what follows them
 pub output-append : (k : ℕ) (a b : List ℕ) → length a ≡ 64 * k → output (a ++ b) ≡ output a ++ output b

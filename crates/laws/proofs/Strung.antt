@@ -16,7 +16,7 @@ use Rattle.meaning.specs.Bytes.{_!_, isMark}
 use Rattle.meaning.specs.Chars.{utf8}
 use Rattle.meaning.specs.Cutting.{continues, segmentStep, cut}
 use Rattle.meaning.specs.Questions.{isString, stringQuestion}
-use Rattle.meaning.specs.Reading.{written, means, read, meaning}
+use Rattle.meaning.specs.Reading.{means, meaning}
 use Rattle.meaning.specs.Steps.{gap, trim}
 use Rattle.meaning.specs.Walk.{Trace, ended, gave, walk}
 use Rattle.laws.proofs.Asked.{Spans}
@@ -123,13 +123,6 @@ module _ (σ : Settings) (s : List ℕ) (p : Further σ) (ps : List (Further σ)
 
   pub segments-accepted : Accepted σ (strung s (p ∷ ps) tail) ↔ Each (Accepted σ) (segments s (p ∷ ps))
   segments-accepted = rw segments-are at (Rule.complete-accepted σ (strung s (p ∷ ps) tail) segments-several)
-
-  pub segments-utf8 : (utf8 (strung s (p ∷ ps) tail) ≡ true) ↔ Each (λ t. utf8 t ≡ true) (segments s (p ∷ ps))
-  segments-utf8 = rw segments-are at (Rule.complete-utf8 σ (strung s (p ∷ ps) tail) segments-several)
-
-  pub segments-read : (vs : List (List ℕ)) → Values (meaning σ) (segments s (p ∷ ps)) vs
-      → read σ (strung s (p ∷ ps) tail) ≡ written (flatten vs)
-  segments-read = rw segments-are at (Rule.complete-read σ (strung s (p ∷ ps) tail) segments-several)
 
   module _ (l : Literal) (S out : List ℕ) (kind : isString (l .kind) ≡ true) (spans : Spans l S (strung s (p ∷ ps) tail)) where
     pub segments-written : (vs : List (List ℕ)) → Each (λ t. utf8 t ≡ true) (segments s (p ∷ ps))

@@ -1,15 +1,13 @@
--- Arms of the definitions that nothing reaches: a value of no parts, a spelling other than U& where U& is looked for, money that is written, a range refused
--- by 6, a kind that the list of kinds has not. (`Cuts.cut-keeps-none`: a cut keeps no byte.) Assumes nothing.
-use mathlib.Core.Path.{_≡_, refl, sym, _∙_}
+-- Arms of the definitions that nothing reaches: a spelling other than U& where U& is looked for, money that is written, a source's range refused by 6, a kind
+-- that the list of kinds has not. (A cut keeps no byte: `Cuts.cut-keeps-none`. A value has a part: `WriterParts.partsOf-some`.) Assumes nothing.
+use mathlib.Core.Path.{_≡_, refl}
 use mathlib.Core.Bool.{Bool, true, false}
 use mathlib.Core.List.{List, [], _∷_}
 use Prim.Native.Nat.{ℕ, zero, suc, _+_, _-_, _≤_, _<_}
 use Prim.Native.Char.{code}
 use native.Mathlib.Omega.{arith}
 use lib.Dec.{eqb}
-use lib.ListN.{length, getD, drop}
-use Rattle.meaning.specs.declared.PartSize.{PartSize}
-use Rattle.meaning.specs.declared.PartSize.the-variants.{Whole, AtMost}
+use lib.ListN.{length, drop}
 use Rattle.meaning.specs.declared.LiteralKind.{LiteralKind}
 use Rattle.meaning.specs.declared.LiteralExpected.{LiteralExpected}
 use Rattle.meaning.specs.declared.LiteralExpected.the-variants as Expected
@@ -24,20 +22,7 @@ use Rattle.meaning.specs.Reading.{Answer, borrowed, written, refused}
 use Rattle.meaning.specs.Kinds.{money}
 use Rattle.meaning.specs.Answers.{kindCode, refusalNumber, rangeNumber}
 use Rattle.meaning.specs.Questions.{Tested, passes, barred, badSpan, sourceText, tested, isMoney, rangeAs, ranged, sourceQuestion, moneyQuestion}
-use Rattle.meaning.specs.Writer.{partsFrom, partsOf}
 use Rattle.meaning.specs.Records.{kindBy, kinds, kindOf}
-use Rattle.laws.proofs.WriterParts.{partsFrom-fills}
-
--- PARTS: there is always one
-pub partsFrom-some : (w n : ℕ) (v : List ℕ) → partsFrom w n v ≡ [] → ⊥
-partsFrom-some w n v e =
-    let f = partsFrom-fills w n v in
-    let z : f .first ∷ f .others ≡ [] = sym (f .are) ∙ e in
-    let y : _≡_ {A = ℕ} 0 1 = cc in omega arith
-
-pub partsOf-some : (s : PartSize) (v : List ℕ) → partsOf s v ≡ [] → ⊥
-partsOf-some Whole v e = let y : _≡_ {A = ℕ} 0 1 = cc in omega arith
-partsOf-some (AtMost w) v e = partsFrom-some w w v e
 
 -- U& or nothing
 abbrev pub unicodeOrNone : Spelling → Bool
@@ -130,16 +115,7 @@ money-eight l S h = go (tested (isMoney (l .kind)) Expected.Money l S) refl (tes
     go (passes t) e b k = by t e (money t) refl k
     go (barred r) e b k = absurd (omega arith)
 
--- KINDS: at a place that the list has, whatever stands for none is not asked
-pub kindBy-listed : (ks : List LiteralKind) (i : ℕ) → i < length ks → (other : LiteralKind) → kindBy ks i ≡ getD ks i other
-kindBy-listed [] i h other = absurd (omega arith)
-kindBy-listed (k ∷ ks) zero h other = refl
-kindBy-listed (k ∷ ks) (suc i) h other = kindBy-listed ks i (omega arith) other
-
-pub kindOf-listed : (c : ℕ) → 1 ≤ c → c ≤ 14 → (other : LiteralKind) → kindOf c ≡ getD kinds (c - 1) other
-kindOf-listed c h k other = kindBy-listed kinds (c - 1) (omega arith) other
-
--- the codes of the list, in order
+-- KINDS: codes 1 to 14 name the kinds of the list, so whatever stands for none is not asked. The codes of the list, in order
 abbrev CodesFrom : ℕ → List LiteralKind → Type 0
 CodesFrom n [] = Unit {0}
 CodesFrom n (k ∷ ks) = (kindCode k ≡ n) × CodesFrom (suc n) ks

@@ -222,6 +222,11 @@ pub partsOf-concat : (size : PartSize) (v : List ℕ) → concat (partsOf size v
 partsOf-concat Whole v = append-nil v
 partsOf-concat (AtMost w) v = partsFrom-concat w w v
 
+-- there is always one
+pub partsOf-some : (size : PartSize) (v : List ℕ) → 0 < length (partsOf size v)
+partsOf-some Whole v = omega arith
+partsOf-some (AtMost w) v = rw (partsFrom-fills w w v .are) (omega arith)
+
 -- at a size that is not too small, of UTF-8
 pub record Parted (v : List ℕ) (ps : List (List ℕ)) : Type 0 where
   pub any : 0 < length ps

@@ -8,7 +8,6 @@ use lib.Dec.{eqb}
 use lib.ListN.{length, length-append}
 use Rattle.meaning.specs.declared.Settings.{Settings}
 use Rattle.meaning.specs.declared.PartSize.{PartSize}
-use Rattle.meaning.specs.declared.PartSize.the-variants.{Whole, AtMost}
 use Rattle.meaning.specs.Bytes.{if_then_else_, within, quote, backslash}
 use Rattle.meaning.specs.Chars.{lead, isSpace}
 use Rattle.meaning.specs.Reading.{borrowed, written, read}
@@ -17,7 +16,7 @@ use Rattle.laws.proofs.Unchanged.{back-means, back-borrowed, back-writt
 use Rattle.laws.proofs.Joining.{White}
 use Rattle.laws.proofs.JoiningLaw.{Accepts}
 use Rattle.laws.proofs.Parts.{Joinable, joins, literal-joins}
-use Rattle.laws.proofs.WriterParts.{concat, Every, Valid, Writable, Five, Parted, partsFrom-fills, partsOf-concat, partsOf-parts, writable-append}
+use Rattle.laws.proofs.WriterParts.{concat, Every, Valid, Writable, Five, Parted, partsOf-some, partsOf-concat, partsOf-parts, writable-append}
 use Rattle.laws.proofs.WriterParts.{nul-writable, Accepted, limit-length, limit-size}
 
 -- THE TEXT. One space is white space, so the literals of the parts join
@@ -113,10 +112,6 @@ literals-length bs p (q ∷ ps) =
     )
 
 -- of a value, at every part size
-partsOf-some : (size : PartSize) (v : List ℕ) → 0 < length (partsOf size v)
-partsOf-some Whole v = omega arith
-partsOf-some (AtMost w) v = rw (partsFrom-fills w w v .are) (omega arith)
-
 pub writtenText-length : (σ : Settings) (size : PartSize) (v : List ℕ)
     → length (writtenText σ size v) + 1 ≡ costs (σ .backslash) v + 3 * length (partsOf size v)
 unfolding writtenText

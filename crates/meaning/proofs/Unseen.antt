@@ -1,5 +1,5 @@
 -- What the definitions say and no question shows: which texts cut completely; the place that a refusal keeps inside; the numbers and values of
--- answers that no row reaches; the view of a range that does not fit; where each range of white space ends; the bytes that an argument of UESCAPE
+-- answers that no row reaches; the view of a range that does not fit; where a view stands; where each range of white space ends; the bytes that an argument of UESCAPE
 -- gives. Assumes nothing.
 use mathlib.Core.Bool.{Bool, true, false, _&&_}
 use mathlib.Core.List.{List, [], _∷_, map}
@@ -7,6 +7,7 @@ use Prim.Native.Nat.{ℕ}
 use Prim.Native.String.{String}
 use lib.Dec.{T, eqb}
 use lib.IntN.{negsuc}
+use denote.Ref.{RefT}
 use Rattle.meaning.specs.declared.TimeZone.the-variants as Zone
 use Rattle.meaning.specs.declared.IntervalFields.{IntervalFields}
 use Rattle.meaning.specs.declared.IntervalFields.the-variants as Field
@@ -20,6 +21,7 @@ use Rattle.meaning.specs.declared.Span.{Span}
 use Rattle.meaning.specs.declared.Refusal.{Refusal}
 use Rattle.meaning.specs.declared.Refusal.the-variants.{WrongKind, MissingSource, InvalidSourceRange, NotUtf8, InvalidInteger, InvalidString}
 use Rattle.meaning.specs.declared.Refusal.the-variants.{InvalidBitString, InvalidMoney, NoRoom}
+use Rattle.meaning.specs.declared.Read.the-variants as Read′
 use Rattle.meaning.specs.declared.Text.{Text}
 use Rattle.meaning.specs.declared.Text.the-variants as Text′
 use Rattle.meaning.specs.declared.Range.{Range}
@@ -38,6 +40,8 @@ use Rattle.meaning.specs.Reading.{Answer, borrowed, written, refused, an
 use Rattle.meaning.specs.Kinds.{bitBody, bits, tokenStart, quoteToken, temporalToken, temporal}
 use Rattle.meaning.specs.Answers.{kindCode, payload, fieldCode, refusalNumber, refusalValues, textNumber, rangeNumber, charsetNumber, integerNumber}
 use Rattle.meaning.specs.Answers.{integerValues, truthNumber, truthValues, nullnessNumber, nullnessValues, partShown, shown, rangeShown, charsetShown}
+use Rattle.meaning.specs.Answers.{shownPlace, rangePlace, charsetPlace}
+use Rattle.meaning.specs.Reads.{readPlace}
 use Rattle.meaning.specs.Records.{kindOf}
 use Rattle.meaning.proofs.Rows.{equal, signAndSize}
 
@@ -177,7 +181,31 @@ views =
     part-shows (Range′.Refused (InvalidMoney here)) "abc" "" ∷ name-shows (Charset′.Named 1 2) "abc" "b" ∷ name-shows (Charset′.Named 1 4) "abc" "" ∷
     name-shows Charset′.Unnamed "abc" "" ∷ name-shows (Charset′.Refused (NotUtf8 here)) "abc" "" ∷ []
 
-pub facts-hold : T (allHold cutting && allHold places && allHold blanks && allHold arguments && allHold kinds && allHold numbers && allHold views)
+-- [01 Where each language form goes] "returned as slices of the lent source, proved to be that range": where a part stands. The source's three bytes are at
+-- place 10 of block 1 of the memory, the buffer's three at place 20 of block 2
+abbrev source : RefT (List ℕ)
+source = record { ptr = (1, 10); name = 0; now = ascii "abc" }
+
+abbrev buffer : RefT (List ℕ)
+buffer = record { ptr = (2, 20); name = 0; now = ascii "xyz" }
+
+abbrev stands : ℕ × ℕ → ℕ → ℕ → Fact
+stands p block place = gives (p .0 ∷ p .1 ∷ []) (block ∷ place ∷ [])
+
+abbrev pub standing : List Fact
+standing =
+    stands (shownPlace source buffer (Text′.Borrowed 1 3)) 1 11 ∷ stands (shownPlace source buffer (Text′.Borrowed 3 3)) 1 13 ∷
+    stands (shownPlace source buffer (Text′.Borrowed 2 1)) 1 10 ∷ stands (shownPlace source buffer (Text′.Borrowed 1 4)) 1 10 ∷
+    stands (shownPlace source buffer (Text′.Written 2)) 2 20 ∷ stands (shownPlace source buffer (Text′.Written 4)) 2 20 ∷
+    stands (shownPlace source buffer (Text′.Refused (NoRoom 4))) 1 10 ∷
+    stands (rangePlace source (Range′.Found 1 2)) 1 11 ∷ stands (rangePlace source (Range′.Found 1 4)) 1 10 ∷
+    stands (rangePlace source (Range′.Refused (InvalidMoney here))) 1 10 ∷
+    stands (charsetPlace source (Charset′.Named 1 2)) 1 11 ∷ stands (charsetPlace source (Charset′.Named 1 4)) 1 10 ∷
+    stands (charsetPlace source Charset′.Unnamed) 1 10 ∷ stands (charsetPlace source (Charset′.Refused (NotUtf8 here))) 1 10 ∷
+    stands (readPlace source buffer (Read′.Borrowed 1 2)) 1 11 ∷ stands (readPlace source buffer (Read′.Written 2)) 2 20 ∷
+    stands (readPlace source buffer (Read′.Refused 1)) 1 10 ∷ stands (readPlace source buffer (Read′.NoRoom 4)) 1 10 ∷ []
+
+pub facts-hold : T (allHold cutting && allHold places && allHold blanks && allHold arguments && allHold kinds && allHold numbers && allHold views && allHold standing)
 unfolding within isMark isLetter isDecimal inName startsTag inTag digit allDigits lead utf8 more encode isScalar isSpace doubled oneByte mayEscape scalarBy pair
     lowHalf uescaped named segment segmentStep cut complete continues encloses argument upper isUnicode unicodeSpelling delimiter spelling answer one read
     bitBody bits tokenStart quoteToken temporalToken temporal partShown

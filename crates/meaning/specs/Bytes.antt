@@ -89,7 +89,7 @@ unfoldable pub digit : ℕ → ℕ
 unfolding within
 digit b = if within 48 57 b then b - 48 else if within 65 70 b then b - 55 else if within 97 102 b then b - 87 else 16
 
--- how many digits of base β stand at the front, w at the most; and the number that v and the next n digits make
+-- how many digits of base β stand at the front, w at the most; and the number that v and the next n digits make, where there are n
 abbrev pub digits : ℕ → ℕ → List ℕ → ℕ
 digits β zero t = 0
 digits β (suc w) [] = 0

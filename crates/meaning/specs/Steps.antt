@@ -1,5 +1,5 @@
 -- What may stand at one place of a body: the three escape languages; and what a search for the closing mark, and for the end of
--- white space, sees there. Assumes nothing.
+-- white space, sees there. (No walk asks a step of no bytes: `stop` stands there for nothing.) Assumes nothing.
 use mathlib.Core.Bool.{Bool, _&&_}
 use mathlib.Core.List.{List, [], _∷_}
 use Prim.Native.Nat.{ℕ, zero, suc, _+_, _-_, _*_, _%_}

@@ -44,7 +44,7 @@ abbrev pub partsOf : PartSize → List ℕ → List (List ℕ)
 partsOf Whole v = v ∷ []
 partsOf (AtMost w) v = partsFrom w w v
 
--- "puts one space between parts"
+-- "puts one space between parts". (There is always a part)
 abbrev pub between : List ℕ
 between = code " " ∷ []
 

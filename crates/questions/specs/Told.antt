@@ -19,6 +19,7 @@ toldBy bad s (Written n) = Text′.Written n
 toldBy bad s (Refused p) = Text′.Refused bad
 toldBy bad s (NoRoom n) = Text′.Refused (Refusal′.NoRoom n)
 
+-- as a range. (No reading that is asked for one is written)
 abbrev pub rangeBy : Refusal → ℕ → Read → Range
 rangeBy bad s (Borrowed f u) = Range′.Found (s + f) (s + u)
 rangeBy bad s (Written n) = Range′.Refused bad

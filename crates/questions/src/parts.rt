@@ -34,7 +34,8 @@ pub fn source_range(literal: Literal, source: &[u8]) -> Range
 // A literal's text, a part of the source; empty on a refusal.
 // Rules out: the source's first byte shown; the whole source shown (must-fail: first_byte_shown, whole_source_shown).
 pub fn source_text(literal: Literal, source: &[u8]) -> &[u8]
-    ensures { λ r. ⌜ IsPart (rangeShown (now (source .entry)) (sourceQuestion literal (now (source .entry)))) (rangePlace (source .entry) (sourceQuestion literal (now (source .entry)))) r ⌝ }
+    ensures { λ r. ⌜ IsPart (rangeShown (now (source .entry)) (sourceQuestion literal (now (source .entry))))
+        (rangePlace (source .entry) (sourceQuestion literal (now (source .entry)))) r ⌝ }
 {
     let text = source_range(literal, source);
     range_shown(source, text)
@@ -76,7 +77,8 @@ pub fn money_range(literal: Literal, source: &[u8]) -> Range
 // A money literal's text behind its $, a part of the source; empty on a refusal.
 // Rules out: the source's first byte shown; the whole source shown (must-fail: first_byte_shown, whole_source_shown).
 pub fn as_money_text(literal: Literal, source: &[u8]) -> &[u8]
-    ensures { λ r. ⌜ IsPart (rangeShown (now (source .entry)) (moneyQuestion literal (now (source .entry)))) (rangePlace (source .entry) (moneyQuestion literal (now (source .entry)))) r ⌝ }
+    ensures { λ r. ⌜ IsPart (rangeShown (now (source .entry)) (moneyQuestion literal (now (source .entry))))
+        (rangePlace (source .entry) (moneyQuestion literal (now (source .entry)))) r ⌝ }
 {
     let money = money_range(literal, source);
     range_shown(source, money)
@@ -121,7 +123,8 @@ pub fn charset_range(literal: Literal, source: &[u8]) -> Charset
 // The name of a string literal's charset, a part of the source; empty on a refusal and without a name.
 // Rules out: the source's first byte shown; the whole source shown (must-fail: first_byte_shown, whole_source_shown).
 pub fn charset_introducer(literal: Literal, source: &[u8]) -> &[u8]
-    ensures { λ r. ⌜ IsPart (charsetShown (now (source .entry)) (charsetQuestion literal (now (source .entry)))) (charsetPlace (source .entry) (charsetQuestion literal (now (source .entry)))) r ⌝ }
+    ensures { λ r. ⌜ IsPart (charsetShown (now (source .entry)) (charsetQuestion literal (now (source .entry))))
+        (charsetPlace (source .entry) (charsetQuestion literal (now (source .entry)))) r ⌝ }
 {
     let name = charset_range(literal, source);
     charset_shown(source, name)

@@ -10,7 +10,7 @@ use borrow.Author.Tests.{lt-ltb, le-ltb, ltb-true, ltb-false}
 use Rattle.meaning.specs.declared.Settings.{Settings}
 use Rattle.meaning.specs.declared.PartSize.{PartSize}
 use Rattle.meaning.specs.declared.PartSize.the-variants.{Whole, AtMost}
-use Rattle.meaning.specs.Bytes.{if_then_else_, quote}
+use Rattle.meaning.specs.Bytes.{quote}
 use Rattle.meaning.specs.Chars.{width}
 use Rattle.meaning.specs.Writer.{spell, spells, literal, between, literals, onFirst, partsFrom, writtenText}
 use Rattle.laws.proofs.WriterParts.{width-most}

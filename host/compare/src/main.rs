@@ -16,5 +16,5 @@ fn main() -> std::process::ExitCode {
 
 #[cfg(not(at_hand))]
 fn main() {
-    println!("not compared: the Rust original is not at hand (VALDRABUS_RUST_SRC)");
+    println!("not compared: the Rust original is not at hand (VALDRABUS_RUST_SRC names its folder)");
 }
