@@ -52,6 +52,7 @@ pub mod Buffers
 pub mod Controls
 pub mod ControlsOfAll
 pub mod Ranges
+pub mod AgreedParts
 pub mod WriterParts
 pub mod Unreached
 pub mod WriterText

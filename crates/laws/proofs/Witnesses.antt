@@ -1,5 +1,6 @@
 -- What the laws ask for can be had: closed inputs, at either setting, that meet the hypotheses of the joining law, of its second half, of the round trip
 -- and of the rule for segments, and what the laws then say of them. Assumes nothing.
+use mathlib.Core.Logic.{_↔_}
 use mathlib.Core.Path.{_≡_, refl, ap}
 use mathlib.Core.Bool.{Bool, true, false}
 use mathlib.Core.List.{List, [], _∷_, _++_, flatten}
@@ -17,7 +18,7 @@ use Rattle.meaning.specs.Spelling.{encloses, spelling}
 use Rattle.meaning.specs.Reading.{answer, one, read, meaning}
 use Rattle.meaning.specs.Writer.{spell, partsOf, writtenText, overLimit, unwritableNul, writeQuestion}
 use Rattle.meaning.specs.Answers.{textNumber, filled}
-use Rattle.meaning.specs.Questions.{cutsCharacter, badSpan, stringQuestion}
+use Rattle.meaning.specs.Questions.{cutsCharacter, badSpan, sourceText, tested, stringQuestion}
 use Rattle.laws.proofs.Asked.{Spans}
 use Rattle.laws.proofs.Controls.{all-of-it}
 use Rattle.laws.proofs.Joining.{White, fails≢means}
@@ -27,6 +28,7 @@ use Rattle.laws.proofs.Ranges.{Answered}
 use Rattle.laws.proofs.RoundTrip.{writer-round-trip}
 use Rattle.laws.proofs.Cuts.{segmentsOf, Each, Values, values-one}
 use Rattle.laws.proofs.Segments as Segments′
+use Rattle.laws.proofs.Strung.{Further, segments-question}
 use Rattle.laws.proofs.WriterParts.{Accepted}
 use Rattle.laws.proofs.WrittenParts.{CutInto, between-cuts, parts-law}
 
@@ -131,13 +133,7 @@ borrowed-there false =
     writer-round-trip off (AtMost 4) plain-value (replicate 6 0) 5 refl (all-of-it plain-text) plain-text [] refl (all-of plain-text refl refl)
     (λ m. absurd (omega arith))
 
--- THE RULE FOR SEGMENTS: a segment alone
-pub segment-whole : (b : Bool) → Segments′.Whole (set b) (ascii "E'\\''")
-unfolding within isMark doubled named segment
-segment-whole true = record { some = omega arith; all = refl }
-segment-whole false = record { some = omega arith; all = refl }
-
--- three segments, the third with a prefix, and white space behind them
+-- THE RULE FOR SEGMENTS: three segments, the third with a prefix, and white space behind them
 abbrev pub spaced : List ℕ
 spaced = ascii "'a' \"b\" E'c' "
 
@@ -197,3 +193,52 @@ unfolding badSpan cutsCharacter within
 zeroed-refused b out h =
     let a = Segments′.complete-question (set b) zeroed (zeroed-several b) (all-of-it zeroed) zeroed out refl (all-of zeroed refl refl) .0 h in
     zeroed-alone b (Segments′.accepted-of (set b) (segmentsOf (cut (set b) zeroed)) (a .1) (a .2))
+
+-- GIVEN SEGMENTS, a space between the first two, a tab before the third, and a space behind it
+abbrev pub given : List (List ℕ)
+given = ascii "'a'" ∷ (ascii "\"b\"" ∷ (ascii "E'c'" ∷ []))
+
+pub segment-whole : (b : Bool) → Each (Segments′.Whole (set b)) given
+unfolding within isMark doubled named segment
+segment-whole true =
+    (record { some = omega arith; all = refl }, (record { some = omega arith; all = refl }, (record { some = omega arith; all = refl }, tt)))
+segment-whole false =
+    (record { some = omega arith; all = refl }, (record { some = omega arith; all = refl }, (record { some = omega arith; all = refl }, tt)))
+
+pub space-gap : Gap (ascii " ")
+unfolding within lead isSpace
+space-gap = record { white = refl; some = omega arith }
+
+pub tab-gap : Gap (9 ∷ [])
+unfolding within lead isSpace
+tab-gap = record { white = refl; some = omega arith }
+
+abbrev pub given-second : (b : Bool) → Further (set b)
+given-second b = record { gap = ascii " "; white = space-gap; text = ascii "\"b\""; whole = segment-whole b .1 .0 }
+
+abbrev pub given-third : (b : Bool) → Further (set b)
+given-third b = record { gap = 9 ∷ []; white = tab-gap; text = ascii "E'c'"; whole = segment-whole b .1 .1 .0 }
+
+abbrev pub given-text : List ℕ
+given-text = ascii "'a' \"b\"" ++ (9 ∷ ascii "E'c' ")
+
+-- the law of this text, with just the room
+pub given-question : (b : Bool)
+    → (textNumber (stringQuestion (all-of-it given-text) given-text (set b) (replicate 3 0) .answer) ≡ 0) ↔ Segments′.AllAccepted (set b) given 3
+unfolding badSpan cutsCharacter within isMark
+given-question b =
+    segments-question (set b) (ascii "'a'") (given-second b) (given-third b ∷ []) (ascii " ") (segment-whole b .0) (space-gap .white) refl
+    (all-of-it given-text) given-text (replicate 3 0) refl (all-of given-text refl refl)
+
+-- each is accepted alone, so the text is
+pub given-accepted : (b : Bool) → textNumber (stringQuestion (all-of-it given-text) given-text (set b) (replicate 3 0) .answer) ≡ 0
+unfolding within isMark lead utf8 isSpace doubled named segment continues encloses spelling answer one read flatten
+given-accepted true = given-question true .1 ((refl, (refl, (refl, tt))), letters, (refl, (refl, (refl, tt))), omega arith)
+given-accepted false = given-question false .1 ((refl, (refl, (refl, tt))), letters, (refl, (refl, (refl, tt))), omega arith)
+
+-- the text is accepted, as its question computes; so each is alone
+pub given-alone : (b : Bool) → Segments′.AllAccepted (set b) given 3
+unfolding stringQuestion tested sourceText badSpan cutsCharacter within utf8 lead read continues segment isMark segmentStep cut isSpace one spelling
+    encloses answer doubled named
+given-alone true = given-question true .0 refl
+given-alone false = given-question false .0 refl

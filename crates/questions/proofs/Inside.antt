@@ -1,18 +1,18 @@
--- What each reader borrows lies in its text, the name of a charset too. Those of strings and bits are Ranges' read-inside and bits' own. Assumes nothing.
+-- What each reader borrows lies in its text. Those of strings and bits are Ranges' read-inside and bits' own, a charset's name is AgreedParts' charset-inside.
+-- Assumes nothing.
 use mathlib.Core.Path.{_≡_, refl}
 use mathlib.Core.Bool.{Bool, true, false, not}
 use mathlib.Core.List.{List, [], _∷_}
-use Prim.Native.Nat.{ℕ, zero, suc, _+_, _-_, _≤_}
+use Prim.Native.Nat.{ℕ, _+_, _-_, _≤_}
 use Prim.Native.Char.{code}
 use native.Mathlib.Omega.{arith}
 use lib.Dec.{eqb}
 use lib.ListN.{length, drop, length-drop, length-take}
 use Rattle.meaning.specs.Bytes.{if_then_else_, _!_, part, has}
-use Rattle.meaning.specs.Cutting.{off, opening}
+use Rattle.meaning.specs.Cutting.{off}
 use Rattle.meaning.specs.Reading.{Answer, borrowed, written, refused, read}
 use Rattle.meaning.specs.Numbers.{Parsed, none, int, baseOf, separated, strip, radixValue, printedBy, decimalOf}
-use Rattle.meaning.specs.Kinds.{money, Token, token, noToken, temporalToken, behind, readToken, temporal, charsetEnd}
-use Rattle.laws.proofs.Openings.{mark-inside, opening-mark}
+use Rattle.meaning.specs.Kinds.{money, Token, token, noToken, temporalToken, behind, readToken, temporal}
 use Rattle.laws.proofs.Ranges.{Bounds, AnswerIn, read-inside}
 use Rattle.kinds.proofs.Bounding.{TokenIn, token-in}
 
@@ -55,13 +55,3 @@ money-inside t = go (eqb (t ! 0) (code "$")) refl
     go : (x : Bool) → eqb (t ! 0) (code "$") ≡ x → AnswerIn (length t) (if x then borrowed 1 (length t) else refused 0)
     go true h = record { ordered = byte-inside t h; inside = omega arith }
     go false h = tt
-
--- THE NAME of a charset ends at a mark
-pub charset-inside : (t : List ℕ) → charsetEnd t ≤ length t
-unfolding charsetEnd
-charset-inside t = go (eqb (t ! 0) (code "_")) (opening t) refl
-  where
-    go : (x : Bool) (n : ℕ) → opening t ≡ n → (if x then n - 1 else 0) ≤ length t
-    go true zero h = omega arith
-    go true (suc n) h = omega (arith, mark-inside t n (opening-mark t n h))
-    go false n h = omega arith
