@@ -1,6 +1,6 @@
 -- What the definitions say and no question shows: which texts cut completely; the place that a refusal keeps inside; the numbers and values of
--- answers that no row reaches; the view of a range that does not fit; where a view stands; where each range of white space ends; the bytes that an argument of UESCAPE
--- gives. Assumes nothing.
+-- answers that no row reaches; the view of a range that does not fit; where a view stands; where each range of white space ends; the bytes that an
+-- argument of UESCAPE gives. Assumes nothing.
 use mathlib.Core.Bool.{Bool, true, false, _&&_}
 use mathlib.Core.List.{List, [], _∷_, map}
 use Prim.Native.Nat.{ℕ}
@@ -205,7 +205,8 @@ standing =
     stands (readPlace source buffer (Read′.Borrowed 1 2)) 1 11 ∷ stands (readPlace source buffer (Read′.Written 2)) 2 20 ∷
     stands (readPlace source buffer (Read′.Refused 1)) 1 10 ∷ stands (readPlace source buffer (Read′.NoRoom 4)) 1 10 ∷ []
 
-pub facts-hold : T (allHold cutting && allHold places && allHold blanks && allHold arguments && allHold kinds && allHold numbers && allHold views && allHold standing)
+pub facts-hold : T (allHold cutting && allHold places && allHold blanks && allHold arguments && allHold kinds && allHold numbers && allHold views
+    && allHold standing)
 unfolding within isMark isLetter isDecimal inName startsTag inTag digit allDigits lead utf8 more encode isScalar isSpace doubled oneByte mayEscape scalarBy pair
     lowHalf uescaped named segment segmentStep cut complete continues encloses argument upper isUnicode unicodeSpelling delimiter spelling answer one read
     bitBody bits tokenStart quoteToken temporalToken temporal partShown
