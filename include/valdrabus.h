@@ -1,5 +1,5 @@
 /*
- * valdrabus: reads the literals of SQL dumps, and writes plain ones.
+ * valdrabus: reads the literals of SQL dumps, and writes values as literals: plain, E'..' and U&'..'.
  *
  * Link libvaldrabus.a (made by `tools/archive`, for x86-64 or Arm). No function allocates, keeps a pointer, or has any state.
  *
@@ -20,16 +20,17 @@
  *    2  the literal stands in no source            first, second: its span
  *    3  start > end, end past the source, or either place cuts a character       first, second: its span
  *       (the place is below the source's length and its byte is 80 to BF hex; place 0 too, so a text that begins so is 3 and never 4)
- *    4  the text (for the writer: the value) is not UTF-8                        first, second: its span; 0 and 0 without a literal
+ *    4  the text (for a writer: the value) is not UTF-8                          first, second: its span; 0 and 0 without a literal
  *    5  not a readable integer                     first, second: its span
  *    6  not a readable string                      first, second: its span; 0 and 0 without a literal
  *    7  not a readable bit string                  first, second: its span
  *    8  not a money text                           first, second: its span
  *    9  would be written, and the buffer is shorter                              first: 0, second: the length needed
  *   10  a number that is given names nothing: an unknown kind, or a mark or setting that is neither 0 nor 1       first, second: 0
- *   11  writer: NUL with the setting 0
- *   12  writer: more than 268435456 bytes, or a part size below 4
- * 10 is tested before all others; then 1, 2, 3, 4, then 5 to 8, then 9. The writer tests 10, 12, 4, 11, 9.
+ *   11  a writer's value holds NUL, which a plain literal does not spell with the setting 0, and E'..' and U&'..' at neither setting
+ *   12  a writer's value has more than 268435456 bytes, or the part size is below 4
+ * 10 is tested before all others; then 1, 2, 3, 4, then 5 to 8, then 9. The plain writers test 10, 12, 4, 11, 9; the writers of E'..' and U&'..', which take no
+ * number that could name nothing, 12, 4, 11, 9.
  *
  * WHAT STAYS UNCHANGED. On any number but 0, and on a borrowed answer, the buffer is byte for byte as it was lent. A written answer fills the buffer's start; the rest
  * is unchanged. The lent numbers (how, first, second ..) are written by every call, with 0 where nothing else is said.
@@ -152,13 +153,21 @@ bool valdrabus_is_null(uint32_t kind);
    range in it, an empty one that fits included. A range that does not fit, or a refusal, shows an empty part: VALDRABUS_NONE, 0, 0. */
 uint32_t valdrabus_view(uint32_t how, size_t first, size_t second, size_t source_len, size_t out_len, size_t *from, size_t *until);
 
-/* THE WRITER */
+/* THE WRITERS. len: the text's length, also the length needed with 9, else 0. */
 
-/* A value as one plain literal at a setting. len: the text's length, also the length needed with 9, else 0. 4, 9, 10, 11, 12. */
+/* A value as one plain literal at a setting. 4, 9, 10, 11, 12. */
 uint32_t valdrabus_write_literal(const uint8_t *value, size_t value_len, uint32_t setting, uint8_t *out, size_t out_len, size_t *len);
 
 /* The same in parts of at most part_size bytes of the value, a space between. 4, 9, 10, 11, 12. */
 uint32_t valdrabus_write_parts(const uint8_t *value, size_t value_len, size_t part_size, uint32_t setting, uint8_t *out, size_t out_len, size_t *len);
+
+/* A value as E'..', which reads back as the value at either setting. Backslash and quote are doubled; the codes 08, 09, 0A, 0C and 0D are \b, \t, \n, \f and \r, the others below 20 hex a
+   backslash and three octal digits; all else, 7F hex too, stands as it is. So the text has no byte below 20 hex; for n bytes of the value it has at most 4 n + 3. 4, 9, 11, 12. */
+uint32_t valdrabus_write_escape(const uint8_t *value, size_t value_len, uint8_t *out, size_t out_len, size_t *len);
+
+/* A value as U&'..', which reads back as the value at either setting. Backslash and quote are doubled; a character outside 20 to 7E hex is a backslash and four hex digits, above FFFF
+   a backslash, + and six, in upper case. So the text has bytes 20 to 7E hex alone; for n bytes of the value it has at most 5 n + 4. 4, 9, 11, 12. */
+uint32_t valdrabus_write_unicode(const uint8_t *value, size_t value_len, uint8_t *out, size_t out_len, size_t *len);
 
 /* HELPERS, on bare text */
 

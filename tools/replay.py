@@ -7,7 +7,7 @@
 A row is a head of 40 bytes, then the text with its padding, the value and the name. Numbers have their lowest byte first. The head:
 
     0       the question, see QUESTIONS; 0 ends a stratum, which the name names; 255 fills a block of 65,536 bytes, which holds whole rows
-    1       the kind's code; of the writer 1 if a part size is given
+    1       the kind's code; of the writer 1 if a part size is given; of a form 1 for E, 2 for U&
     2, 3    the setting; 1 for a synthetic literal
     4-11    start and end, four bytes each; of the writer the start is the part size
     12, 13  how many bytes of padding stand before the source; 1 if it is asked with its padding too
@@ -22,10 +22,12 @@ import struct
 import sys
 
 ROOT = pathlib.Path(__file__).resolve().parent.parent
-# the first seven lend a buffer
-QUESTIONS = 'string plain decimal bits temporal ident writer money source charset i64 bool null evalid uvalid uescape nul isident radix'.split()
-LENDS = set(QUESTIONS[:7])
+# the first eight lend a buffer
+QUESTIONS = 'string plain decimal bits temporal ident writer form money source charset i64 bool null evalid uvalid uescape nul isident radix'.split()
+LENDS = set(QUESTIONS[:8])
 SPANNED = set('string plain decimal bits temporal money source charset i64'.split())
+# how the texts of the two forms begin, in the order of their numbers
+OPENING = {'escape': "E'", 'unicode': "U&'"}
 LONG = 200  # the buffer of the first asking; no value is as long
 HEAD = 40
 BLOCK = 65536
@@ -186,12 +188,49 @@ def sequences():
     return [(stratum, row) for stratum, rows in strata.items() for row in rows]
 
 
+def forms():
+    """(id, form, value, room, answer) of forms.tsv"""
+    for identity, form, value, room, answer in lines('forms'):
+        yield identity, form, unhex(value), int(room), answer
+
+
+def written_forms():
+    """(id, form, value, text) of what forms.tsv says is written, each once"""
+    met = set()
+    for identity, form, value, _, answer in forms():
+        case, _, text = answer.partition(' ')
+        if case == 'w' and (value, text) not in met:
+            met.add((value, text))
+            yield identity, form, value, unhex(text)
+
+
+def form_read(form, value, text):
+    """what a written text means as a string: borrowed where nothing in it was spelled otherwise"""
+    start, end = len(OPENING[form]), len(text) - 1
+    return f'b {start} {end}' if text[start:end] == value else f'w {value.hex()}'
+
+
+def forms_asked():
+    """(stratum, row) of forms.tsv: each row; each written text read back at both settings, and both validators asked of it"""
+    for number, form in enumerate(OPENING, 1):
+        for identity, own, value, room, answer in forms():
+            if own == form:
+                yield f'forms, {form}', Row(f'forms {identity}, {form}', 'form', number, 0, 0, 0, value, answer, room)
+    for identity, form, value, text in written_forms():
+        for setting in (0, 1):
+            yield 'forms, read back', Row(f'forms {identity}, {form}, setting {setting}', 'string', 4, setting, 0, len(text), text, form_read(form, value, text))
+    for question in ('evalid', 'uvalid'):
+        for identity, form, _, text in written_forms():
+            yield f'forms, {question}', Row(f'forms {identity}, {form}, {question}', question, 0, 0, 0, 0, text, 'yes')
+
+
 def all_rows():
     yield from sorted(listed('oracle'), key=lambda r: QUESTIONS.index(r[1].question))
     yield from sorted(listed('clarified'), key=lambda r: QUESTIONS.index(r[1].question))
     yield from readable('manuals')
     yield from sequences()
     yield from readable('examples')
+    yield from forms_asked()
 
 
 def blocks(rows):

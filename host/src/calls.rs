@@ -153,15 +153,31 @@ pub(crate) fn identifier(text: &[u8], out: &mut [u8]) -> Said {
     said
 }
 
-/// A value as a literal, whole or in parts of a size: the number, and the length.
-pub(crate) fn write(value: &[u8], part_size: Option<usize>, settings: Settings, out: &mut [u8]) -> (u32, usize) {
-    let (from, setting, to) = (value.as_ptr(), settings.number(), out.as_mut_ptr());
+/// How a value is written.
+#[derive(Clone, Copy)]
+pub(crate) enum Spelling {
+    Plain(Settings),
+    /// Plain, in parts of at most so many bytes of the value.
+    Parts(usize, Settings),
+    Escape,
+    Unicode,
+}
+
+/// A value as a literal: the number, and the length.
+pub(crate) fn write(value: &[u8], spelling: Spelling, out: &mut [u8]) -> (u32, usize) {
+    let (from, long, to, room) = (value.as_ptr(), value.len(), out.as_mut_ptr(), out.len());
     let mut len = 0;
-    // SAFETY: slices, in both calls.
+    // SAFETY: slices, in each call.
     let number = unsafe {
-        match part_size {
-            None => sys::valdrabus_write_literal(from, value.len(), setting, to, out.len(), &mut len),
-            Some(size) => sys::valdrabus_write_parts(from, value.len(), size, setting, to, out.len(), &mut len),
+        match spelling {
+            Spelling::Plain(settings) => {
+                sys::valdrabus_write_literal(from, long, settings.number(), to, room, &mut len)
+            }
+            Spelling::Parts(size, settings) => {
+                sys::valdrabus_write_parts(from, long, size, settings.number(), to, room, &mut len)
+            }
+            Spelling::Escape => sys::valdrabus_write_escape(from, long, to, room, &mut len),
+            Spelling::Unicode => sys::valdrabus_write_unicode(from, long, to, room, &mut len),
         }
     };
     (number, len)

@@ -70,7 +70,7 @@ pub enum Error {
     },
     /// 10: this crate and the archive that it is linked with do not agree about a number. No call of this crate gives it while both are of one version.
     BadNumber,
-    /// 11: a value with a NUL, which no plain literal spells where backslash escapes are off.
+    /// 11: a value with a NUL, which no plain literal spells where backslash escapes are off, and neither `E'..'` nor `U&'..'` at any setting.
     HoldsNul,
     /// 12: a value longer than [`LONGEST_VALUE`](crate::LONGEST_VALUE), or parts smaller than [`LEAST_PART`](crate::LEAST_PART).
     OverLimit,
@@ -147,7 +147,7 @@ impl fmt::Display for Error {
             Error::WrongKind { expected, actual } => write!(f, "{expected} is asked for, and the literal is {actual}"),
             Error::MissingSource { .. } => write!(f, "the literal stands in no source"),
             Error::InvalidSourceRange { span } => write!(f, "{span} is no range of whole characters in the source"),
-            // Without a literal it is a helper's text or the writer's value.
+            // Without a literal it is a helper's text or a writer's value.
             Error::NotUtf8 { span: None } => write!(f, "the text or value is not UTF-8"),
             Error::NotUtf8 { .. } => write!(f, "{text} is not UTF-8"),
             Error::InvalidInteger { .. } => write!(f, "{text} is not a readable integer"),
@@ -156,7 +156,7 @@ impl fmt::Display for Error {
             Error::InvalidMoney { .. } => write!(f, "{text} is not a money text"),
             Error::NoRoom { needed } => write!(f, "the buffer is too short: {needed} bytes are needed"),
             Error::BadNumber => write!(f, "the linked archive is of another version"),
-            Error::HoldsNul => write!(f, "the value holds a NUL, which no plain literal spells at this setting"),
+            Error::HoldsNul => write!(f, "the value holds a NUL: only plain literals with backslash escapes spell it"),
             Error::OverLimit => write!(f, "the value is too long to be written, or the part size too small"),
         }?;
         write!(f, " (number {})", self.number())

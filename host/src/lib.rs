@@ -1,4 +1,4 @@
-//! Reads the literals of SQL dumps, and writes plain ones.
+//! Reads the literals of SQL dumps, and writes values as literals.
 //!
 //! A string of a dump has many spellings: doubled quotes, `E'..'` and `U&'..'` escapes, dollar quotes, MySQL's backslashes, names that arrive in parts. This crate says what a
 //! literal *means*, so that a table can be keyed by it:
@@ -27,7 +27,8 @@
 //! - [`Literal`]: a kind and a span; the questions are its methods. [`InBytes`]: the same over bytes that may not be UTF-8.
 //! - [`Text`]: an answer that is a part of the source, or written into the buffer that was lent.
 //! - [`Error`]: why a call is refused, with its number. A refusal leaves the buffer as it was.
-//! - [`write_literal`], [`write_parts`]: values as plain literals.
+//! - [`write_literal`], [`write_parts`]: values as plain literals. [`write_escape`], [`write_unicode`]: values as `E'..'` and `U&'..'`, in which no byte is below 20 hex. [`to_literal`],
+//!   [`to_parts`], [`to_escape`], [`to_unicode`]: the same into texts of their own.
 //! - [`split_radix_prefix`] and the other functions: helpers on bare text.
 //!
 //! # Building
@@ -67,4 +68,7 @@ pub use literal::Literal;
 pub use settings::Settings;
 pub use span::Span;
 pub use texts::Text;
-pub use writer::{LEAST_PART, LONGEST_VALUE, to_literal, to_parts, write_literal, write_parts};
+pub use writer::{
+    LEAST_PART, LONGEST_VALUE, to_escape, to_literal, to_parts, to_unicode, write_escape, write_literal, write_parts,
+    write_unicode,
+};

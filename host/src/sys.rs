@@ -127,6 +127,20 @@ unsafe extern "C" {
         out_len: usize,
         len: *mut usize,
     ) -> u32;
+    pub fn valdrabus_write_escape(
+        value: *const u8,
+        value_len: usize,
+        out: *mut u8,
+        out_len: usize,
+        len: *mut usize,
+    ) -> u32;
+    pub fn valdrabus_write_unicode(
+        value: *const u8,
+        value_len: usize,
+        out: *mut u8,
+        out_len: usize,
+        len: *mut usize,
+    ) -> u32;
     pub fn valdrabus_split_radix_prefix(text: *const u8, text_len: usize, start: *mut usize) -> u32;
     pub fn valdrabus_uescape_argument_is_legal(text: *const u8, text_len: usize) -> bool;
     pub fn valdrabus_postgres_escape_string_is_valid(text: *const u8, text_len: usize) -> bool;

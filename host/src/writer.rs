@@ -1,6 +1,6 @@
-//! Values as plain literals.
+//! Values as literals: plain, whole or in parts, and as `E'..'` and `U&'..'`.
 
-use crate::calls;
+use crate::calls::{self, Spelling};
 use crate::errors::Error;
 use crate::settings::Settings;
 
@@ -20,7 +20,7 @@ pub const LEAST_PART: usize = 4;
 /// # Ok::<(), valdrabus::Error>(())
 /// ```
 pub fn write_literal(value: impl AsRef<[u8]>, settings: Settings, out: &mut [u8]) -> Result<&str, Error> {
-    write(value.as_ref(), None, settings, out)
+    write(value.as_ref(), Spelling::Plain(settings), out)
 }
 
 /// A value in parts of at most `part_size` bytes of the value, cut between characters, with a space between. The parts read back as the whole value at the same setting.
@@ -38,7 +38,7 @@ pub fn write_parts(
     settings: Settings,
     out: &mut [u8],
 ) -> Result<&str, Error> {
-    write(value.as_ref(), Some(part_size), settings, out)
+    write(value.as_ref(), Spelling::Parts(part_size, settings), out)
 }
 
 /// As [`write_literal`], into a text of its own. Refusals: 12, 4, 11.
@@ -49,16 +49,76 @@ pub fn write_parts(
 /// # Ok::<(), valdrabus::Error>(())
 /// ```
 pub fn to_literal(value: impl AsRef<[u8]>, settings: Settings) -> Result<String, Error> {
-    written(value.as_ref(), None, settings)
+    written(value.as_ref(), Spelling::Plain(settings))
 }
 
 /// As [`write_parts`], into a text of its own. Refusals: 12, 4, 11.
 pub fn to_parts(value: impl AsRef<[u8]>, part_size: usize, settings: Settings) -> Result<String, Error> {
-    written(value.as_ref(), Some(part_size), settings)
+    written(value.as_ref(), Spelling::Parts(part_size, settings))
 }
 
-fn write<'b>(value: &[u8], part_size: Option<usize>, settings: Settings, out: &'b mut [u8]) -> Result<&'b str, Error> {
-    let (number, len) = calls::write(value, part_size, settings, out);
+/// A value as `E'..'`: backslash and quote are doubled, the codes 08, 09, 0A, 0C and 0D are `\b`, `\t`, `\n`, `\f` and `\r`, the others below 20 hex a backslash and three octal digits. All else stands as it
+/// is, 7F hex and characters that are not ASCII too. So the text has no byte below 20 hex, and no line feed in it ends a line.
+///
+/// What it writes reads back as the value at both settings, so none is given. For `n` bytes of the value it has at most `4 * n + 3`. Refusals: 12, 4, 11 (any NUL), 9, tested in this order.
+///
+/// ```
+/// use valdrabus::{Error, write_escape};
+/// let mut out = [0; 32];
+/// assert_eq!(write_escape("Bob's\ttea", &mut out)?, r"E'Bob''s\ttea'");
+/// assert_eq!(write_escape("5 µg\u{1}", &mut out)?, r"E'5 µg\001'");
+/// assert_eq!(write_escape("a\0b", &mut out), Err(Error::HoldsNul));
+/// assert_eq!(write_escape("\n", &mut out[..4]), Err(Error::NoRoom { needed: 5 }));
+/// # Ok::<(), Error>(())
+/// ```
+pub fn write_escape(value: impl AsRef<[u8]>, out: &mut [u8]) -> Result<&str, Error> {
+    write(value.as_ref(), Spelling::Escape, out)
+}
+
+/// A value as `U&'..'`: backslash and quote are doubled, and a character outside 20 to 7E hex is a backslash and four upper-case hex digits, or above FFFF a backslash, `+` and six. So the text has bytes
+/// 20 to 7E hex alone.
+///
+/// What it writes reads back as the value at both settings, so none is given. For `n` bytes of the value it has at most `5 * n + 4`. Refusals: 12, 4, 11 (any NUL), 9, tested in this order.
+///
+/// ```
+/// use valdrabus::{Error, write_unicode};
+/// let mut out = [0; 32];
+/// assert_eq!(write_unicode("5 µg\n", &mut out)?, r"U&'5 \00B5g\000A'");
+/// assert_eq!(write_unicode("😀", &mut out)?, r"U&'\+01F600'");
+/// assert_eq!(write_unicode("a\0b", &mut out), Err(Error::HoldsNul));
+/// assert_eq!(write_unicode("é", &mut out[..8]), Err(Error::NoRoom { needed: 9 }));
+/// # Ok::<(), Error>(())
+/// ```
+pub fn write_unicode(value: impl AsRef<[u8]>, out: &mut [u8]) -> Result<&str, Error> {
+    write(value.as_ref(), Spelling::Unicode, out)
+}
+
+/// As [`write_escape`], into a text of its own. Refusals: 12, 4, 11.
+///
+/// ```
+/// use valdrabus::{Error, to_escape};
+/// assert_eq!(to_escape("line\r\n")?, r"E'line\r\n'");
+/// assert_eq!(to_escape(b"\xFF\0"), Err(Error::NotUtf8 { span: None }));
+/// # Ok::<(), Error>(())
+/// ```
+pub fn to_escape(value: impl AsRef<[u8]>) -> Result<String, Error> {
+    written(value.as_ref(), Spelling::Escape)
+}
+
+/// As [`write_unicode`], into a text of its own. Refusals: 12, 4, 11.
+///
+/// ```
+/// use valdrabus::{Error, to_unicode};
+/// assert_eq!(to_unicode("Crème")?, r"U&'Cr\00E8me'");
+/// assert_eq!(to_unicode(b"\xFF\0"), Err(Error::NotUtf8 { span: None }));
+/// # Ok::<(), Error>(())
+/// ```
+pub fn to_unicode(value: impl AsRef<[u8]>) -> Result<String, Error> {
+    written(value.as_ref(), Spelling::Unicode)
+}
+
+fn write<'b>(value: &[u8], spelling: Spelling, out: &'b mut [u8]) -> Result<&'b str, Error> {
+    let (number, len) = calls::write(value, spelling, out);
     if number != 0 {
         return Err(Error::of_bare(number, len));
     }
@@ -66,13 +126,13 @@ fn write<'b>(value: &[u8], part_size: Option<usize>, settings: Settings, out: &'
 }
 
 /// No text has fewer than two bytes, so a call without a buffer gives the length needed, or the refusal.
-fn written(value: &[u8], part_size: Option<usize>, settings: Settings) -> Result<String, Error> {
-    let needed = match write(value, part_size, settings, &mut []) {
+fn written(value: &[u8], spelling: Spelling) -> Result<String, Error> {
+    let needed = match write(value, spelling, &mut []) {
         Err(Error::NoRoom { needed }) => needed,
         other => return other.map(str::to_owned),
     };
     let mut buffer = vec![0; needed];
-    let (number, len) = calls::write(value, part_size, settings, &mut buffer);
+    let (number, len) = calls::write(value, spelling, &mut buffer);
     if number != 0 {
         return Err(Error::of_bare(number, len));
     }

@@ -7,6 +7,7 @@ mod report;
 #[path = "../examples/keys/request.rs"]
 mod request;
 
+use report::Look;
 use std::collections::HashSet;
 use std::ffi::OsString;
 use std::os::unix::ffi::OsStringExt;
@@ -21,9 +22,9 @@ fn finds_its_doubles(name: &str, count: usize) {
     let text = read(&format!("{name}.txt"));
     let rows = list::rows(text.as_bytes(), Settings::STANDARD).expect("settings that can be read");
     assert_eq!(rows.len(), count);
-    assert_eq!(report::keys(&rows).lines().count(), count);
+    assert_eq!(report::keys(&rows, Look::Marked).lines().count(), count);
     assert_eq!(report::refused(&rows), "");
-    assert_eq!(report::doubles(&rows), read(&format!("{name}.doubles")));
+    assert_eq!(report::doubles(&rows, Look::Marked), read(&format!("{name}.doubles")));
 }
 
 #[test]
@@ -59,10 +60,10 @@ fn a_row_that_cannot_be_read_stops_nothing() {
         "     7  a\\",
         "     8  a",
     ];
-    assert_eq!(report::keys(&rows).lines().collect::<Vec<_>>(), said);
+    assert_eq!(report::keys(&rows, Look::Marked).lines().collect::<Vec<_>>(), said);
     assert_eq!(report::refused(&rows).lines().collect::<Vec<_>>(), said[1..3]);
     let doubles = "doubled: a, on lines 1, 8\n3 products with doubles, 2 without; 1 doubled; 2 rows refused\n";
-    assert_eq!(report::doubles(&rows), doubles);
+    assert_eq!(report::doubles(&rows, Look::Marked), doubles);
 }
 
 #[test]
@@ -70,11 +71,46 @@ fn keys_that_differ_look_different() {
     let list = "E'a\\nb'\n'a\\nb'\n'a‹0A›b'\nE'\\u0085\\x7F\\t'\n'\u{A0}›'\n";
     let rows = list::rows(list.as_bytes(), Settings::STANDARD).expect("no settings");
     let said = ["     1  a‹0A›b", r"     2  a\nb", "     3  a‹2039›0A›b", "     4  ‹85›‹7F›‹09›", "     5  \u{A0}›"];
-    assert_eq!(report::keys(&rows).lines().collect::<Vec<_>>(), said);
+    assert_eq!(report::keys(&rows, Look::Marked).lines().collect::<Vec<_>>(), said);
+}
+
+#[test]
+fn keys_are_spelled_where_that_is_asked() {
+    let list = "'a\tb''s'\nE'a\\tb''s'\n'é\u{7F}'\n-- backslash on\n'\\0\\n'\n'b\n";
+    let rows = list::rows(list.as_bytes(), Settings::STANDARD).expect("settings that can be read");
+    for (look, quoted, wide) in
+        [(Look::Escape, r"E'a\tb''s'", "E'é\u{7F}'"), (Look::Unicode, r"U&'a\0009b''s'", r"U&'\00E9\007F'")]
+    {
+        let said = [
+            &format!("     1  {quoted}"),
+            &format!("     2  {quoted}"),
+            &format!("     3  {wide}"),
+            "     5  no literal: ‹00›‹0A›",
+            "     6  refused: the text at 0..2 is not a readable string (number 6)",
+        ];
+        assert_eq!(report::keys(&rows, look).lines().collect::<Vec<_>>(), said);
+        let counts = "4 products with doubles, 3 without; 1 doubled; 1 rows refused";
+        assert_eq!(report::doubles(&rows, look), format!("doubled: {quoted}, on lines 1, 2\n{counts}\n"));
+    }
+}
+
+#[test]
+fn a_spelled_key_is_a_row_itself_at_either_setting() {
+    let text = read("wholesale.txt");
+    let rows = list::rows(text.as_bytes(), Settings::STANDARD).expect("settings that can be read");
+    for look in [Look::Escape, Look::Unicode] {
+        let shown = report::keys(&rows, look);
+        let spelled: Vec<&str> = shown.lines().map(|line| line[6..].trim_start()).collect();
+        let spelled = spelled.join("\n");
+        for settings in [Settings::STANDARD, Settings::MYSQL] {
+            let again = list::rows(spelled.as_bytes(), settings).expect("no settings");
+            assert!(rows.iter().map(|row| &row.key).eq(again.iter().map(|row| &row.key)), "{look:?} {settings:?}");
+        }
+    }
 }
 
 fn keys(list: &str) -> Result<String, String> {
-    list::rows(list.as_bytes(), Settings::STANDARD).map(|rows| report::keys(&rows))
+    list::rows(list.as_bytes(), Settings::STANDARD).map(|rows| report::keys(&rows, Look::Marked))
 }
 
 #[test]
@@ -97,20 +133,26 @@ fn a_setting_that_cannot_be_read_is_an_error() {
     }
 }
 
-fn asked(words: &[&str]) -> Result<(bool, bool, Vec<String>), String> {
+fn asked(words: &[&str]) -> Result<(bool, bool, Look, Vec<String>), String> {
     request::request(words.iter().map(OsString::from)).map(|request| {
         let files = request.files.iter().map(|file| file.display().to_string()).collect();
-        (request.settings == Settings::MYSQL, request.doubles_only, files)
+        (request.settings == Settings::MYSQL, request.doubles_only, request.look, files)
     })
 }
 
 #[test]
 fn the_command_line() {
     let files = |names: &[&str]| names.iter().map(|name| name.to_string()).collect::<Vec<_>>();
-    assert_eq!(asked(&[]), Ok((false, false, files(&["-"]))));
-    assert_eq!(asked(&["--doubles", "--"]), Ok((false, true, files(&["-"]))));
-    assert_eq!(asked(&["a", "--backslash", "-", "b"]), Ok((true, false, files(&["a", "-", "b"]))));
-    assert_eq!(asked(&["--", "--doubles", "--", "-x"]), Ok((false, false, files(&["--doubles", "--", "-x"]))));
+    assert_eq!(asked(&[]), Ok((false, false, Look::Marked, files(&["-"]))));
+    assert_eq!(asked(&["--doubles", "--"]), Ok((false, true, Look::Marked, files(&["-"]))));
+    assert_eq!(asked(&["a", "--backslash", "-", "b"]), Ok((true, false, Look::Marked, files(&["a", "-", "b"]))));
+    let behind = files(&["--doubles", "--", "-x"]);
+    assert_eq!(asked(&["--", "--doubles", "--", "-x"]), Ok((false, false, Look::Marked, behind)));
+    assert_eq!(asked(&["--spell", "escape"]), Ok((false, false, Look::Escape, files(&["-"]))));
+    assert_eq!(asked(&["a", "--spell", "unicode", "b"]), Ok((false, false, Look::Unicode, files(&["a", "b"]))));
+    for words in [&["--spell"][..], &["--spell", "Escape"], &["--spell", "--", "escape"]] {
+        assert_eq!(asked(words), Err(format!("--spell is followed by neither escape nor unicode\n{}", request::USAGE)));
+    }
     for option in ["-x", "--double", "--help"] {
         assert_eq!(asked(&["a", option]), Err(format!("no option {option}\n{}", request::USAGE)));
     }

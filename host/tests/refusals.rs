@@ -168,5 +168,6 @@ fn errors_say_what_is_wrong() {
     assert_eq!(said(Error::NotUtf8 { span: None }), "the text or value is not UTF-8 (number 4)");
     assert_eq!(said(Error::NoRoom { needed: 7 }), "the buffer is too short: 7 bytes are needed (number 9)");
     let boxed: Box<dyn std::error::Error + Send + Sync> = Error::HoldsNul.into();
-    assert!(boxed.to_string().ends_with("(number 11)"));
+    let nul = "the value holds a NUL: only plain literals with backslash escapes spell it (number 11)";
+    assert_eq!(boxed.to_string(), nul);
 }

@@ -1,11 +1,14 @@
-//! Every row of `vectors/` that a caller of this crate can ask: the Rust original's own answers, and how document 01 is read. docs/VECTORS.md says what a row holds.
+//! Every row of `vectors/` that a caller of this crate can ask: the Rust original's own answers, how document 01 is read, and the facts of the writers' two forms. docs/VECTORS.md says what a row
+//! holds.
 
 mod common;
 
 use common::{KINDS, LENT};
+use std::borrow::Cow;
 use std::fmt::Write;
 use valdrabus::*;
 
+#[derive(Default)]
 struct Row {
     id: String,
     question: String,
@@ -21,7 +24,8 @@ struct Row {
 fn rows(name: &str) -> Vec<Row> {
     let path = format!("{}/../vectors/{name}.tsv", env!("CARGO_MANIFEST_DIR"));
     let table = std::fs::read_to_string(&path).unwrap_or_else(|why| panic!("{path}: {why}"));
-    table.lines().filter(|line| !line.starts_with('#')).map(row).filter(|row| row.question != "record").collect()
+    let read = if name == "forms" { form_row } else { row };
+    table.lines().filter(|line| !line.starts_with('#')).map(read).filter(|row| row.question != "record").collect()
 }
 
 fn row(line: &str) -> Row {
@@ -38,6 +42,14 @@ fn row(line: &str) -> Row {
         room: next(),
         answer: next(),
     }
+}
+
+/// A row of a value to write; its question is the form, and its room the buffer's length.
+fn form_row(line: &str) -> Row {
+    let columns: Vec<&str> = line.split('\t').collect();
+    let [id, form, value, room, answer] = columns[..] else { panic!("five columns are due: {line}") };
+    let [id, question, room, answer] = [id, form, room, answer].map(str::to_owned);
+    Row { id, question, source: unhex(value), room, answer, ..Row::default() }
 }
 
 fn unhex(text: &str) -> Vec<u8> {
@@ -67,10 +79,15 @@ impl Row {
         self.answer.strip_prefix("w ").map(unhex)
     }
 
-    /// The lengths of the buffers to lend. A borrowed answer and a refusal need none, and must leave any.
+    fn is_form(&self) -> bool {
+        self.question == "escape" || self.question == "unicode"
+    }
+
+    /// The lengths of the buffers to lend. A borrowed answer and a refusal need none, and must leave any. A form that is written is also lent just what it needs, and a byte less.
     fn lengths(&self) -> Vec<usize> {
         match (self.room.parse::<isize>(), self.value()) {
-            (Ok(room), _) if self.question == "writer" => vec![room as usize],
+            (Ok(room), Some(value)) if self.is_form() => vec![room as usize, value.len(), value.len() - 1],
+            (Ok(room), _) if self.question == "writer" || self.is_form() => vec![room as usize],
             (Ok(room), Some(value)) => vec![value.len().checked_add_signed(room).expect("a length")],
             _ => vec![0, 64],
         }
@@ -120,6 +137,10 @@ fn told_part<T: AsRef<[u8]> + ?Sized>(source: &[u8], answer: Result<Option<&T>, 
     }
 }
 
+fn written(text: &str) -> String {
+    format!("w {}", hex(text.as_bytes()))
+}
+
 fn yes(truth: bool) -> String {
     if truth { "yes" } else { "no" }.to_owned()
 }
@@ -166,7 +187,9 @@ fn on_bare_text(row: &Row, question: &str, out: &mut [u8]) -> Option<String> {
             Ok(size) => write_parts(source, size, row.setting, out),
             Err(_) => write_literal(source, row.setting, out),
         }
-        .map_or_else(refused, |text| format!("w {}", hex(text.as_bytes()))),
+        .map_or_else(refused, written),
+        "escape" => write_escape(source, out).map_or_else(refused, written),
+        "unicode" => write_unicode(source, out).map_or_else(refused, written),
         _ => return None,
     })
 }
@@ -203,11 +226,13 @@ fn allocated(row: &Row, text: &str) -> Option<String> {
         "bits" => row.literal().to_bit_text(text),
         "temporal" => row.literal().to_temporal_text(text),
         "ident" => to_unicode_ident(text),
+        "escape" if !row.answer.starts_with("r 9") => to_escape(text).map(Cow::Owned),
+        "unicode" if !row.answer.starts_with("r 9") => to_unicode(text).map(Cow::Owned),
         _ => return None,
     };
     Some(match answer {
-        Ok(std::borrow::Cow::Borrowed(part)) => borrowed(text.as_bytes(), part.as_bytes()),
-        Ok(std::borrow::Cow::Owned(text)) => format!("w {}", hex(text.as_bytes())),
+        Ok(Cow::Borrowed(part)) => borrowed(text.as_bytes(), part.as_bytes()),
+        Ok(Cow::Owned(text)) => written(&text),
         Err(error) => refused(error),
     })
 }
@@ -241,4 +266,9 @@ fn the_rusts_own_answers() {
 #[test]
 fn how_document_01_is_read() {
     assert_eq!(replay("clarified"), 638 - 23);
+}
+
+#[test]
+fn the_facts_of_the_two_forms() {
+    assert_eq!(replay("forms"), 2 * (60 + 28));
 }

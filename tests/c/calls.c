@@ -1,6 +1,6 @@
 /*
- * Calls each function of valdrabus.h, and compares what it answers, the lent numbers and every byte of the buffer with what document 01's examples and the tables of its
- * reading say. Prints one line; ends with status 1 at the first difference, having said where it stands.
+ * Calls each function of valdrabus.h, and compares what it answers, the lent numbers and every byte of the buffer with what document 01's examples, the tables of its
+ * reading and those of request T-01 say. Prints one line; ends with status 1 at the first difference, having said where it stands.
  */
 #include "valdrabus.h"
 
@@ -263,6 +263,100 @@ static void writer(void)
     CHECK(valdrabus_write_parts(bytes("a"), 1, 3, 2, c.out, ROOM, &c.second) == VALDRABUS_BAD_NUMBER && c.second == 0 && holds(&c, ""));
 }
 
+/* The writers that take no setting. */
+typedef uint32_t form_writer(const uint8_t *, size_t, uint8_t *, size_t, size_t *);
+
+static struct call formed(form_writer *write, const char *value, size_t len, size_t room)
+{
+    struct call c = lent();
+    c.number = write(bytes(value), len, c.out, room, &c.second);
+    return c;
+}
+
+static int form_refused(form_writer *write, const char *value, size_t len, size_t room, uint32_t number, size_t needed)
+{
+    struct call c = formed(write, value, len, room);
+    return c.number == number && c.second == needed && holds(&c, "");
+}
+
+/* Whether a value is written as a text, in a buffer just as long and in a longer one, and in none that is shorter. */
+static int writes(form_writer *write, const char *value, const char *text)
+{
+    size_t len = strlen(value), needed = strlen(text);
+    struct call exact = formed(write, value, len, needed), longer = formed(write, value, len, ROOM);
+    return exact.number == VALDRABUS_OK && exact.second == needed && holds(&exact, text)
+        && longer.number == VALDRABUS_OK && longer.second == needed && holds(&longer, text)
+        && form_refused(write, value, len, needed - 1, VALDRABUS_NO_ROOM, needed)
+        && form_refused(write, value, len, 0, VALDRABUS_NO_ROOM, needed);
+}
+
+/* Whether both validators take a text, and it is read as a value at both settings: a part of it where nothing was escaped, else written. */
+static int reads_back(const char *text, size_t opening, const char *value)
+{
+    const uint8_t *from = bytes(text);
+    size_t len = strlen(text);
+    int plain = len == opening + strlen(value) + 1;
+    uint32_t setting;
+
+    if (!valdrabus_postgres_escape_string_is_valid(from, len) || !valdrabus_unicode_escape_string_is_valid(from, len))
+        return 0;
+    for (setting = 0; setting < 2; setting++)
+        if (!(plain ? borrowed(string(text, setting), opening, len - 1) : written(string(text, setting), value)))
+            return 0;
+    return 1;
+}
+
+/* A value with its two spellings. */
+struct spelled {
+    const char *value, *escape, *unicode;
+};
+
+static void spellings(void)
+{
+    static const struct spelled rows[] = {
+        {"", "E''", "U&''"},
+        {"a", "E'a'", "U&'a'"},
+        {"a'b", "E'a''b'", "U&'a''b'"},
+        {"\\'", "E'\\\\'''", "U&'\\\\'''"},
+        {"\"", "E'\"'", "U&'\"'"},
+        {"\001" "1", "E'\\0011'", "U&'\\00011'"},
+        {"\x08\t\n\f\r", "E'\\b\\t\\n\\f\\r'", "U&'\\0008\\0009\\000A\\000C\\000D'"},
+        {"\x0B\x1F", "E'\\013\\037'", "U&'\\000B\\001F'"},
+        {" ~\x7F", "E' ~\x7F'", "U&' ~\\007F'"},
+        {"\xC3\xA9" "A", "E'\xC3\xA9" "A'", "U&'\\00E9A'"},
+        {"\xEF\xBF\xBF", "E'\xEF\xBF\xBF'", "U&'\\FFFF'"},
+        {"\xF0\x90\x80\x8A", "E'\xF0\x90\x80\x8A'", "U&'\\+01000A'"},
+        {"\xF4\x8F\xBF\xBF", "E'\xF4\x8F\xBF\xBF'", "U&'\\+10FFFF'"},
+        {"5 \xC2\xB5g\n", "E'5 \xC2\xB5g\\n'", "U&'5 \\00B5g\\000A'"},
+    };
+    size_t at;
+
+    for (at = 0; at < sizeof rows / sizeof rows[0]; at++) {
+        check(__LINE__, writes(valdrabus_write_escape, rows[at].value, rows[at].escape), rows[at].escape);
+        check(__LINE__, reads_back(rows[at].escape, 2, rows[at].value), rows[at].escape);
+        check(__LINE__, writes(valdrabus_write_unicode, rows[at].value, rows[at].unicode), rows[at].unicode);
+        check(__LINE__, reads_back(rows[at].unicode, 3, rows[at].value), rows[at].unicode);
+    }
+}
+
+/* One byte more than a writer takes. It is refused before a byte of it is read; as it is not const, it takes no room in the program's file either. */
+static uint8_t too_long[268435457];
+
+static void refused_spellings(void)
+{
+    form_writer *const writers[] = {valdrabus_write_escape, valdrabus_write_unicode};
+    size_t at;
+
+    for (at = 0; at < 2; at++) {
+        CHECK(form_refused(writers[at], "\0", 1, ROOM, VALDRABUS_HOLDS_NUL, 0));
+        CHECK(form_refused(writers[at], "a\0b", 3, 0, VALDRABUS_HOLDS_NUL, 0));
+        CHECK(form_refused(writers[at], "\xFF\0", 2, ROOM, VALDRABUS_NOT_UTF8, 0));
+        CHECK(form_refused(writers[at], "\xC3", 1, 0, VALDRABUS_NOT_UTF8, 0));
+        CHECK(form_refused(writers[at], "\xED\xA0\x80", 3, ROOM, VALDRABUS_NOT_UTF8, 0));
+        CHECK(form_refused(writers[at], (const char *)too_long, sizeof too_long, ROOM, VALDRABUS_OVER_LIMIT, 0));
+    }
+}
+
 static struct call identifier(const char *text, size_t room)
 {
     struct call c = lent();
@@ -297,6 +391,8 @@ int main(void)
     values();
     views();
     writer();
+    spellings();
+    refused_spellings();
     helpers();
     printf("%u checks of the C functions hold\n", checks);
     return 0;

@@ -1,11 +1,12 @@
 #!/usr/bin/env python3
-"""Whether the Rust gives what the rows written by hand state: vectors/manuals.tsv and examples.tsv.
+"""Whether the Rust gives what the rows written by hand state: vectors/manuals.tsv and examples.tsv, and the written texts of forms.tsv, read back.
 
     tools/oracle/stated.py
 
-The writer's rows are left out, since the Rust has no writer, and texts that are no UTF-8, which no &str holds. Exits 1 if an answer differs. Where literal.rs
+The writers' rows are left out, since the Rust has no writer, and texts that are no UTF-8, which no &str holds. Exits 1 if an answer differs. Where literal.rs
 is not at hand (see oracle.py) it says so and exits 0.
 """
+import itertools
 import os
 import sys
 
@@ -19,12 +20,13 @@ def main():
     if not oracle.at_hand():
         print('literal.rs is not at hand: nothing is asked')
         return 0
-    rows = [row for file in ('manuals', 'examples') for _, row in replay.readable(file) if row.question != 'writer' and replay.is_utf8(row.source)]
+    stated = itertools.chain(replay.readable('manuals'), replay.readable('examples'), replay.forms_asked())
+    rows = [row for _, row in stated if row.question not in ('writer', 'form') and replay.is_utf8(row.source)]
     said = oracle.ask([(row.question, row.kind, row.setting, row.start, row.end, row.source) for row in rows])
     wrong = [(row, answer) for row, answer in zip(rows, said) if replay.due(row.source, answer) != (row.number, row.letter, row.values, row.value)]
     for row, answer in wrong:
         print(f'{row.name}: the Rust says {answer}')
-    print(f'{len(rows)} rows of manuals.tsv and examples.tsv asked of the Rust, {len(wrong)} different')
+    print(f'{len(rows)} rows of manuals.tsv, examples.tsv and forms.tsv asked of the Rust, {len(wrong)} different')
     return 1 if wrong else 0
 
 

@@ -1,14 +1,19 @@
 #!/usr/bin/env python3
-"""Turns vectors/oracle.tsv and vectors/clarified.tsv into tables of antt, proved by one computation.
+"""Turns vectors/oracle.tsv, clarified.tsv and forms.tsv into tables of antt, proved by one computation.
 
     tools/oracle/tables.py
 
-writes crates/meaning/proofs/Oracle1.antt and on, Clarified.antt, Tables.antt that proves them, and Lib.antt with their names and those of the tables
-written by hand. The forms of the rows are those of crates/meaning/proofs/Rows.antt.
+writes crates/meaning/proofs/Oracle1.antt and on, Clarified.antt, FormRows.antt, Tables.antt that proves them, and Lib.antt with their names and those of the
+tables written by hand. The forms of the rows are those of crates/meaning/proofs/Rows.antt.
 """
 import glob
 import os
 import re
+import sys
+
+sys.dont_write_bytecode = True
+sys.path.append(os.path.join(os.path.dirname(os.path.abspath(__file__)), '..'))
+import replay  # noqa: E402
 
 ROOT = os.path.dirname(os.path.dirname(os.path.dirname(os.path.abspath(__file__))))
 PROOFS = os.path.join(ROOT, 'crates', 'meaning', 'proofs')
@@ -23,13 +28,10 @@ UNREACHED = {'Halves': None, 'Cutting': {'complete'}}
 QUESTION = {'plain': 'plain', 'decimal': 'decimal-text', 'bits': 'bit-text', 'temporal': 'temporal-text', 'money': 'money-text', 'source': 'source-text',
             'charset': 'charset', 'i64': 'i64', 'bool': 'bool', 'null': 'null'}
 # the words that rows are made of
-WORDS = ('asks spans detached helps names prefixed spells prints wrote needs refused string plain decimal-text bit-text temporal-text money-text source-text '
-         'charset i64 bool null uescape-legal escape-valid unicode-valid embeds-nul is-ident borrows writes cramped plus minus unnamed says refuses unfit').split()
+WORDS = ('asks spans detached helps names prefixed spells forms prints wrote needs refused string plain decimal-text bit-text temporal-text money-text '
+         'source-text charset i64 bool null uescape-legal escape-valid unicode-valid embeds-nul is-ident borrows writes cramped plus minus unnamed says '
+         'refuses unfit').split()
 HELPER = {'uescape': 'uescape-legal', 'evalid': 'escape-valid', 'uvalid': 'unicode-valid', 'nul': 'embeds-nul', 'isident': 'is-ident'}
-
-
-def unhex(text):
-    return b'' if text == '-' else bytes.fromhex(text)
 
 
 def quoted(data):
@@ -49,7 +51,7 @@ def told(source, room, answer):
         start, end = map(int, values)
         return f'(borrows {start} {end} {quoted(source[start:end])})'
     if word == 'w':
-        return f'(cramped {quoted(unhex(values[0]))})' if room == '-1' else f'(writes {room} {quoted(unhex(values[0]))})'
+        return f'(cramped {quoted(replay.unhex(values[0]))})' if room == '-1' else f'(writes {room} {quoted(replay.unhex(values[0]))})'
     if word == 'i':
         value = int(values[0])
         return f'(minus {-value})' if value < 0 else f'(plus {value})'
@@ -70,8 +72,16 @@ def printed(records, lines):
     return f'prints {quoted(data[:at])} {len(zeros)} {quoted(data[at + len(zeros):])} {quoted("".join(line + chr(10) for line in lines).encode())}'
 
 
+def made(answer):
+    """what a writer answers"""
+    word, *values = answer.split(' ')
+    if word == 'w':
+        return f'(wrote {quoted(replay.unhex(values[0]))})'
+    return f'(needs {values[1]})' if values[0] == '9' else f'(refused {values[0]})'
+
+
 def row(question, kind, setting, start, end, source, room, answer):
-    data = unhex(source)
+    data = replay.unhex(source)
     if question in HELPER:
         return f'helps {HELPER[question]} {quoted(data)} {truth(answer)}'
     if question == 'ident':
@@ -80,9 +90,7 @@ def row(question, kind, setting, start, end, source, room, answer):
         return f'prefixed {quoted(data)} {answer[2:]}'
     if question == 'writer':
         size = 'Whole' if start == 'none' else f'(AtMost {start})'
-        word, *values = answer.split(' ')
-        made = f'(wrote {quoted(unhex(values[0]))})' if word == 'w' else f'(needs {values[1]})' if values[0] == '9' else f'(refused {values[0]})'
-        return f'spells {flag(setting)} {size} {quoted(data)} {room} {made}'
+        return f'spells {flag(setting)} {size} {quoted(data)} {room} {made(answer)}'
     if question == 'record':
         return printed([data], [answer])
     synthetic = question.endswith('/synthetic')
@@ -93,6 +101,17 @@ def row(question, kind, setting, start, end, source, room, answer):
     if synthetic:
         return f'detached {asked} {kind} {start} {end} {quoted(data)} {told(data, room, answer)}'
     return f'asks {asked} {kind} {quoted(data[:start])} {quoted(data[start:end])} {quoted(data[end:])} {told(data, room, answer)}'
+
+
+def form_rows():
+    """the rows of forms.tsv; then what each written text means at both settings, and both validators' yes"""
+    for _, form, value, room, answer in replay.forms():
+        yield f'forms {form.capitalize()} {quoted(value)} {room} {made(answer)}'
+    for _, form, value, text in replay.written_forms():
+        for setting in '01':
+            yield row('string', 4, setting, 0, len(text), text.hex(), 0, replay.form_read(form, value, text))
+        for question in ('evalid', 'uvalid'):
+            yield row(question, 0, 0, 0, 0, text.hex(), 0, 'yes')
 
 
 def read(name):
@@ -129,10 +148,10 @@ def uses(module, names):
     return wrapped(f'use {module}.{{', names, ', ', '}')
 
 
-def table(name, says, made, rows, more=()):
+def table(name, says, file, rows, more=()):
     """A module that says the rows."""
     said = set(re.findall(r'[a-z0-9-]+', re.sub(r'"(?:[^"\\]|\\.)*"', '', ' '.join(rows))))
-    lines = [f'-- Generated by tools/oracle/tables.py from vectors/{made}: {says} Proved in Tables. Assumes nothing.']
+    lines = [f'-- Generated by tools/oracle/tables.py from vectors/{file}: {says} Proved in Tables. Assumes nothing.']
     lines += ['use mathlib.Core.Bool.{' + ', '.join(w for w in ('true', 'false') if w in said) + '}'] if said & {'true', 'false'} else []
     lines += ['use mathlib.Core.List.{List, [], _∷_}']
     lines += list(more)
@@ -149,8 +168,9 @@ def proof_of(names):
     for module, words in opened.items():
         lines += uses(f'Rattle.meaning.specs.{module}', words)
     lines += ['use Rattle.meaning.proofs.Rows.{all}'] + [f'use Rattle.meaning.proofs.{name} as {name}' for name in names]
+    first, *more = wrapped(' ' * len('pub rows-right : '), [f'T (all {name}.rows)' for name in names], ' × ')
+    lines += ['', 'pub rows-right : ' + first.strip()] + ['    × ' + line.strip() for line in more]
     first, *more = wrapped(' ' * len('unfolding '), [n for words in opened.values() for n in words], ' ')
-    lines += ['', 'pub rows-right : ' + ' × '.join(f'T (all {name}.rows)' for name in names)]
     lines += ['unfolding ' + first.strip()] + [' ' * 4 + line.strip() for line in more]
     lines += ['rows-right = (' + ', '.join('tt' for name in names) + ')']
     write('Tables', lines)
@@ -174,10 +194,12 @@ def main():
         table(f'Oracle{i + 1}', f'rows {part[0][0]} to {part[-1][0]}, the Rust\'s own answers.', 'oracle.tsv', [row(*r[1:]) for r in part])
     vectors = read('clarified.tsv')
     records = [r for r in vectors if r[1] == 'record']
-    rows = [row(*r[1:]) for r in vectors] + [printed([unhex(r[6]) for r in records], [r[8] for r in records]), printed([], [])]
+    rows = [row(*r[1:]) for r in vectors] + [printed([replay.unhex(r[6]) for r in records], [r[8] for r in records]), printed([], [])]
     table('Clarified', 'how document 01 is read; the records together, and none.', 'clarified.tsv', rows,
           ['use Rattle.meaning.specs.declared.PartSize.the-variants.{Whole, AtMost}'])
-    modules.append('Clarified')
+    table('FormRows', 'values as E and U& literals, and these read back.', 'forms.tsv', list(form_rows()),
+          ['use Rattle.meaning.specs.declared.Form.the-variants.{Escape, Unicode}'])
+    modules += ['Clarified', 'FormRows']
     proof_of(modules[1:])
     modules += ['Tables'] + BY_HAND
     with open(os.path.join(PROOFS, 'Lib.antt'), 'w') as f:

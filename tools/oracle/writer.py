@@ -1,9 +1,10 @@
 #!/usr/bin/env python3
-"""Whether the writer's rows are what document 01's sentences on the writer say, read once more: on characters, where the definition goes by bytes.
+"""Whether the writers' rows are what the sentences on them say, document 01's on the plain writer and request T-01's on E and U&, read once more: on
+characters, where the definitions go by bytes.
 
     tools/oracle/writer.py
 
-Every row of the writer that `replay` asks is held to it, of clarified.tsv, rfc3629.tsv and examples.tsv. Needs no Rust. Exits 1 if a row differs.
+Every row of the writers that `replay` asks is held to them, of clarified.tsv, rfc3629.tsv, examples.tsv and forms.tsv. Needs no Rust. Exits 1 if a row differs.
 """
 import os
 import sys
@@ -11,6 +12,9 @@ import sys
 sys.dont_write_bytecode = True
 sys.path.append(os.path.join(os.path.dirname(os.path.abspath(__file__)), '..'))
 import replay  # noqa: E402
+
+# the letters of an E string that mean a code, by PostgreSQL's table of C-style escapes
+LETTERS = {'\x08': 'b', '\x0C': 'f', '\x0A': 'n', '\x0D': 'r', '\x09': 't'}
 
 
 def literal(part, setting):
@@ -29,28 +33,64 @@ def in_parts(value, size):
     return parts
 
 
-def answer(value, setting, size, room):
-    """Writing tests 12, 4, 11, 9. The answer is in the words of docs/VECTORS.md; a size of None is no part size."""
-    if len(value) > 268_435_456 or size is not None and size < 4:
+def plain(value, setting, size):
+    """one space between parts; a size of None is no part size"""
+    return ' '.join(literal(part, setting) for part in ([value] if size is None else in_parts(value, size)))
+
+
+def escaped(c):
+    """E: backslash and quote doubled, codes 08, 0C, 0A, 0D, 09 by their letters, other codes below 20 hex as three octal digits"""
+    if c in "\\'":
+        return c + c
+    if c in LETTERS:
+        return '\\' + LETTERS[c]
+    return f'\\{ord(c):03o}' if ord(c) < 0x20 else c
+
+
+def by_number(c):
+    """U&: backslash doubled, quote doubled, everything outside 20 to 7E hex by four upper-case hex digits up to FFFF, above that by + and six"""
+    if c in "\\'":
+        return c + c
+    if 0x20 <= ord(c) <= 0x7E:
+        return c
+    return f'\\{ord(c):04X}' if ord(c) <= 0xFFFF else f'\\+{ord(c):06X}'
+
+
+def formed(value, number):
+    """a value as an E literal, number 1, or as a U& literal, number 2"""
+    opening, spelled = {1: ("E'", escaped), 2: ("U&'", by_number)}[number]
+    return opening + ''.join(map(spelled, value)) + "'"
+
+
+def answer(value, room, over, bars_nul, made):
+    """Writing tests 12, 4, 11, 9. The answer is in the words of docs/VECTORS.md; `made` makes the text of a value."""
+    if len(value) > 268_435_456 or over:
         return 'r 12'
     if not replay.is_utf8(value):
         return 'r 4'
-    if not setting and b'\0' in value:
+    if bars_nul and b'\0' in value:
         return 'r 11'
-    text = value.decode()
-    made = ' '.join(literal(part, setting) for part in ([text] if size is None else in_parts(text, size))).encode()
-    return f'w {made.hex()}' if len(made) <= room else f'r 9 {len(made)}'
+    text = made(value.decode()).encode()
+    return f'w {text.hex()}' if len(text) <= room else f'r 9 {len(text)}'
+
+
+def due(row):
+    """A plain literal holds a NUL with the setting on, and may have a part size; E and U& have neither setting nor parts."""
+    if row.question == 'form':
+        return answer(row.source, row.room, False, True, lambda value: formed(value, row.kind))
+    size = row.start if row.kind else None
+    return answer(row.source, row.room, size is not None and size < 4, not row.setting, lambda value: plain(value, row.setting, size))
 
 
 def main():
-    rows = [row for _, row in replay.all_rows() if row.question == 'writer']
+    rows = [row for _, row in replay.all_rows() if row.question in ('writer', 'form')]
     wrong = 0
     for row in rows:
-        due = answer(row.source, row.setting, row.start if row.kind else None, row.room)
-        if replay.due(row.source, due) != (row.number, row.letter, row.values, row.value):
+        said = due(row)
+        if replay.due(row.source, said) != (row.number, row.letter, row.values, row.value):
             wrong += 1
-            print(f'{row.name}: due is {due}')
-    print(f'{len(rows)} rows of the writer held to its sentences, {wrong} different')
+            print(f'{row.name}: due is {said}')
+    print(f'{len(rows)} rows of the writers held to their sentences, {wrong} different')
     return 1 if wrong else 0
 
 

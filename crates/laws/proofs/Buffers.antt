@@ -1,14 +1,16 @@
 -- [01 Numbers an answer can carry; What is carried over] "No refusal changes the buffer." "A borrowed answer changes no byte." "Written text
--- fills the buffer's start; the remainder is unchanged." Once for every question that answers a text, once for identifiers, once for the writer.
--- Assumes nothing.
+-- fills the buffer's start; the remainder is unchanged." Once for every question that answers a text, once for identifiers, once for the
+-- writers. Assumes nothing.
 use mathlib.Core.Path.{_≡_, refl, sym, subst}
-use mathlib.Core.Bool.{Bool, true, false, not}
+use mathlib.Core.Bool.{Bool, true, false}
 use mathlib.Core.List.{List, _++_}
 use Prim.Native.Nat.{ℕ, _≤_}
 use lib.Dec.{leb, ltb, leb→le}
 use lib.ListN.{length, drop}
 use Rattle.meaning.specs.declared.Settings.{Settings}
 use Rattle.meaning.specs.declared.PartSize.{PartSize}
+use Rattle.meaning.specs.declared.PartSize.the-variants.{Whole}
+use Rattle.meaning.specs.declared.Form.{Form}
 use Rattle.meaning.specs.declared.Span.{Span}
 use Rattle.meaning.specs.declared.Literal.{Literal}
 use Rattle.meaning.specs.declared.LiteralExpected.the-variants as Expected
@@ -20,17 +22,19 @@ use Rattle.meaning.specs.declared.Identifier.{Identifier}
 use Rattle.meaning.specs.declared.Identifier.the-variants as Identifier′
 use Rattle.meaning.specs.declared.Writing.{Writing}
 use Rattle.meaning.specs.declared.Writing.the-variants as Writing′
-use Rattle.meaning.specs.Bytes.{if_then_else_}
+use Rattle.meaning.specs.Bytes.{if_then_else_, has}
 use Rattle.meaning.specs.Chars.{utf8}
 use Rattle.meaning.specs.Reading.{Answer, borrowed, written, refused, read}
 use Rattle.meaning.specs.Numbers.{decimalOf}
 use Rattle.meaning.specs.Kinds.{bits, temporal}
-use Rattle.meaning.specs.Answers.{Outcome, filled}
+use Rattle.meaning.specs.Answers.{filled}
 use Rattle.meaning.specs.Questions.{Tested, passes, barred, tested, isString, isNumber, isTemporal, bitBase, toldAs, told, stringQuestion, decimalQuestion}
 use Rattle.meaning.specs.Questions.{bitsQuestion, temporalQuestion, identifierAs, identifierQuestion}
 use Rattle.meaning.specs.Helpers.{ident}
-use Rattle.meaning.specs.Writer.{overLimit, unwritableNul, writtenText, writes, writeQuestion}
+use Rattle.meaning.specs.Writer.{overLimit, unwritableNul, writtenText, writeQuestion}
+use Rattle.meaning.specs.Forms.{formText, formQuestion}
 use Rattle.laws.proofs.Tests.{true→T}
+use Rattle.laws.proofs.Writers.{tried}
 
 -- the buffer begins with n bytes of a value, and goes on as it was lent
 pub record Filled (n : ℕ) (out after : List ℕ) : Type 0 where
@@ -123,22 +127,19 @@ identifier-leaves t out = go (utf8 t)
     go true = identifierAs-leaves out (ident t)
     go false = refl
 
+-- every writer
+tried-leaves : (x y z : Bool) (t out : List ℕ) → WritingLeaves out (tried x y z t out .answer) (tried x y z t out .buffer)
+tried-leaves true y z t out = refl
+tried-leaves false false z t out = refl
+tried-leaves false true true t out = refl
+tried-leaves false true false t out =
+    leaves-by t out (λ (r : Writing). WritingLeaves out r) (Writing′.Written _) (Writing′.NoRoom _) (λ d h. h) refl (leb (length t) (length out)) refl
+
 pub writing-leaves : (σ : Settings) (size : PartSize) (v out : List ℕ)
     → WritingLeaves out (writeQuestion σ size v out .answer) (writeQuestion σ size v out .buffer)
 unfolding writeQuestion
-writing-leaves σ size v out = go (overLimit size v) (not (utf8 v)) (unwritableNul σ v)
-  where
-    chosen : Bool → Bool → Bool → Outcome Writing
-    chosen x y z =
-        if x then record { answer = Writing′.OverLimit; buffer = out }
-        else if y then record { answer = Writing′.NotUtf8; buffer = out }
-        else if z then record { answer = Writing′.HoldsNul; buffer = out }
-        else writes (writtenText σ size v) out
+writing-leaves σ size v out = tried-leaves (overLimit size v) (utf8 v) (unwritableNul σ v) (writtenText σ size v) out
 
-    go : (x y z : Bool) → WritingLeaves out (chosen x y z .answer) (chosen x y z .buffer)
-    go true y z = refl
-    go false true z = refl
-    go false false true = refl
-    go false false false =
-        leaves-by (writtenText σ size v) out (λ (r : Writing). WritingLeaves out r) (Writing′.Written _) (Writing′.NoRoom _) (λ d h. h) refl
-        (leb (length (writtenText σ size v)) (length out)) refl
+pub form-leaves : (f : Form) (v out : List ℕ) → WritingLeaves out (formQuestion f v out .answer) (formQuestion f v out .buffer)
+unfolding formQuestion
+form-leaves f v out = tried-leaves (overLimit Whole v) (utf8 v) (has 0 v) (formText f v) out

@@ -3,7 +3,7 @@
 use mathlib.Core.Path.{_≡_, sym, _∙_}
 use mathlib.Core.Bool.{true}
 use mathlib.Core.List.{List, [], _∷_, _++_}
-use Prim.Native.Nat.{ℕ, _+_, _≤_, _<_}
+use Prim.Native.Nat.{ℕ, suc, _+_, _≤_, _<_}
 use lib.ListN.{length, take}
 use Rattle.meaning.specs.declared.Settings.{Settings}
 use Rattle.meaning.specs.declared.PartSize.{PartSize}
@@ -11,11 +11,13 @@ use Rattle.meaning.specs.declared.Literal.{Literal}
 use Rattle.meaning.specs.declared.Text.{Text}
 use Rattle.meaning.specs.declared.Writing.{Writing}
 use Rattle.meaning.specs.declared.Writing.the-variants.{Written}
+use Rattle.meaning.specs.declared.Form.{Form}
 use Rattle.meaning.specs.Bytes.{_!_, isMark}
 use Rattle.meaning.specs.Cutting.{complete}
 use Rattle.meaning.specs.Answers.{Meets, textNumber, shown}
 use Rattle.meaning.specs.Questions.{isString, stringQuestion}
 use Rattle.meaning.specs.Writer.{writeQuestion}
+use Rattle.meaning.specs.Forms.{formOpening, formQuestion}
 use Rattle.laws.proofs.Asked.{Spans}
 use Rattle.laws.proofs.Utf8.{utf8-join}
 use Rattle.laws.proofs.WhiteUtf8.{white-utf8}
@@ -26,6 +28,7 @@ use Rattle.laws.proofs.Parts.{Part, textOf, Next, chain, all-of}
 use Rattle.laws.proofs.WriterParts.{Accepted}
 use Rattle.laws.proofs.WrittenParts.{Each, each-of, Sized, PartAccepted, CutInto, chain-answered, parts-accepted}
 use Rattle.laws.proofs.RoundTrip.{writer-answers, written-accepted, written-wrote, writer-round-trip}
+use Rattle.laws.proofs.FormRoundTrip.{form-round-trip}
 
 -- A CALL of the string question on the text t: what went in, and what came out
 pub record StringCall (σ : Settings) (t : List ℕ) : Type 0 where
@@ -82,6 +85,20 @@ pub round-trip-calls : (σ : Settings) (size : PartSize) (v : List ℕ) (w : Wri
 round-trip-calls σ size v w n e c r =
     shows-by c v
     (writer-round-trip σ size v (w .lent) n (sym (w .contract .answer) ∙ e) (c .literal) (c .source) (c .lent) (c .kind)
+    (rw (w .contract .buffer) at (c .spans)) r)
+
+-- IN A FORM, E or U&: what a call wrote shows the value at every setting. It needs room only if it is longer than the value, its opening and its mark
+pub record FormCall (f : Form) (v : List ℕ) : Type 0 where
+  pub lent : List ℕ
+  pub result : Writing
+  pub after : List ℕ
+  pub contract : Meets (formQuestion f v lent) result after
+
+pub form-calls : (f : Form) (v : List ℕ) (w : FormCall f v) (n : ℕ) → w .result ≡ Written n → (σ : Settings) (c : StringCall σ (take n (w .after)))
+    → (length v + suc (length (formOpening f)) < n → length v ≤ length (c .lent)) → Shows c v
+form-calls f v w n e σ c r =
+    shows-by c v
+    (form-round-trip f v (w .lent) n (sym (w .contract .answer) ∙ e) σ (c .literal) (c .source) (c .lent) (c .kind)
     (rw (w .contract .buffer) at (c .spans)) r)
 
 -- PARTS of a value, each by a call of the writer that wrote it, at a part size of its own

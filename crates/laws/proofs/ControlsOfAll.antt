@@ -2,12 +2,14 @@
 -- `Controls`. Those that join have an input of two segments; the writer's has two parts, so that one which writes the first part only is shut out too.
 -- Assumes nothing.
 use mathlib.Core.Path.{refl}
-use mathlib.Core.List.{List, []}
+use mathlib.Core.List.{List, [], _∷_, _++_}
 use Prim.Native.Nat.{ℕ}
 use native.Mathlib.Omega.{arith}
 use Rattle.meaning.specs.declared.Settings.{Settings}
 use Rattle.meaning.specs.declared.PartSize.{PartSize}
 use Rattle.meaning.specs.declared.PartSize.the-variants.{AtMost}
+use Rattle.meaning.specs.declared.Form.{Form}
+use Rattle.meaning.specs.declared.Form.the-variants.{Escape, Unicode}
 use Rattle.meaning.specs.declared.BitStringRadix.the-variants.{Binary}
 use Rattle.meaning.specs.declared.LiteralKind.the-variants as Kind
 use Rattle.meaning.specs.declared.Literal.{Literal}
@@ -29,6 +31,7 @@ use Rattle.meaning.specs.Answers.{identifierNumber, identifierValues, writingNu
 use Rattle.meaning.specs.Questions.{cutsCharacter, badSpan, sourceText, tested, stringQuestion, plainQuestion, decimalQuestion, bitsQuestion, temporalQuestion}
 use Rattle.meaning.specs.Questions.{identifierQuestion}
 use Rattle.meaning.specs.Writer.{spell, writtenText, overLimit, unwritableNul, writeQuestion}
+use Rattle.meaning.specs.Forms.{figure, isDoubled, escapeForm, unicodeFigures, formText, formQuestion}
 use Rattle.laws.proofs.Controls.{Program, Telling, WritesAt, ShutOut, shut-out, all-as, all-of-it, textTelling, two}
 
 -- questions on a literal and its source
@@ -136,3 +139,24 @@ writer-writes = record { begins = omega arith; answered = refl; leaves = refl; s
 
 pub writer-shut-out : ShutOut onWriter writerTelling (off, AtMost 4, ascii "'abcd") (ascii "'''abc' 'd'")
 writer-shut-out = shut-out writer-writes
+
+-- IN A FORM: E for the value a' and a byte 01, and U& for a character of two bytes and a backslash
+abbrev pub formTelling : Telling (Form × List ℕ) Writing
+formTelling = record { number = writingNumber; values = writingValues; view = λ x o. writingView (o .buffer) (o .answer) }
+
+abbrev pub onForm : Program (Form × List ℕ) Writing
+onForm x out = formQuestion (x .0) (x .1) out
+
+pub escape-writes : WritesAt onForm formTelling (Escape, ascii "a'" ++ (1 ∷ [])) (ascii "E'a''\\001'")
+unfolding formQuestion overLimit utf8 lead within formText escapeForm isDoubled figure filled partShown
+escape-writes = record { begins = omega arith; answered = refl; leaves = refl; shows = refl; short = refl; needs = refl }
+
+pub escape-shut-out : ShutOut onForm formTelling (Escape, ascii "a'" ++ (1 ∷ [])) (ascii "E'a''\\001'")
+escape-shut-out = shut-out escape-writes
+
+pub unicode-writes : WritesAt onForm formTelling (Unicode, ascii "Ã©\\") (ascii "U&'\\00E9\\\\'")
+unfolding formQuestion overLimit utf8 lead within formText isDoubled unicodeFigures figure filled partShown
+unicode-writes = record { begins = omega arith; answered = refl; leaves = refl; shows = refl; short = refl; needs = refl }
+
+pub unicode-shut-out : ShutOut onForm formTelling (Unicode, ascii "Ã©\\") (ascii "U&'\\00E9\\\\'")
+unicode-shut-out = shut-out unicode-writes

@@ -250,3 +250,12 @@ checked-graft d (gave k out p) q n lo hi h e = go (pushes d out) refl (checked-g
         clash : _≡_ {A = ℕ} 0 1
         clash = let f : broken ≡ due n lo hi = sym (pushes-broken (value p)) ∙ ap (λ (x : Due). pushes x (value p)) (sym j) ∙ e′ in cc
     go (due m a c) j ih = ap (gave k out) (ih (ap (λ (x : Due). pushes x (value p)) (sym j) ∙ e′))
+
+-- so a course that stands for whole characters is its own check
+pub checked-whole : (d : Due) (r : Trace) → stops r ≡ false → whole (pushes d (value r)) ≡ true → checked d r ≡ r
+checked-whole d r h w = go (pushes d (value r)) refl w
+  where
+    go : (x : Due) → pushes d (value r) ≡ x → whole x ≡ true → checked d r ≡ r
+    go broken e w = absurd (false≢true w)
+    go (due zero lo hi) e w = ap (checked d) (sym (graft-ended r)) ∙ checked-graft d r ended 0 lo hi h e ∙ graft-ended r
+    go (due (suc n) lo hi) e w = absurd (false≢true w)

@@ -49,7 +49,7 @@ pub record Joinable (σ : Settings) (t v : List ℕ) : Type 0 where
   pub begins : t ≡ quote ∷ behind
   pub valid : utf8 t ≡ true
   pub ready : Ready σ t
-  pub back : ReadsBack σ t v
+  pub back : ReadsBack σ (quote ∷ []) t v
 
 pub is-quote : isMark quote ≡ true
 unfolding isMark

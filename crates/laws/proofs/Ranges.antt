@@ -228,11 +228,11 @@ module _ (l : Literal) (S t v : List ℕ) (σ : Settings) (out : List ℕ) (k : 
       go (written w) m = let z : w ≡ v = cc in rw z r
       go (refused p) m = tt
 
--- A TEXT THAT READS BACK AS v shows v: where it is no longer than v and its two marks it is borrowed, and needs no room
-pub back-answered : (l : Literal) (S t v : List ℕ) (σ : Settings) (out : List ℕ) → isString (l .kind) ≡ true → Spans l S t → utf8 t ≡ true → ReadsBack σ t v
-    → (length v + 2 < length t → length v ≤ length out) → Answered S v (stringQuestion l S σ out)
-back-answered l S t v σ out k h u b r = string-shown l S t v σ out k h (record { valid = u; value = back-means b }) (room b)
+-- A TEXT THAT READS BACK AS v shows v: where it is no longer than v, its opening and its mark it is borrowed, and needs no room
+pub back-answered : (l : Literal) (S : List ℕ) {o t v : List ℕ} (σ : Settings) (out : List ℕ) → isString (l .kind) ≡ true → Spans l S t → utf8 t ≡ true
+    → ReadsBack σ o t v → (length v + suc (length o) < length t → length v ≤ length out) → Answered S v (stringQuestion l S σ out)
+back-answered l S {o} {t} {v} σ out k h u b r = string-shown l S t v σ out k h (record { valid = u; value = back-means b }) (room b)
   where
-    room : ReadsBack σ t v → RoomFor (read σ t) out
+    room : ReadsBack σ o t v → RoomFor (read σ t) out
     room (unchanged e q) = rw q tt
     room (longer m q) = rw q (r m)

@@ -1,16 +1,17 @@
--- How a literal of the writer is read: a value that it left unchanged, between two quote marks, is borrowed; any other value is written. Assumes nothing.
+-- How a literal of a writer is read: a value that it left unchanged, between an opening and a quote mark, is borrowed; any other value is written. Of the
+-- plain writer the opening is a quote mark. Assumes nothing.
 use mathlib.Core.Logic.{_⊎_, inl, inr}
 use mathlib.Core.Path.{_≡_, refl, ap, sym, _∙_, subst}
 use mathlib.Core.Bool.{Bool, true, false, _&&_}
 use mathlib.Core.List.{List, [], _∷_, _++_, append-nil}
-use Prim.Native.Nat.{ℕ, _+_, _-_, _≤_, _<_}
+use Prim.Native.Nat.{ℕ, suc, _+_, _-_, _≤_, _<_}
 use native.Mathlib.Omega.{arith}
 use lib.Dec.{T, eqb}
 use lib.ListN.{length, length-append}
-use lib.Seq.{take-append-seam}
+use lib.Seq.{take-append-seam, drop-append-seam}
 use Rattle.meaning.specs.declared.Settings.{Settings}
 use Rattle.meaning.specs.Bytes.{if_then_else_, quote, backslash}
-use Rattle.meaning.specs.Walk.{keep, Trace, walk, plain}
+use Rattle.meaning.specs.Walk.{Step, keep, walk, stops, plain, value}
 use Rattle.meaning.specs.Steps.{mysql, doubled, standardStep}
 use Rattle.meaning.specs.Cutting.{segment}
 use Rattle.meaning.specs.Spelling.{spelling}
@@ -21,30 +22,53 @@ use Rattle.laws.proofs.Enclosed.{has-append, encloses-body, part-body}
 use Rattle.laws.proofs.Walks.{walk-plain}
 use Rattle.laws.proofs.Written.{spells-value, spells-goes, literal-segment, writable, no-nul, lone}
 
--- a text that means v: it is v between two quote marks, and borrowed; or it is longer, and written
-pub data ReadsBack (σ : Settings) (t v : List ℕ) : Type 0 where
-  unchanged : t ≡ quote ∷ (v ++ (quote ∷ [])) → read σ t ≡ borrowed 1 (1 + length v) → ReadsBack σ t v
-  longer : length v + 2 < length t → read σ t ≡ written v → ReadsBack σ t v
+-- a text that means v, behind an opening o: it is the opening, v and a quote mark, and borrowed; or it is longer, and written
+pub data ReadsBack (σ : Settings) (o t v : List ℕ) : Type 0 where
+  unchanged : t ≡ o ++ (v ++ (quote ∷ [])) → read σ t ≡ borrowed (length o) (length o + length v) → ReadsBack σ o t v
+  longer : length v + suc (length o) < length t → read σ t ≡ written v → ReadsBack σ o t v
 
-module _ {σ : Settings} {t v : List ℕ} where
-  pub back-means : ReadsBack σ t v → meaning σ t ≡ means v
+enclosed-length : (o v : List ℕ) → length (o ++ (v ++ (quote ∷ []))) ≡ length v + suc (length o)
+enclosed-length o v = simp length-append (omega arith)
+
+module _ {σ : Settings} {o t v : List ℕ} where
+  pub back-means : ReadsBack σ o t v → meaning σ t ≡ means v
   back-means (unchanged e r) =
-      let n : 1 + length v - 1 ≡ length v = omega arith in
-      rw (r, e, n) (ap means (take-append-seam v (quote ∷ [])))
+      let n : length o + length v - length o ≡ length v = omega arith in
+      rw (r, e, n, drop-append-seam o (v ++ (quote ∷ []))) (ap means (take-append-seam v (quote ∷ [])))
   back-means (longer l r) = rw r
 
-  pub back-length : ReadsBack σ t v → length v + 2 ≤ length t
-  back-length (unchanged e r) = omega (arith, ap length e, length-append v (quote ∷ []))
+  pub back-length : ReadsBack σ o t v → length v + suc (length o) ≤ length t
+  back-length (unchanged e r) = omega (arith, ap length e, enclosed-length o v)
   back-length (longer l r) = omega arith
 
   -- which of the two it is, the length tells
-  pub back-borrowed : ReadsBack σ t v → length t ≡ length v + 2 → (t ≡ quote ∷ (v ++ (quote ∷ []))) × (read σ t ≡ borrowed 1 (1 + length v))
+  pub back-borrowed : ReadsBack σ o t v → length t ≡ length v + suc (length o)
+      → (t ≡ o ++ (v ++ (quote ∷ []))) × (read σ t ≡ borrowed (length o) (length o + length v))
   back-borrowed (unchanged e r) h = (e, r)
   back-borrowed (longer l r) h = absurd (omega arith)
 
-  pub back-written : ReadsBack σ t v → length v + 2 < length t → read σ t ≡ written v
-  back-written (unchanged e r) h = absurd (omega (arith, ap length e, length-append v (quote ∷ [])))
+  pub back-written : ReadsBack σ o t v → length v + suc (length o) < length t → read σ t ≡ written v
+  back-written (unchanged e r) h = absurd (omega (arith, ap length e, enclosed-length o v))
   back-written (longer l r) h = r
+
+-- a body that means v: nothing stops, and where not every byte stands for itself it is longer than v
+pub record BodyMeans (step : List ℕ → Step) (u v : List ℕ) : Type 0 where
+  pub goes : stops (walk step 0 u) ≡ false
+  pub means : value (walk step 0 u) ≡ v
+  pub longer : plain (walk step 0 u) ≡ false → length v < length u
+
+-- so a text that is read as its body's course, between an opening and a mark, reads back
+pub course-back : (σ : Settings) (o u v : List ℕ) (step : List ℕ → Step) → BodyMeans step u v
+    → read σ (o ++ (u ++ (quote ∷ []))) ≡ answer (length o) (length (o ++ (u ++ (quote ∷ []))) - 1) (walk step 0 u) → ReadsBack σ o (o ++ (u ++ (quote ∷ []))) v
+unfolding answer
+course-back σ o u v step b r = go (plain (walk step 0 u)) refl
+  where
+    go : (x : Bool) → plain (walk step 0 u) ≡ x → ReadsBack σ o (o ++ (u ++ (quote ∷ []))) v
+    go true p =
+        let e : u ≡ v = sym (walk-plain step u (true→T (plain (walk step 0 u)) p)) ∙ b .means in
+        let m : length (o ++ (u ++ (quote ∷ []))) - 1 ≡ length o + length v = omega (arith, enclosed-length o u, ap length e) in
+        unchanged (ap (λ (t : List ℕ). o ++ (t ++ (quote ∷ []))) e) (r ∙ rw (p, m))
+    go false p = longer (omega (arith, enclosed-length o u, b .longer p)) (r ∙ rw (p, b .goes) (ap written (b .means)))
 
 -- a byte is spelled by itself and stands for itself, or it is spelled by two bytes
 spell-kept : (bs : Bool) (b : ℕ) (t : List ℕ)
@@ -109,22 +133,8 @@ literal-read σ v w =
       part-body quote (spells (σ .backslash) v),
     )
 
-pub literal-back : (σ : Settings) (v : List ℕ) → writable (σ .backslash) v ≡ true → ReadsBack σ (literal (σ .backslash) v) v
-unfolding answer
-literal-back σ v w = go (plain course) refl
-  where
-    course : Trace
-    course = walk (standardStep (σ .backslash) quote) 0 (spells (σ .backslash) v)
-
-    n : length (literal (σ .backslash) v) ≡ length (spells (σ .backslash) v) + 2
-    n = omega (arith, length-append (spells (σ .backslash) v) (quote ∷ []))
-
-    go : (x : Bool) → plain course ≡ x → ReadsBack σ (literal (σ .backslash) v) v
-    go true p =
-        let e : spells (σ .backslash) v ≡ v =
-        sym (walk-plain (standardStep (σ .backslash) quote) (spells (σ .backslash) v) (true→T (plain course) p)) ∙ spells-value (σ .backslash) v in
-        let m : length (literal (σ .backslash) v) - 1 ≡ 1 + length v = omega (arith, n, ap length e) in
-        unchanged (ap (λ (t : List ℕ). quote ∷ (t ++ (quote ∷ []))) e) (literal-read σ v w ∙ rw (p, m))
-    go false p =
-        longer (omega (arith, n, spells-longer (σ .backslash) v p))
-        (literal-read σ v w ∙ rw (p, spells-goes (σ .backslash) v) (ap written (spells-value (σ .backslash) v)))
+pub literal-back : (σ : Settings) (v : List ℕ) → writable (σ .backslash) v ≡ true → ReadsBack σ (quote ∷ []) (literal (σ .backslash) v) v
+literal-back σ v w =
+    course-back σ (quote ∷ []) (spells (σ .backslash) v) v (standardStep (σ .backslash) quote)
+    (record { goes = spells-goes (σ .backslash) v; means = spells-value (σ .backslash) v; longer = spells-longer (σ .backslash) v })
+    (literal-read σ v w)

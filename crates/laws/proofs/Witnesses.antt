@@ -1,4 +1,4 @@
--- What the laws ask for can be had: closed inputs, at either setting, that meet the hypotheses of the joining law, of its second half, of the round trip
+-- What the laws ask for can be had: closed inputs, at either setting, that meet the hypotheses of the joining law, of its second half, of the round trips
 -- and of the rule for segments, and what the laws then say of them. Assumes nothing.
 use mathlib.Core.Logic.{_↔_}
 use mathlib.Core.Path.{_≡_, refl, ap}
@@ -9,6 +9,7 @@ use native.Mathlib.Omega.{arith}
 use lib.ListN.{length, replicate}
 use Rattle.meaning.specs.declared.Settings.{Settings}
 use Rattle.meaning.specs.declared.PartSize.the-variants.{Whole, AtMost}
+use Rattle.meaning.specs.declared.Form.the-variants.{Escape, Unicode}
 use Rattle.meaning.specs.declared.Text.the-variants.{Written}
 use Rattle.meaning.specs.Bytes.{part, ascii, within, isMark, digit}
 use Rattle.meaning.specs.Chars.{lead, utf8, width, isSpace}
@@ -17,6 +18,7 @@ use Rattle.meaning.specs.Cutting.{off, on, named, segment, segmentStep, cut, co
 use Rattle.meaning.specs.Spelling.{encloses, spelling}
 use Rattle.meaning.specs.Reading.{answer, one, read, meaning}
 use Rattle.meaning.specs.Writer.{spell, partsOf, writtenText, overLimit, unwritableNul, writeQuestion}
+use Rattle.meaning.specs.Forms.{figure, isDoubled, escapeForm, unicodeFigures, formText, formQuestion}
 use Rattle.meaning.specs.Answers.{textNumber, filled}
 use Rattle.meaning.specs.Questions.{cutsCharacter, badSpan, sourceText, tested, stringQuestion}
 use Rattle.laws.proofs.Asked.{Spans}
@@ -26,6 +28,7 @@ use Rattle.laws.proofs.JoiningLaw.{Complete, Gap, joining-law}
 use Rattle.laws.proofs.Parts.{Part, Next, chain}
 use Rattle.laws.proofs.Ranges.{Answered}
 use Rattle.laws.proofs.RoundTrip.{writer-round-trip}
+use Rattle.laws.proofs.FormRoundTrip.{form-round-trip}
 use Rattle.laws.proofs.Cuts.{segmentsOf, Each, Values, values-one}
 use Rattle.laws.proofs.Segments as Segments′
 use Rattle.laws.proofs.Strung.{Further, segments-question}
@@ -132,6 +135,25 @@ borrowed-there true =
 borrowed-there false =
     writer-round-trip off (AtMost 4) plain-value (replicate 6 0) 5 refl (all-of-it plain-text) plain-text [] refl (all-of plain-text refl refl)
     (λ m. absurd (omega arith))
+
+-- IN A FORM: E leaves that value unchanged, so it is read back with an empty buffer; U& spells its first character
+abbrev pub escape-text : List ℕ
+escape-text = ascii "E'Ã©a'"
+
+abbrev pub unicode-text : List ℕ
+unicode-text = ascii "U&'\\00E9a'"
+
+pub escape-there : (b : Bool) → Answered escape-text plain-value (stringQuestion (all-of-it escape-text) escape-text (set b) [])
+unfolding badSpan cutsCharacter within lead utf8 overLimit isDoubled escapeForm formText formQuestion filled
+escape-there b =
+    form-round-trip Escape plain-value (replicate 7 0) 6 refl (set b) (all-of-it escape-text) escape-text [] refl (all-of escape-text refl refl)
+    (λ m. absurd (omega arith))
+
+pub unicode-there : (b : Bool) → Answered unicode-text plain-value (stringQuestion (all-of-it unicode-text) unicode-text (set b) (replicate 3 0))
+unfolding badSpan cutsCharacter within lead utf8 overLimit isDoubled figure unicodeFigures formText formQuestion filled
+unicode-there b =
+    form-round-trip Unicode plain-value (replicate 11 0) 10 refl (set b) (all-of-it unicode-text) unicode-text (replicate 3 0) refl
+    (all-of unicode-text refl refl) (λ m. omega arith)
 
 -- THE RULE FOR SEGMENTS: three segments, the third with a prefix, and white space behind them
 abbrev pub spaced : List ℕ

@@ -2,7 +2,7 @@
 use mathlib.Core.Path.{_≡_, refl, ap, sym, _∙_, subst}
 use mathlib.Core.Bool.{Bool, true, false, _&&_, _||_, not, or-false, and-false}
 use mathlib.Core.List.{List, [], _∷_, _++_, append-assoc}
-use Prim.Native.Nat.{ℕ}
+use Prim.Native.Nat.{ℕ, _+_}
 use native.Mathlib.Nat.{zero-add}
 use native.Mathlib.Omega.{arith}
 use lib.Dec.{T, eqb, ltb}
@@ -13,7 +13,7 @@ use Rattle.meaning.specs.declared.Settings.{Settings}
 use Rattle.meaning.specs.Bytes.{if_then_else_, _!_, has, quote, backslash, isMark}
 use Rattle.meaning.specs.Walk.{keep, give, stop, stopped, walk, size, stops, value}
 use Rattle.meaning.specs.Steps.{standardStep, closingStep, doubled}
-use Rattle.meaning.specs.Cutting.{segment, continues}
+use Rattle.meaning.specs.Cutting.{closedAt, segment, continues}
 use Rattle.meaning.specs.Reading.{one, read}
 use Rattle.meaning.specs.Writer.{spell, spells, literal}
 use Rattle.laws.proofs.Tests.{eqb-sym}
@@ -84,37 +84,42 @@ spells-exact bs [] = refl
 spells-exact bs (b ∷ v) =
     exact-append (closingStep bs quote) (spell bs b) (spells bs v) (closing-local bs quote (spells bs v) refl) (spell-exact bs b) (spells-exact bs v)
 
--- the closing mark is found behind the body, whatever other byte comes next
-module _ (σ : Settings) (v r : List ℕ) (apart : eqb (r ! 0) quote ≡ false) where
-  at-mark : (b : Bool) → walk (closingStep b quote) 0 (quote ∷ r) ≡ stopped
+-- the closing mark is found behind a body that the search takes all of, whatever other byte comes next
+module _ (hides : Bool) (u r : List ℕ) (exact : Exact (closingStep hides quote) u) (apart : eqb (r ! 0) quote ≡ false) where
+  at-mark : walk (closingStep hides quote) 0 (quote ∷ r) ≡ stopped
   unfolding doubled
-  at-mark true = rw apart
-  at-mark false = rw apart
+  at-mark = go hides
+    where
+      go : (h : Bool) → walk (closingStep h quote) 0 (quote ∷ r) ≡ stopped
+      go true = rw apart
+      go false = rw apart
 
-  closing-course : walk (closingStep (σ .backslash) quote) 0 (spells (σ .backslash) v ++ (quote ∷ r))
-      ≡ graft (walk (closingStep (σ .backslash) quote) 0 (spells (σ .backslash) v)) stopped
+  takes : 0 + size (walk (closingStep hides quote) 0 u) ≡ length u
+  takes = zero-add (size (walk (closingStep hides quote) 0 u)) ∙ exact
+
+  ends : stops (walk (closingStep hides quote) 0 u) ≡ false
+  ends = exact-ends (closingStep hides quote) 0 u takes
+
+  closing-course : walk (closingStep hides quote) 0 (u ++ (quote ∷ r)) ≡ graft (walk (closingStep hides quote) 0 u) stopped
   closing-course =
-      walk-append (closingStep (σ .backslash) quote) (quote ∷ r) (closing-local (σ .backslash) quote (quote ∷ r) refl) 0 (spells (σ .backslash) v)
-      (zero-add (size (walk (closingStep (σ .backslash) quote) 0 (spells (σ .backslash) v))) ∙ spells-exact (σ .backslash) v)
-      ∙ ap (graft (walk (closingStep (σ .backslash) quote) 0 (spells (σ .backslash) v))) (at-mark (σ .backslash))
+      walk-append (closingStep hides quote) (quote ∷ r) (closing-local hides quote (quote ∷ r) refl) 0 u takes
+      ∙ ap (graft (walk (closingStep hides quote) 0 u)) at-mark
 
-  ends : stops (walk (closingStep (σ .backslash) quote) 0 (spells (σ .backslash) v)) ≡ false
-  ends = exact-ends (closingStep (σ .backslash) quote) 0 (spells (σ .backslash) v)
-      (zero-add (size (walk (closingStep (σ .backslash) quote) 0 (spells (σ .backslash) v))) ∙ spells-exact (σ .backslash) v)
+  pub closes : stops (walk (closingStep hides quote) 0 (u ++ (quote ∷ r))) ≡ true
+  closes = ap stops closing-course ∙ stops-graft (walk (closingStep hides quote) 0 u) stopped ends
 
+  pub closes-at : size (walk (closingStep hides quote) 0 (u ++ (quote ∷ r))) ≡ length u
+  closes-at = ap size closing-course ∙ size-graft (walk (closingStep hides quote) 0 u) stopped ends ∙ omega (arith, takes)
+
+  pub closes-behind : (n : ℕ) → closedAt n (walk (closingStep hides quote) 0 (u ++ (quote ∷ r))) ≡ n + length u + 1
+  closes-behind n = rw (closes, closes-at)
+
+module _ (σ : Settings) (v r : List ℕ) (apart : eqb (r ! 0) quote ≡ false) where
   pub literal-segment : segment σ (literal (σ .backslash) v ++ r) ≡ length (literal (σ .backslash) v)
   unfolding segment isMark
   literal-segment =
-      rw (
-        append-assoc (spells (σ .backslash) v) (quote ∷ []) r,
-        or-false (σ .backslash),
-        closing-course,
-        stops-graft (walk (closingStep (σ .backslash) quote) 0 (spells (σ .backslash) v)) stopped ends,
-        size-graft (walk (closingStep (σ .backslash) quote) 0 (spells (σ .backslash) v)) stopped ends,
-        spells-exact (σ .backslash) v,
-        length-append,
-      )
-      (omega arith)
+      rw (append-assoc (spells (σ .backslash) v) (quote ∷ []) r, or-false (σ .backslash), length-append)
+      (closes-behind (σ .backslash) (spells (σ .backslash) v) r (spells-exact (σ .backslash) v) apart 1 ∙ omega arith)
 
 -- NUL: the writer refuses it with the setting off, and spells it with the setting on
 abbrev pub writable : Bool → List ℕ → Bool

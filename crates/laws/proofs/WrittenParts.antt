@@ -97,7 +97,7 @@ module _ (σ : Settings) (p : Part) (xs : List Next) (e : Each (PartAccepted σ)
       → (length (all-of p xs) + 2 < length (chain σ p xs) → length (all-of p xs) ≤ length out)
       → Answered S (all-of p xs) (stringQuestion l S σ out)
   chain-answered l S out k h r =
-      back-answered l S (chain σ p xs) (all-of p xs) σ out k h (chain-joins σ p xs e .valid) (chain-joins σ p xs e .back) r
+      back-answered l S σ out k h (chain-joins σ p xs e .valid) (chain-joins σ p xs e .back) r
 
 -- EACH PART WRITTEN. The writer accepts it
 nul-free : (σ : Settings) (q : List ℕ) → Writable (σ .backslash) q → unwritableNul σ q ≡ false

@@ -5,6 +5,7 @@ pub mod Oracle3
 pub mod Oracle4
 pub mod Oracle5
 pub mod Clarified
+pub mod FormRows
 pub mod Tables
 pub mod Further
 pub mod Unseen

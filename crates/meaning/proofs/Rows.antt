@@ -8,6 +8,7 @@ use lib.Dec.{eqb}
 use lib.ListN.{length, replicate}
 use lib.IntN.{ℤ, pos, negsuc}
 use Rattle.meaning.specs.declared.PartSize.{PartSize}
+use Rattle.meaning.specs.declared.Form.{Form}
 use Rattle.meaning.specs.declared.RadixPrefix.{RadixPrefix}
 use Rattle.meaning.specs.declared.Literal.{Literal}
 use Rattle.meaning.specs.declared.Text.{Text}
@@ -31,6 +32,7 @@ use Rattle.meaning.specs.Helpers.{uescapeLegal, escapeValid, unicodeVali
 use Rattle.meaning.specs.Questions.{stringQuestion, plainQuestion, decimalQuestion, bitsQuestion, temporalQuestion, sourceQuestion, moneyQuestion}
 use Rattle.meaning.specs.Questions.{charsetQuestion, i64Question, boolQuestion, nullQuestion, identifierQuestion}
 use Rattle.meaning.specs.Writer.{writeQuestion}
+use Rattle.meaning.specs.Forms.{formQuestion}
 use Rattle.meaning.specs.Records.{kindOf, output}
 
 -- Texts stand in quotes, one character for each byte: `ascii` turns a character into the byte of its code, also from 80 to FF
@@ -171,7 +173,7 @@ abbrev pub identifierSeen : List ℕ → Outcome Identifier → Seen
 identifierSeen t o =
     record { values = identifierNumber (o .answer) ∷ identifierValues (o .answer); bytes = identifierShown t (o .buffer) (o .answer); buffer = o .buffer }
 
--- THE WRITER: the literal that is written; the length that is needed; a refusal by its number
+-- THE WRITERS: the literal that is written; the length that is needed; a refusal by its number
 pub data Wrote : Type 0 where
   wrote : String → Wrote
   needs refused : ℕ → Wrote
@@ -194,7 +196,8 @@ wroteSeen o =
 
 -- THE ROWS. A literal by its kind's code, the bytes of the source before it, its text, and the bytes behind it; a literal by a span
 -- of a source; one without a source; a helper; an identifier; a radix prefix; a value that the writer is given, with a setting, a part
--- size and a buffer's length; what the record program is given, with zero bytes between a head and a tail, and the lines it prints
+-- size and a buffer's length; one that it is given with a form, and a buffer's length; what the record program is given, with zero
+-- bytes between a head and a tail, and the lines it prints
 pub data Row : Type 0 where
   asks : Question → ℕ → String → String → String → Told → Row
   spans : Question → ℕ → ℕ → ℕ → String → Told → Row
@@ -203,6 +206,7 @@ pub data Row : Type 0 where
   names : String → Told → Row
   prefixed : String → ℕ → ℕ → Row
   spells : Bool → PartSize → String → ℕ → Wrote → Row
+  forms : Form → String → ℕ → Wrote → Row
   prints : String → ℕ → String → String → Row
 
 abbrev pub sameSeen : Seen → Seen → Bool
@@ -230,6 +234,7 @@ right (helps h t b) = equal (helperSays h (ascii t)) b
 right (names t w) = sameSeen (identifierSeen (ascii t) (identifierQuestion (ascii t) (lent w))) (identifierDue w)
 right (prefixed t β n) = samePrefix (radixPrefix (ascii t)) β n
 right (spells b size v n w) = sameSeen (wroteSeen (writeQuestion (record { backslash = b }) size (ascii v) (fill n))) (wroteDue n w)
+right (forms f v n w) = sameSeen (wroteSeen (formQuestion f (ascii v) (fill n))) (wroteDue n w)
 right (prints head n tail lines) = same (output (ascii head ++ (replicate n 0 ++ ascii tail))) (ascii lines)
 
 abbrev pub all : List Row → Bool

@@ -1,4 +1,4 @@
--- What document 01 says a literal means. Read in this order.
+-- What document 01 says a literal means, and behind `Writer` what document 02 adds. Read in this order.
 pub mod Bytes
 pub mod Chars
 pub mod Walk
@@ -14,4 +14,5 @@ pub mod Answers
 pub mod Reads
 pub mod Questions
 pub mod Writer
+pub mod Forms
 pub mod Records

@@ -175,6 +175,12 @@ pub enum Writing {
     NoRoom { needed: usize },
 }
 
+// A spelling that keeps a value's control characters visible: E'..' or U&'..'.
+pub enum Form {
+    Escape,
+    Unicode,
+}
+
 // How many value bytes a written part may hold.
 pub enum PartSize {
     Whole,

@@ -1,6 +1,7 @@
 // The question that a row asks, of a source and with a buffer. The literal's span is moved by so many bytes.
 use crate::rows::QUESTION;
 use crate::rows::due_in;
+use crate::rows::form_of;
 use crate::rows::literal_of;
 use crate::rows::settings_of;
 use crate::rows::size_of;
@@ -45,6 +46,7 @@ use questions::values::as_bool;
 use questions::values::as_i64;
 use questions::values::as_null;
 use questions::values::is_null;
+use writer::forms::write_form;
 use writer::literal::write_literal;
 
 // 1 to 5: a text of the source or of the buffer.
@@ -63,18 +65,22 @@ fn ask_writer(row: &[u8], source: &[u8], out: &mut [u8]) -> Told {
     writing_told(write_literal(source, size_of(row), settings_of(row), out))
 }
 
-// 1 to 7: the questions that are lent a buffer.
-fn ask_lent(row: &[u8], by: u8, source: &[u8], out: &mut [u8]) -> Told {
-    if byte_at(row, QUESTION) == 6 {
-        return identifier_told(materialize_unicode_ident(source, out));
-    }
-    if byte_at(row, QUESTION) == 7 {
-        return ask_writer(row, source, out);
-    }
-    text_told(ask_text(row, literal_of(row, by), source, out))
+// 8: a value as an E or a U& literal.
+fn ask_form(row: &[u8], source: &[u8], out: &mut [u8]) -> Told {
+    writing_told(write_form(source, form_of(row), out))
 }
 
-// 8 and 9: a part of the source; its range, if the part handed back is just that.
+// 1 to 8: the questions that are lent a buffer.
+fn ask_lent(row: &[u8], by: u8, source: &[u8], out: &mut [u8]) -> Told {
+    match byte_at(row, QUESTION) {
+        6 => identifier_told(materialize_unicode_ident(source, out)),
+        7 => ask_writer(row, source, out),
+        8 => ask_form(row, source, out),
+        _ => text_told(ask_text(row, literal_of(row, by), source, out)),
+    }
+}
+
+// 9 and 10: a part of the source; its range, if the part handed back is just that.
 fn ask_money(literal: Literal, source: &[u8]) -> Told {
     let range = money_range(literal, source);
     agreed(
@@ -91,7 +97,7 @@ fn ask_source(literal: Literal, source: &[u8]) -> Told {
     )
 }
 
-// 10: a name, likewise.
+// 11: a name, likewise.
 fn ask_charset(literal: Literal, source: &[u8]) -> Told {
     let name = charset_range(literal, source);
     agreed(
@@ -103,7 +109,7 @@ fn ask_charset(literal: Literal, source: &[u8]) -> Told {
     )
 }
 
-// 11 and 13: a value. What `is_null` says must agree.
+// 12 and 14: a value. What `is_null` says must agree.
 fn ask_i64(row: &[u8], literal: Literal, source: &[u8]) -> Told {
     let due = due_in(row);
     integer_told(as_i64(literal, source), due.first, due.second)
@@ -114,41 +120,41 @@ fn ask_null(literal: Literal) -> Told {
     agreed(told, is_null(literal) == (told.number == 0))
 }
 
-// 8 to 13: the questions on a literal without a buffer.
+// 9 to 14: the questions on a literal without a buffer.
 fn ask_literal(row: &[u8], literal: Literal, source: &[u8]) -> Told {
     match byte_at(row, QUESTION) {
-        8 => ask_money(literal, source),
-        9 => ask_source(literal, source),
-        10 => ask_charset(literal, source),
-        11 => ask_i64(row, literal, source),
-        12 => bool_told(as_bool(literal)),
+        9 => ask_money(literal, source),
+        10 => ask_source(literal, source),
+        11 => ask_charset(literal, source),
+        12 => ask_i64(row, literal, source),
+        13 => bool_told(as_bool(literal)),
         _ => ask_null(literal),
     }
 }
 
-// 14 to 18: yes or no of a bare text.
+// 15 to 19: yes or no of a bare text.
 fn is_so(question: u8, text: &[u8]) -> bool {
     match question {
-        14 => postgres_escape_string_is_valid(text),
-        15 => unicode_escape_string_is_valid(text),
-        16 => uescape_argument_is_legal(text),
-        17 => string_literal_embeds_nul(text),
+        15 => postgres_escape_string_is_valid(text),
+        16 => unicode_escape_string_is_valid(text),
+        17 => uescape_argument_is_legal(text),
+        18 => string_literal_embeds_nul(text),
         _ => is_unicode_ident(text),
     }
 }
 
-// 14 to 19: what is asked of a bare text without a buffer.
+// 15 to 20: what is asked of a bare text without a buffer.
 fn ask_bare(question: u8, text: &[u8]) -> Told {
-    if question == 19 {
+    if question == 20 {
         let prefix = split_radix_prefix(text);
         return answered(PREFIX, prefix.base as usize, prefix.start);
     }
     answered(TRUTH, is_so(question, text) as usize, 0)
 }
 
-// The questions from 8 on are lent no buffer.
+// The questions from 9 on are lent no buffer.
 pub(crate) fn lends(row: &[u8]) -> bool {
-    byte_at(row, QUESTION) <= 7
+    byte_at(row, QUESTION) <= 8
 }
 
 pub(crate) fn ask(row: &[u8], by: u8, source: &[u8], out: &mut [u8]) -> Told {
@@ -156,7 +162,7 @@ pub(crate) fn ask(row: &[u8], by: u8, source: &[u8], out: &mut [u8]) -> Told {
         return ask_lent(row, by, source, out);
     }
     let question = byte_at(row, QUESTION);
-    if 14 <= question {
+    if 15 <= question {
         return ask_bare(question, source);
     }
     ask_literal(row, literal_of(row, by), source)

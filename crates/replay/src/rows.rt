@@ -4,6 +4,7 @@ use leaves::bytes::byte_at;
 use leaves::views::part_of;
 use meaning::BitStringRadix;
 use meaning::Fields;
+use meaning::Form;
 use meaning::Literal;
 use meaning::LiteralKind;
 use meaning::PartSize;
@@ -112,6 +113,14 @@ pub(crate) fn size_of(row: &[u8]) -> PartSize {
         return PartSize::Whole;
     }
     PartSize::AtMost(four(part_of(row, 4, 8)) as usize)
+}
+
+// The form that a value is written in, where the kind stands in other rows.
+pub(crate) fn form_of(row: &[u8]) -> Form {
+    if byte_at(row, 1) == 1 {
+        return Form::Escape;
+    }
+    Form::Unicode
 }
 
 // How many bytes of padding stand before the source.

@@ -3,11 +3,12 @@
 use mathlib.Core.Path.{_≡_, refl, sym, ap, _∙_}
 use mathlib.Core.Bool.{true}
 use mathlib.Core.List.{List, [], _∷_, _++_}
-use Prim.Native.Nat.{ℕ, _+_, _≤_, _<_}
+use Prim.Native.Nat.{ℕ, suc, _+_, _≤_, _<_}
 use native.Mathlib.Omega.{arith}
 use lib.ListN.{length, take, length-append, length-drop}
 use borrow.Author.Tests.{le-leb}
 use Rattle.meaning.specs.declared.PartSize.{PartSize}
+use Rattle.meaning.specs.declared.Form.{Form}
 use Rattle.meaning.specs.declared.Text.{Text}
 use Rattle.meaning.specs.declared.Text.the-variants as Text′
 use Rattle.meaning.specs.declared.Writing.{Writing}
@@ -17,6 +18,7 @@ use Rattle.meaning.specs.Cutting.{complete}
 use Rattle.meaning.specs.Answers.{Outcome, textNumber, shown}
 use Rattle.meaning.specs.Questions.{stringQuestion}
 use Rattle.meaning.specs.Writer.{writtenText, writeQuestion}
+use Rattle.meaning.specs.Forms.{formOpening, formText, formQuestion}
 use Rattle.laws.proofs.Asked.{Spans}
 use Rattle.laws.proofs.Sources.{Agree, stringQuestion-same}
 use Rattle.laws.proofs.Buffers.{TextLeaves, stringQuestion-leaves}
@@ -25,11 +27,13 @@ use Rattle.laws.proofs.Parts.{Part, Next, all-of}
 use Rattle.laws.proofs.WriterParts.{Accepted}
 use Rattle.laws.proofs.WrittenParts.{Each, each-of, Sized, PartAccepted, CutInto, parts-accepted}
 use Rattle.laws.proofs.RoundTrip.{writer-answers, written-accepted}
+use Rattle.laws.proofs.FormText.{FormAccepted}
+use Rattle.laws.proofs.FormRoundTrip.{form-answers, form-written-accepted}
 use Rattle.laws.proofs.Calls as Calls′
-use Rattle.laws.proofs.Calls.{StringCall, WriterCall, PartWritten, calls-chain, joining-calls, round-trip-calls, parts-calls}
+use Rattle.laws.proofs.Calls.{StringCall, WriterCall, FormCall, PartWritten, calls-chain, joining-calls, round-trip-calls, form-calls, parts-calls}
 use Rattle.valdrabus.specs.Literals.{literalOf, settingsOf}
 use Rattle.valdrabus.specs.Numbers.{textTold, writingTold, Tells}
-use Rattle.valdrabus.specs.Calls.{outcomeTold, stringCall, writeCall, Lengths}
+use Rattle.valdrabus.specs.Calls.{outcomeTold, stringCall, writeCall, formCall, Lengths}
 use Rattle.valdrabus.specs.Views as Views′
 use Rattle.valdrabus.specs.Views.{viewed, viewCall, viewBytes}
 use Rattle.valdrabus.proofs.Numbering.{text-number}
@@ -129,6 +133,14 @@ zero-written Writing′.NotUtf8 z = absurd (omega arith)
 zero-written Writing′.HoldsNul z = absurd (omega arith)
 zero-written (Writing′.NoRoom n) z = absurd (omega arith)
 
+-- what the numbers of a writer say: 0, and the length, just where it wrote
+told-wrote : {o : Outcome Writing} {r len : ℕ} {after : List ℕ} → Lengths (outcomeTold writingTold o) r len after → r ≡ 0 → o .answer ≡ Writing′.Written len
+told-wrote {o} t z = rw (t .long) (zero-written (o .answer) (sym (t .result) ∙ z))
+
+wrote-told : {o : Outcome Writing} {r len : ℕ} {after : List ℕ} → Lengths (outcomeTold writingTold o) r len after → (n : ℕ) → o .answer ≡ Writing′.Written n
+    → (r ≡ 0) × (len ≡ n)
+wrote-told t n e = (t .result ∙ ap (λ (a : Writing). writingTold a .number) e, t .long ∙ ap (λ (a : Writing). writingTold a .second) e)
+
 module _ {σ : ℕ} {size : PartSize} {v : List ℕ} (w : WriterExport σ size v) where
   abbrev pub writing : Outcome Writing
   writing = writeQuestion (settingsOf σ) size v (w .lent)
@@ -142,11 +154,10 @@ module _ {σ : ℕ} {size : PartSize} {v : List ℕ} (w : WriterExport σ size v
   writer-call = record { lent = w .lent; result = writing .answer; after = w .after; contract = record { answer = refl; buffer = tells-writing .buffer } }
 
   pub wrote-there : w .result ≡ 0 → writer-call .result ≡ Writing′.Written (w .len)
-  wrote-there z = rw (tells-writing .long) (zero-written (writing .answer) (sym (tells-writing .result) ∙ z))
+  wrote-there = told-wrote tells-writing
 
   pub wrote-here : (n : ℕ) → writer-call .result ≡ Writing′.Written n → (w .result ≡ 0) × (w .len ≡ n)
-  wrote-here n e =
-      (tells-writing .result ∙ ap (λ (a : Writing). writingTold a .number) e, tells-writing .long ∙ ap (λ (a : Writing). writingTold a .second) e)
+  wrote-here = wrote-told tells-writing
 
 -- a value that is accepted is written, where there is room; and none other
 abbrev pub Writes : (σ : ℕ) (size : PartSize) (v : List ℕ) → Type 0
@@ -177,6 +188,40 @@ pub round-trip-exports : (σ : ℕ) (size : PartSize) (v : List ℕ) (w : Writer
 round-trip-exports σ size v w z c room =
     shows-here c v (take (w .len) (w .after)) refl
     (round-trip-calls (settingsOf σ) size v (writer-call w) (w .len) (wrote-there w z) (string-call c (take (w .len) (w .after)) refl) room)
+
+-- THE FORMS. A call of valdrabus_write_escape or valdrabus_write_unicode on the value v. If the result is 0, it wrote the first len bytes of the buffer
+pub record FormExport (f : Form) (v : List ℕ) : Type 0 where
+  pub lent : List ℕ
+  pub result : ℕ
+  pub len : ℕ
+  pub after : List ℕ
+  pub contract : Lengths (formCall f v lent) result len after
+
+module _ {f : Form} {v : List ℕ} (w : FormExport f v) where
+  abbrev pub forming : Outcome Writing
+  forming = formQuestion f v (w .lent)
+
+  pub tells-forming : Lengths (outcomeTold writingTold forming) (w .result) (w .len) (w .after)
+  unfolding formCall
+  tells-forming = w .contract
+
+  abbrev pub form-call : FormCall f v
+  form-call = record { lent = w .lent; result = forming .answer; after = w .after; contract = record { answer = refl; buffer = tells-forming .buffer } }
+
+  -- a value that is accepted is written, where there is room; and none other
+  pub accepted-forms-write : FormAccepted v → length (formText f v) ≤ length (w .lent) → (w .result ≡ 0) × (w .len ≡ length (formText f v))
+  accepted-forms-write a r = wrote-told tells-forming (length (formText f v)) (form-answers f v (w .lent) a r)
+
+  pub written-forms-accepted : w .result ≡ 0 → FormAccepted v
+  written-forms-accepted z = form-written-accepted f v (w .lent) (w .len) (told-wrote tells-forming z)
+
+  -- "What either writes reads back as the value": at any setting, in a span of any source. It needs room only if it is longer than the value, its opening and
+  -- its mark: else it is borrowed
+  pub form-exports : w .result ≡ 0 → (σ : ℕ) (c : StringExport σ (take (w .len) (w .after)))
+      → (length v + suc (length (formOpening f)) < w .len → length v ≤ length (c .lent)) → Shows c v
+  form-exports z σ c room =
+      shows-here c v (take (w .len) (w .after)) refl
+      (form-calls f v form-call (w .len) (told-wrote tells-forming z) (settingsOf σ) (string-call c (take (w .len) (w .after)) refl) room)
 
 -- PARTS: "A value our writer accepts, cut between any characters, each part written and the parts joined so at that setting, reads back whole under the same
 -- condition". Each part by a call of the writer that wrote it, at a part size of its own

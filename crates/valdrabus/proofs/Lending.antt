@@ -5,15 +5,18 @@ use Prim.Native.Nat.{ℕ}
 use mir.Syntax.{w64}
 use mir.Val.{SFits, toZ, ofZ}
 use mir.Facts.{toZ-ofZ}
+use Rattle.meaning.specs.declared.Form.{Form}
 use Rattle.meaning.specs.declared.Identifier.{Identifier}
 use Rattle.meaning.specs.declared.RadixPrefix.{RadixPrefix}
+use Rattle.meaning.specs.declared.Writing.{Writing}
 use Rattle.meaning.specs.Answers.{Outcome, Meets}
 use Rattle.meaning.specs.Questions.{identifierQuestion}
+use Rattle.meaning.specs.Forms.{formQuestion}
 use Rattle.valdrabus.specs.declared.told.Told.{Told}
 use Rattle.valdrabus.specs.declared.counted.Counted.{Counted}
 use Rattle.valdrabus.specs.declared.views.View.{View}
-use Rattle.valdrabus.specs.Numbers.{identifierTold, Says, Tells}
-use Rattle.valdrabus.specs.Calls.{identifierCall, Counts, Bare, Lengths, Splits}
+use Rattle.valdrabus.specs.Numbers.{identifierTold, writingTold, Says, Tells}
+use Rattle.valdrabus.specs.Calls.{outcomeTold, identifierCall, formCall, Counts, Bare, Lengths, Splits}
 use Rattle.valdrabus.specs.Views.{Shows}
 
 module _ (t : Told) where
@@ -35,6 +38,12 @@ module _ (t : Told) where
 
   pub lengths-of : (o : Outcome Told) (after : List ℕ) → Meets o t after → Lengths o (t .number) (t .second) after
   lengths-of o after m = record { result = ap (λ (x : Told). x .number) (m .answer); long = ap (λ (x : Told). x .second) (m .answer); buffer = m .buffer }
+
+  pub form-lengths : (f : Form) (v out after : List ℕ) (a : Writing) → Meets (formQuestion f v out) a after → t ≡ writingTold a
+      → Lengths (formCall f v out) (t .number) (t .second) after
+  unfolding formCall
+  form-lengths f v out after a m p =
+      lengths-of (outcomeTold writingTold (formQuestion f v out)) after (record { answer = p ∙ ap writingTold (m .answer); buffer = m .buffer })
 
 pub counts-of : (n n′ : Counted) → n ≡ n′ → SFits w64 (n .value)
     → Counts n′ (n .told .number) (toZ w64 (ofZ w64 (n .value))) (n .told .first) (n .told .second)

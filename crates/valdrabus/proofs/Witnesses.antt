@@ -6,23 +6,25 @@ use Prim.Native.Nat.{ℕ, _≤_}
 use native.Mathlib.Omega.{arith}
 use Rattle.meaning.specs.declared.PartSize.{PartSize}
 use Rattle.meaning.specs.declared.PartSize.the-variants.{Whole, AtMost}
-use Rattle.meaning.specs.Bytes.{ascii, within, isMark}
-use Rattle.meaning.specs.Chars.{lead, utf8, width, isSpace}
-use Rattle.meaning.specs.Steps.{doubled}
+use Rattle.meaning.specs.declared.Form.the-variants.{Escape, Unicode}
+use Rattle.meaning.specs.Bytes.{ascii, within, isMark, digit}
+use Rattle.meaning.specs.Chars.{lead, utf8, more, encode, isScalar, width, isSpace}
+use Rattle.meaning.specs.Steps.{doubled, uescaped, scalarBy, mayEscape}
 use Rattle.meaning.specs.Cutting.{named, segment, segmentStep, cut, complete, continues}
-use Rattle.meaning.specs.Spelling.{encloses, spelling}
+use Rattle.meaning.specs.Spelling.{encloses, isUnicode, unicodeSpelling, spelling}
 use Rattle.meaning.specs.Reading.{answer, one, read}
 use Rattle.meaning.specs.Answers.{filled}
 use Rattle.meaning.specs.Questions.{cutsCharacter, badSpan, sourceText, tested, stringQuestion}
 use Rattle.meaning.specs.Writer.{spell, writtenText, overLimit, unwritableNul, writeQuestion}
+use Rattle.meaning.specs.Forms.{figure, isDoubled, escapeForm, unicodeFigures, formText, formQuestion}
 use Rattle.laws.proofs.Asked.{Spans}
 use Rattle.laws.proofs.Parts.{Part, Next}
 use Rattle.laws.proofs.Witnesses.{next}
 use Rattle.valdrabus.specs.Literals.{literalOf}
 use Rattle.valdrabus.specs.Numbers.{Tells}
-use Rattle.valdrabus.specs.Calls.{stringCall, writeCall, Lengths}
+use Rattle.valdrabus.specs.Calls.{stringCall, writeCall, formCall, Lengths}
 use Rattle.valdrabus.specs.Views.{viewCall}
-use Rattle.valdrabus.proofs.Demands.{StringExport, Shows, WriterExport, joining-exports, round-trip-exports, parts-exports}
+use Rattle.valdrabus.proofs.Demands.{StringExport, Shows, WriterExport, FormExport, joining-exports, round-trip-exports, form-exports, parts-exports}
 
 -- a call on a span of a source, and one of the writer, each answered with 0
 abbrev pub call-in : {σ s e h f u : ℕ} {S t after : List ℕ} (lent : List ℕ) → σ ≤ 1 → Spans (literalOf 4 0 s e) S t
@@ -134,6 +136,40 @@ quoted-back = round-trip-exports 1 Whole (ascii "a'b") quoted-written refl quote
 
 pub plain-back : Shows plain-call (ascii "ab")
 plain-back = round-trip-exports 1 Whole (ascii "ab") plain-written refl plain-call (λ m. absurd (omega arith))
+
+-- THE FORMS: a and a line feed, in E into seven bytes, of which it leaves the last, and in U& into just the room; and read back, each at one setting
+abbrev pub lined : List ℕ
+lined = ascii "a\n"
+
+pub forms-told : Lengths (formCall Escape lined (ascii ".......")) 0 6 (ascii "E'a\\n'.")
+    × Lengths (formCall Unicode lined (ascii "..........")) 0 10 (ascii "U&'a\\000A'")
+unfolding formCall formQuestion overLimit utf8 lead within formText escapeForm isDoubled unicodeFigures figure filled
+forms-told = (record { result = refl; long = refl; buffer = refl }, record { result = refl; long = refl; buffer = refl })
+
+pub forms-back-told : Tells (stringCall 4 0 0 6 (ascii "E'a\\n'.") 1 (ascii "..")) 0 2 0 2 lined
+    × Tells (stringCall 4 0 0 10 (ascii "U&'a\\000A'") 0 (ascii "..")) 0 2 0 2 lined
+unfolding stringCall stringQuestion tested sourceText badSpan cutsCharacter within utf8 lead read continues segment isMark segmentStep cut isSpace one
+    spelling encloses isUnicode unicodeSpelling uescaped scalarBy mayEscape isScalar more encode digit answer doubled named filled
+forms-back-told = (
+  record { says = record { result = refl; way = refl; one = refl; two = refl }; buffer = refl },
+  record { says = record { result = refl; way = refl; one = refl; two = refl }; buffer = refl },
+)
+
+pub forms-spans : Spans (literalOf 4 0 0 6) (ascii "E'a\\n'.") (ascii "E'a\\n'") × Spans (literalOf 4 0 0 10) (ascii "U&'a\\000A'") (ascii "U&'a\\000A'")
+unfolding badSpan cutsCharacter within
+forms-spans = (record { real = refl; fits = refl; text = refl }, record { real = refl; fits = refl; text = refl })
+
+abbrev pub escape-written : FormExport Escape lined
+escape-written = record { lent = ascii "......."; result = 0; len = 6; after = ascii "E'a\\n'."; contract = forms-told .0 }
+
+abbrev pub unicode-written : FormExport Unicode lined
+unicode-written = record { lent = ascii ".........."; result = 0; len = 10; after = ascii "U&'a\\000A'"; contract = forms-told .1 }
+
+pub escape-back : Shows (call-in (ascii "..") (omega arith) (forms-spans .0) (forms-back-told .0)) lined
+escape-back = form-exports escape-written refl 1 (call-in (ascii "..") (omega arith) (forms-spans .0) (forms-back-told .0)) (λ m. omega arith)
+
+pub unicode-back : Shows (call-in (ascii "..") (omega arith) (forms-spans .1) (forms-back-told .1)) lined
+unicode-back = form-exports unicode-written refl 0 (call-in (ascii "..") (omega arith) (forms-spans .1) (forms-back-told .1)) (λ m. omega arith)
 
 -- PARTS: ab'c, cut into ab, written whole, and 'c, at the part size 4
 abbrev pub front : Part

@@ -8,12 +8,14 @@ use lib.IntN.{ℤ, pos}
 use Rattle.meaning.specs.declared.Integer.{Integer}
 use Rattle.meaning.specs.declared.Integer.the-variants as Integer′
 use Rattle.meaning.specs.declared.PartSize.{PartSize}
+use Rattle.meaning.specs.declared.Form.{Form}
 use Rattle.meaning.specs.declared.RadixPrefix.{RadixPrefix}
 use Rattle.meaning.specs.Records.{kindOf}
 use Rattle.meaning.specs.Answers.{Outcome}
 use Rattle.meaning.specs.Questions.{stringQuestion, decimalQuestion, bitsQuestion, temporalQuestion, sourceQuestion, moneyQuestion, charsetQuestion}
 use Rattle.meaning.specs.Questions.{i64Question, boolQuestion, nullQuestion, isNull, identifierQuestion}
 use Rattle.meaning.specs.Writer.{writeQuestion}
+use Rattle.meaning.specs.Forms.{formQuestion}
 use Rattle.valdrabus.specs.declared.told.Told.{Told}
 use Rattle.valdrabus.specs.declared.counted.Counted.{Counted}
 use Rattle.valdrabus.specs.Literals.{isKnown, literalOf, settingsOf}
@@ -83,9 +85,13 @@ nullCall k = calledBare (isKnown k 0 0) (nullnessTold (nullQuestion (kindOf k)))
 unfoldable pub isNullCall : ℕ → Bool
 isNullCall k = isKnown k 0 0 && isNull (kindOf k)
 
--- THE WRITER, and an identifier: no literal
+-- THE WRITERS, and an identifier: no literal
 unfoldable pub writeCall : PartSize → List ℕ → ℕ → List ℕ → Outcome Told
 writeCall p v σ out = called (leb σ 1) out (outcomeTold writingTold (writeQuestion (settingsOf σ) p v out))
+
+-- in a form: no number is given that could name nothing
+unfoldable pub formCall : Form → List ℕ → List ℕ → Outcome Told
+formCall f v out = outcomeTold writingTold (formQuestion f v out)
 
 unfoldable pub identifierCall : List ℕ → List ℕ → Outcome Told
 identifierCall t out = outcomeTold identifierTold (identifierQuestion t out)

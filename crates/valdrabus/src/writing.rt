@@ -1,13 +1,16 @@
-// The writer: a value as one plain literal, or as several.
+// The writer: a value as one plain literal, or as several; and as an E or a U& literal.
 use crate::literals::settings_of;
 use crate::told::Told;
 use crate::told::number_told;
 use crate::told::writing_told;
+use meaning::Form;
 use meaning::PartSize;
+use writer::forms::write_form;
 use writer::literal::write_literal;
+ghost use Rattle.meaning.specs.declared.Form.the-variants.{Escape, Unicode};
 ghost use Rattle.meaning.specs.declared.PartSize.the-variants.{Whole, AtMost};
 ghost use Rattle.meaning.specs.Answers.{Meets};
-ghost use Rattle.valdrabus.specs.Calls.{writeCall, Lengths};
+ghost use Rattle.valdrabus.specs.Calls.{writeCall, formCall, Lengths};
 
 fn write_called(value: &[u8], size: PartSize, setting: u32, out: &mut [u8]) -> Told
     ensures { λ r. ⌜ Meets (writeCall size (now (value .entry)) setting (now (out .entry))) r (now (out .exit)) ⌝ }
@@ -47,6 +50,28 @@ pub extern "C" fn valdrabus_write_parts(
     ensures { λ r. ⌜ Lengths (writeCall (AtMost «part_size») (now (value .entry)) setting (now (out .entry))) r (now (len .exit)) (now (out .exit)) ⌝ }
 {
     let told = write_called(value, PartSize::AtMost(part_size), setting, out);
+    *len = told.second;
+    told.number
+}
+
+// A value as an E literal. No number is given that could name nothing, so it never answers 10.
+// Rules out: U& for E; an empty value written (must-fail: first_of_each, second_of_each).
+#[no_mangle]
+pub extern "C" fn valdrabus_write_escape(value: &[u8], out: &mut [u8], len: &mut usize) -> u32
+    ensures { λ r. ⌜ Lengths (formCall Escape (now (value .entry)) (now (out .entry))) r (now (len .exit)) (now (out .exit)) ⌝ }
+{
+    let told = writing_told(write_form(value, Form::Escape, out));
+    *len = told.second;
+    told.number
+}
+
+// A value as a U& literal.
+// Rules out: E for U&; half of the value written (must-fail: first_of_each, second_of_each).
+#[no_mangle]
+pub extern "C" fn valdrabus_write_unicode(value: &[u8], out: &mut [u8], len: &mut usize) -> u32
+    ensures { λ r. ⌜ Lengths (formCall Unicode (now (value .entry)) (now (out .entry))) r (now (len .exit)) (now (out .exit)) ⌝ }
+{
+    let told = writing_told(write_form(value, Form::Unicode, out));
     *len = told.second;
     told.number
 }

@@ -1,46 +1,30 @@
--- What the writer answers, test by test, and the search for a NUL. Assumes nothing.
+-- What the writer answers, test by test. Assumes nothing.
 use mathlib.Core.Path.{_≡_, refl, ap, sym, _∙_}
-use mathlib.Core.Bool.{Bool, true, false, _||_, not, or-assoc, or-false, false≢true}
-use mathlib.Core.List.{List, _++_}
-use Prim.Native.Nat.{ℕ, suc, _+_, _≤_, _<_}
-use native.Mathlib.Numerals.{add-one}
+use mathlib.Core.Bool.{Bool, true, false, not}
+use mathlib.Core.List.{List, [], _∷_}
+use Prim.Native.Nat.{ℕ, _+_, _*_, _≤_, _<_}
 use native.Mathlib.Omega.{arith}
-use lib.Dec.{eqb}
-use lib.ListN.{length, getD, drop, drop-of-length-le}
-use lib.Seq.{drop-cons}
-use borrow.Author.Tests.{le-leb, lt-leb}
+use lib.ListN.{length, take, drop, drop-of-length-le}
+use lib.Seq.{take-all}
+use borrow.Author.Tests.{le-leb, lt-leb, ltb-false, not-false}
 use Rattle.meaning.specs.declared.Settings.{Settings}
 use Rattle.meaning.specs.declared.PartSize.{PartSize}
+use Rattle.meaning.specs.declared.PartSize.the-variants.{Whole, AtMost}
 use Rattle.meaning.specs.declared.Writing.the-variants.{Written, OverLimit, NotUtf8, HoldsNul, NoRoom}
 use Rattle.meaning.specs.Bytes.{has}
 use Rattle.meaning.specs.Chars.{utf8}
 use Rattle.meaning.specs.Answers.{Meets, filled}
-use Rattle.meaning.specs.Writer.{overLimit, unwritableNul, writtenText, writeQuestion}
-use Rattle.laws.proofs.Tests.{eqb-sym}
-use Rattle.laws.proofs.WriterParts.{Accepted, accepted-writes, limit-length}
-use Rattle.writer.specs.Texts.{limitOf, textBy, Fits}
-use Rattle.writer.proofs.Writings.{text-is}
+use Rattle.meaning.specs.Writer.{literals, partsFrom, partsOf, partTooSmall, overLimit, unwritableNul, writtenText, writeQuestion}
+use Rattle.laws.proofs.WriterParts.{concat, partsFrom-fills, partsFrom-concat, Accepted, accepted-writes, limit-length, limit-size}
+use Rattle.laws.proofs.WriterText.{costs, literal-length, literals-length, writtenText-fits}
+use Rattle.laws.proofs.PartEnds.{first-ends}
+use Rattle.writer.specs.declared.manners.Manner.the-variants.{Plain}
+use Rattle.writer.specs.declared.lengths.Measured.{Measured}
+use Rattle.writer.specs.Texts.{Spellable, PutBytes, measuredBy}
+use Rattle.writer.specs.Parts.{others, limitOf, laterParts, Cuttable, FitsInParts}
+use Rattle.writer.proofs.PartWriting.{plain-text}
 
--- A NUL: whether one stands before i
-pub record Seeking (v : List ℕ) (found : Bool) (i : ℕ) : Type 0 where
-  pub inside : i ≤ length v
-  pub same : (found || has 0 (drop i v)) ≡ has 0 v
-
-pub seeking-start : (v : List ℕ) → Seeking v false 0
-seeking-start v = record { inside = omega arith; same = refl }
-
-module _ {v : List ℕ} {found : Bool} {i : ℕ} (s : Seeking v found i) where
-  pub seeking-turn : i < length v → Seeking v (found || eqb (getD v i 0) 0) (i + 1)
-  seeking-turn h = record {
-    inside = omega arith;
-    same =
-        rw (add-one i, eqb-sym (getD v i 0) 0) (or-assoc found (eqb 0 (getD v i 0)) (has 0 (drop (suc i) v)))
-        ∙ ap (λ (t : List ℕ). found || has 0 t) (sym (drop-cons v i 0 h)) ∙ s .same;
-  }
-
-  pub seeking-end : length v ≤ i → found ≡ has 0 v
-  seeking-end h = sym (or-false found) ∙ ap (λ (t : List ℕ). found || has 0 t) (sym (drop-of-length-le v h)) ∙ s .same
-
+-- A NUL that no text can spell
 pub nul-spelled : (σ : Settings) (v : List ℕ) → σ .backslash ≡ true → false ≡ unwritableNul σ v
 unfolding unwritableNul
 nul-spelled σ v e = rw e
@@ -66,36 +50,82 @@ module _ (σ : Settings) (size : PartSize) (v out : List ℕ) (x : Bool) (ex : x
       holds-nul h = rw (sym ex ∙ nx, sym (ap not ey) ∙ ny, sym ez ∙ h) (record { answer = refl; buffer = refl })
 
       pub accepted : z ≡ false → Accepted σ size v
-      accepted h = record { limit = sym ex ∙ nx; valid = sym ey ∙ go y ny; nul = sym ez ∙ h }
-        where
-          go : (y : Bool) → not y ≡ false → y ≡ true
-          go true e = refl
-          go false e = absurd (false≢true (sym e))
+      accepted h = record { limit = sym ex ∙ nx; valid = sym ey ∙ not-false y ny; nul = sym ez ∙ h }
 
 -- ACCEPTED: the text is measured, and written where there is room
+wide : (size : PartSize) → partTooSmall size ≡ false → 4 ≤ limitOf size
+wide Whole h = omega arith
+wide (AtMost w) h = ltb-false w 4 h
+
 module _ {σ : Settings} {size : PartSize} {v : List ℕ} (a : Accepted σ size v) where
-  pub short : length v ≤ 268435456
+  short : length v ≤ 268435456
   short = limit-length size v (a .limit)
 
-  module _ (out : List ℕ) {w : ℕ} (ew : w ≡ limitOf size) {n : ℕ} (en : n ≡ length (textBy (σ .backslash) w v)) where
-    written : textBy (σ .backslash) w v ≡ writtenText σ size v
-    written = ap (λ (u : ℕ). textBy (σ .backslash) u v) ew ∙ text-is σ size v short
+  pub spellable : Spellable (Plain (σ .backslash)) v
+  spellable = record { short = short; valid = a .valid; free = refl }
 
-    needed : n ≡ length (writtenText σ size v)
-    needed = en ∙ ap length written
+  module _ {w : ℕ} (ew : w ≡ limitOf size) where
+    abbrev text : List ℕ
+    text = literals (σ .backslash) (partsFrom w w v)
 
-    pub no-room : length out < n → Meets (writeQuestion σ size v out) (NoRoom n) out
-    unfolding filled
-    no-room h =
-        rw (accepted-writes σ size v out a, lt-leb (length (writtenText σ size v)) (length out) (omega (arith, needed)))
-        (record { answer = ap NoRoom needed; buffer = refl })
+    wide-enough : 4 ≤ w
+    wide-enough = omega (arith, wide size (limit-size size v (a .limit)))
 
-    pub text-fits : n ≤ length out → Fits v (textBy (σ .backslash) w v) (length out)
-    text-fits h = record { short = short; room = omega (arith, en) }
+    pub cuttable : Cuttable w 0 v
+    cuttable = record { inside = omega arith; short = short; valid = a .valid; wide = wide-enough }
 
-    pub text-written : n ≤ length out → {after : List ℕ} → after ≡ textBy (σ .backslash) w v ++ drop (length (textBy (σ .backslash) w v)) out
-        → Meets (writeQuestion σ size v out) (Written n) after
-    unfolding filled
-    text-written h e =
-        rw (accepted-writes σ size v out a, le-leb (length (writtenText σ size v)) (length out) (omega (arith, needed)))
-        (record { answer = ap Written needed; buffer = rw written at e })
+    -- a part without an end is the value
+    text-is : text ≡ writtenText σ size v
+    unfolding writtenText
+    text-is = go size ew
+      where
+        go : (size : PartSize) → w ≡ limitOf size → text ≡ literals (σ .backslash) (partsOf size v)
+        go (AtMost k) e = ap (λ (j : ℕ). literals (σ .backslash) (partsFrom j j v)) e
+        go Whole e =
+            let f = first-ends w v wide-enough (a .valid) in
+            let z : f .end ≡ length v = f .last (omega (arith, short)) in
+            let t : take (f .end) v ≡ v = take-all (f .end) v (omega arith) in
+            let s : drop (f .end) v ≡ [] = drop-of-length-le v {i = f .end} (omega arith) in
+            let p : partsFrom w w v ≡ v ∷ [] = f .are ∙ rw (t, s) in
+            ap (literals (σ .backslash)) p
+
+    -- its length: that of the value's own literal, and three bytes for each further part
+    module _ {m : Measured} (em : m ≡ measuredBy (Plain (σ .backslash)) v) {k : ℕ} (ek : k ≡ length (laterParts w v)) where
+      needs : m .len + 3 * k ≡ length text
+      needs =
+          let f = partsFrom-fills w w v in
+          let c : concat (f .first ∷ f .others) ≡ v = rw (f .are) at (partsFrom-concat w w v) in
+          omega (
+            arith,
+            ap (λ (x : Measured). x .len) em,
+            ap length (plain-text (σ .backslash) v),
+            literal-length (σ .backslash) v,
+            ek,
+            ap (λ (ps : List (List ℕ)). length (others ps)) (f .are),
+            ap (λ (ps : List (List ℕ)). length (literals (σ .backslash) ps)) (f .are),
+            literals-length (σ .backslash) (f .first) (f .others),
+            ap (costs (σ .backslash)) c,
+          )
+
+      needed : m .len + 3 * k ≡ length (writtenText σ size v)
+      needed = needs ∙ ap length text-is
+
+      pub needed-small : m .len + 3 * k ≤ 858993461
+      needed-small = omega (arith, needed, writtenText-fits σ size v a)
+
+      module _ (out : List ℕ) where
+        pub no-room : length out < m .len + 3 * k → Meets (writeQuestion σ size v out) (NoRoom (m .len + 3 * k)) out
+        unfolding filled
+        no-room h =
+            rw (accepted-writes σ size v out a, lt-leb (length (writtenText σ size v)) (length out) (omega (arith, needed)))
+            (record { answer = ap NoRoom needed; buffer = refl })
+
+        module _ (h : m .len + 3 * k ≤ length out) where
+          pub text-fits : FitsInParts w (σ .backslash) (m .whole) v (length out)
+          text-fits = record { cuttable = cuttable; copied = λ x. ap (λ (y : Measured). y .whole) (sym em) ∙ x; room = omega (arith, needs) }
+
+          pub text-written : {n : ℕ} {after : List ℕ} → PutBytes text out n after → Meets (writeQuestion σ size v out) (Written (m .len + 3 * k)) after
+          unfolding filled
+          text-written p =
+              rw (accepted-writes σ size v out a, le-leb (length (writtenText σ size v)) (length out) (omega (arith, needed)))
+              (record { answer = ap Written needed; buffer = rw text-is at (p .buffer) })

@@ -1,4 +1,11 @@
-pub mod Turning
+pub mod Steps
+pub mod Costs
+pub mod Figuring
+pub mod Putting
+pub mod Spelled
+pub mod Measuring
 pub mod Writings
-pub mod Passing
+pub mod FormAnswers
+pub mod Parting
+pub mod PartWriting
 pub mod Answering

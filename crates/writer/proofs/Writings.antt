@@ -1,83 +1,288 @@
--- The text that is put byte by byte is the definition's: the literals of the parts, with a space between. Assumes nothing.
-use mathlib.Core.Path.{_≡_, refl, ap, sym, _∙_}
-use mathlib.Core.Bool.{Bool, true, false, _&&_}
-use mathlib.Core.List.{List, [], _∷_, _++_, append-assoc}
-use Prim.Native.Nat.{ℕ, _+_, _-_, _≤_}
+-- A value's characters, put into a buffer by runs and units: where the writing stands, a turn of either kind, and the ways out. Assumes nothing.
+use mathlib.Core.Path.{_≡_, refl, ap, ap₂, sym, _∙_}
+use mathlib.Core.Bool.{Bool, true, false, _&&_, _||_, not, or-false, false≢true}
+use mathlib.Core.List.{List, [], _∷_, _++_}
+use Prim.Native.Nat.{ℕ, zero, suc, _+_, _-_, _≤_, _<_}
 use native.Mathlib.Omega.{arith}
-use lib.Dec.{ltb}
-use lib.ListN.{length}
-use borrow.Author.Tests.{lt-ltb, le-ltb, ltb-true, ltb-false}
-use Rattle.meaning.specs.declared.Settings.{Settings}
-use Rattle.meaning.specs.declared.PartSize.{PartSize}
-use Rattle.meaning.specs.declared.PartSize.the-variants.{Whole, AtMost}
-use Rattle.meaning.specs.Bytes.{quote}
-use Rattle.meaning.specs.Chars.{width}
-use Rattle.meaning.specs.Writer.{spell, spells, literal, between, literals, onFirst, partsFrom, writtenText}
-use Rattle.laws.proofs.WriterParts.{width-most}
-use Rattle.writer.specs.Texts.{limitOf, begins, usedBehind, turn, turns, textBy}
+use lib.Dec.{eqb, leb}
+use lib.ListN.{length, take, drop, set, length-append, length-drop, length-set, drop-of-length-le}
+use lib.Seq.{drop-cons, drop-drop, drop-at, take-append-seam}
+use borrow.Author.Tests.{leb-true}
+use Rattle.meaning.specs.Bytes.{if_then_else_, within, span, quote, backslash, _!_}
+use Rattle.meaning.specs.Chars.{Due, due, broken, fresh, lead, pushes, whole, utf8, width}
+use Rattle.meaning.specs.Chars as chars
+use Rattle.meaning.specs.Walk.{Step, Trace, after, walk, value}
+use Rattle.leaves.specs.Blocks.{passes}
+use Rattle.leaves.specs.Puts.{Puts}
+use Rattle.leaves.proofs.Scans.{passes-inside, span-passes}
+use Rattle.laws.proofs.Tests.{and-left, and-right}
+use Rattle.laws.proofs.Utf8.{pushes-broken, low-lead}
+use Rattle.laws.proofs.Walks.{walk-drop}
+use Rattle.laws.proofs.WriterParts.{first-fits}
+use Rattle.laws.proofs.Laying.{Laid, laid-none, laid-same, laid-all, laid-part, laid-lent, laid-rest, laid-more, laid-inside, laid-byte}
+use Rattle.writer.specs.declared.manners.Manner.{Manner}
+use Rattle.writer.specs.declared.manners.Manner.the-variants.{Plain, Escape, Unicode}
+use Rattle.writer.specs.declared.manners.Kept.{Kept}
+use Rattle.writer.specs.Manners.{keptBy, keeps, stepBy, unitBy, widthBy, openingBy, unitsBy, textBy}
+use Rattle.writer.specs.Texts.{Fits, UnitAt, PutBytes}
+use Rattle.writer.proofs.Steps.{changed-step}
+use Rattle.writer.proofs.Putting.{put-all}
+use Rattle.writer.proofs.Measuring.{kept-front, kept-units}
 
--- the parts' literals, with a byte more at the front of the first; and with a part more
-front-more : (bs : Bool) (b : ℕ) (ps : List (List ℕ)) (t : List ℕ) → literals bs ps ≡ quote ∷ t → literals bs (onFirst b ps) ≡ quote ∷ (spell bs b ++ t)
-front-more bs b [] t e = absurd (omega (arith, ap length e))
-front-more bs b (p ∷ []) t e =
-    let z : spells bs p ++ (quote ∷ []) ≡ t = cc in ap (quote ∷_) (append-assoc (spell bs b) (spells bs p) (quote ∷ []) ∙ ap (spell bs b ++_) z)
-front-more bs b (p ∷ (q ∷ ps)) t e =
-    let z : (spells bs p ++ (quote ∷ [])) ++ (between ++ literals bs (q ∷ ps)) ≡ t = cc in
-    ap (quote ∷_) (ap (_++ (between ++ literals bs (q ∷ ps))) (append-assoc (spell bs b) (spells bs p) (quote ∷ []))
-    ∙ append-assoc (spell bs b) (spells bs p ++ (quote ∷ [])) (between ++ literals bs (q ∷ ps)) ∙ ap (spell bs b ++_) z)
-
-part-more : (bs : Bool) (p : List ℕ) (ps : List (List ℕ)) (t : List ℕ) → literals bs ps ≡ quote ∷ t
-    → literals bs (p ∷ ps) ≡ literal bs p ++ (between ++ (quote ∷ t))
-part-more bs p [] t e = absurd (omega (arith, ap length e))
-part-more bs p (q ∷ ps) t e = ap (λ (s : List ℕ). literal bs p ++ (between ++ s)) e
-
--- what the part may still take, as the code counts it
-begins-same : (w k b : ℕ) → begins w k b ≡ ltb (w - k) (width b)
-unfolding begins
-begins-same w k b = go (ltb (w - k) (width b)) refl
+-- UTF-8. Behind the bytes that are due, and so behind the first character, a UTF-8 text is UTF-8
+due-behind : (n lo hi : ℕ) (t : List ℕ) → whole (pushes (due n lo hi) t) ≡ true → whole (pushes fresh (drop n t)) ≡ true
+due-behind zero lo hi [] h = refl
+due-behind zero lo hi (b ∷ t) h = h
+due-behind (suc n) lo hi [] h = absurd (false≢true h)
+due-behind (suc n) lo hi (b ∷ t) h = go (within lo hi b) h (due-behind n 0x80 0xBF t)
   where
-    go : (x : Bool) → ltb (w - k) (width b) ≡ x → (ltb 0 (width b) && ltb w (k + width b)) ≡ x
-    go true e = let h = ltb-true (w - k) (width b) e in rw (lt-ltb 0 (width b) (omega arith), lt-ltb w (k + width b) (omega arith))
-    go false e =
-        let h = ltb-false (w - k) (width b) e in
-        rest (ltb 0 (width b)) refl h
-      where
-        rest : (y : Bool) → ltb 0 (width b) ≡ y → width b ≤ w - k → (y && ltb w (k + width b)) ≡ false
-        rest true f h = let i = ltb-true 0 (width b) f in le-ltb w (k + width b) (omega arith)
-        rest false f h = refl
+    go : (x : Bool) → whole (pushes (if x then due n 0x80 0xBF else broken) t) ≡ true
+        → (whole (pushes (due n 0x80 0xBF) t) ≡ true → whole (pushes fresh (drop n t)) ≡ true) → whole (pushes fresh (drop n t)) ≡ true
+    go true h ih = ih h
+    go false h ih = absurd (false≢true (rw (pushes-broken t) at h))
 
-text-from : (bs : Bool) (w k : ℕ) (v : List ℕ) → literals bs (partsFrom w (w - k) v) ≡ quote ∷ (turns bs w k v ++ (quote ∷ []))
-unfolding turn
-text-from bs w k [] = refl
-text-from bs w k (b ∷ v) =
-    let m : w - k - 1 ≡ w - (k + 1) = omega arith in
-    rw (begins-same w k b) (go (ltb (w - k) (width b)) (text-from bs w 1 v) (rw m (text-from bs w (k + 1) v)))
+first-behind : (b : ℕ) (t : List ℕ) → utf8 (b ∷ t) ≡ true → (0 < width b) × (utf8 (drop (width b) (b ∷ t)) ≡ true)
+unfolding utf8 width
+first-behind b t h = go (lead b) h
   where
-    go : (x : Bool) → literals bs (partsFrom w (w - 1) v) ≡ quote ∷ (turns bs w 1 v ++ (quote ∷ []))
-        → literals bs (partsFrom w (w - k - 1) v) ≡ quote ∷ (turns bs w (k + 1) v ++ (quote ∷ []))
-        → literals bs (elim x [ true ↦ [] ∷ onFirst b (partsFrom w (w - 1) v) | false ↦ onFirst b (partsFrom w (w - k - 1) v) ])
-        ≡ quote ∷ ((turn bs x b ++ turns bs w (usedBehind x k) v) ++ (quote ∷ []))
-    go true e f =
-        part-more bs [] (onFirst b (partsFrom w (w - 1) v)) (spell bs b ++ (turns bs w 1 v ++ (quote ∷ [])))
-        (front-more bs b (partsFrom w (w - 1) v) (turns bs w 1 v ++ (quote ∷ [])) e)
-        ∙ ap (λ (s : List ℕ). quote ∷ quote ∷ 32 ∷ quote ∷ s) (sym (append-assoc (spell bs b) (turns bs w 1 v) (quote ∷ [])))
-    go false e f =
-        front-more bs b (partsFrom w (w - k - 1) v) (turns bs w (k + 1) v ++ (quote ∷ [])) f
-        ∙ ap (quote ∷_) (sym (append-assoc (spell bs b) (turns bs w (k + 1) v) (quote ∷ [])))
+    go : (d : Due) → whole (pushes d t) ≡ true → (0 < chars.widthBy d) × (whole (pushes fresh (drop (chars.widthBy d) (b ∷ t))) ≡ true)
+    go broken h = absurd (false≢true (rw (pushes-broken t) at h))
+    go (due n lo hi) h = (omega arith, due-behind n lo hi t h)
 
--- a part that does not end: a character has four bytes at the most
-endless : (w n : ℕ) (v : List ℕ) → length v + 3 ≤ n → partsFrom w n v ≡ v ∷ []
-endless w n [] h = refl
-endless w n (b ∷ v) h = go (ltb n (width b)) refl (endless w (n - 1) v (omega arith))
+-- a byte that U& keeps is a character alone
+kept-low : (b : ℕ) → keeps (keptBy Unicode) b ≡ true → b < 0x80
+unfolding keeps
+kept-low b h =
+    let x = leb 0x20 b in
+    let y = leb b 0x7E || false in
+    let q = not (eqb b quote) in
+    let k = and-right x y (and-left (x && y) q (and-left (x && y && q) (not (eqb b backslash)) h)) in
+    let l = leb-true b 0x7E (sym (or-false (leb b 0x7E)) ∙ k) in
+    omega arith
+
+kept-behind : (n : ℕ) (t : List ℕ) → passes (keeps (keptBy Unicode)) n t ≡ true → utf8 t ≡ true → utf8 (drop n t) ≡ true
+unfolding utf8
+kept-behind zero t h u = u
+kept-behind (suc n) [] h u = absurd (false≢true h)
+kept-behind (suc n) (b ∷ t) h u =
+    let p = keeps (keptBy Unicode) in
+    let e = low-lead b (kept-low b (and-left (p b) (passes p n t) h)) in
+    kept-behind n t (and-right (p b) (passes p n t) h) (rw e at u)
+
+-- A UNIT at the front: its bytes are there, and behind them another character begins
+record Front (m : Manner) (b : ℕ) (t : List ℕ) : Type 0 where
+  some : 0 < widthBy m b
+  inside : widthBy m b ≤ length (b ∷ t)
+  behind : m ≡ Unicode → utf8 (drop (widthBy m b) (b ∷ t)) ≡ true
+  begins : m ≡ Unicode → 0 < width b
+
+front : (m : Manner) (b : ℕ) (t : List ℕ) → (m ≡ Unicode → utf8 (b ∷ t) ≡ true) → Front m b t
+front (Plain bs) b t u = record { some = omega arith; inside = omega arith; behind = λ e. absurd (other e); begins = λ e. absurd (other e) }
   where
-    go : (x : Bool) → ltb n (width b) ≡ x → partsFrom w (n - 1) v ≡ v ∷ []
-        → elim x [ true ↦ [] ∷ onFirst b (partsFrom w (w - 1) v) | false ↦ onFirst b (partsFrom w (n - 1) v) ] ≡ (b ∷ v) ∷ []
-    go true e ih = let l = ltb-true n (width b) e in let m = width-most b in absurd (omega arith)
-    go false e ih = ap (onFirst b) ih
+    other : Plain bs ≡ Unicode → ⊥
+    other e = let z : _≡_ {A = ℕ} 0 1 = cc in omega arith
+front Escape b t u = record { some = omega arith; inside = omega arith; behind = λ e. absurd (other e); begins = λ e. absurd (other e) }
+  where
+    other : Escape ≡ Unicode → ⊥
+    other e = let z : _≡_ {A = ℕ} 0 1 = cc in omega arith
+front Unicode b t u =
+    let k = first-behind b t (u refl) in
+    record { some = k .0; inside = first-fits b t (u refl); behind = λ e. k .1; begins = λ e. k .0 }
 
--- WHAT IS PUT IS WHAT IS TO BE WRITTEN
-pub text-is : (σ : Settings) (size : PartSize) (v : List ℕ) → length v ≤ 268435456 → textBy (σ .backslash) (limitOf size) v ≡ writtenText σ size v
-unfolding textBy writtenText
-text-is σ (AtMost w) v h = let z : w - 0 ≡ w = omega arith in sym (rw z at (text-from (σ .backslash) w 0 v))
-text-is σ Whole v h =
-    sym (text-from (σ .backslash) (limitOf Whole) 0 v) ∙ ap (literals (σ .backslash)) (endless (limitOf Whole) (limitOf Whole) v (omega arith))
+unit-front : (m : Manner) (b : ℕ) (t : List ℕ) → keeps (keptBy m) b ≡ false → Front m b t
+    → unitsBy m (b ∷ t) ≡ unitBy m (b ∷ t) ++ unitsBy m (drop (widthBy m b) (b ∷ t))
+unfolding unitsBy
+unit-front m b t h f =
+    let w = widthBy m b in
+    let z : suc (w - 1) ≡ w = omega (arith, f .some) in
+    ap (λ (s : Step). value (after s b (λ n. walk (stepBy m) n t))) (changed-step m b t h (f .begins))
+    ∙ ap (λ (r : Trace). unitBy m (b ∷ t) ++ value r) (walk-drop (stepBy m) (w - 1) t)
+    ∙ ap (λ (k : ℕ). unitBy m (b ∷ t) ++ value (walk (stepBy m) 0 (drop k (b ∷ t)))) z
+
+-- where a run is empty, its first byte does not pass
+span-none : (p : ℕ → Bool) (b : ℕ) (t : List ℕ) → span p (b ∷ t) ≡ 0 → p b ≡ false
+span-none p b t h = go (p b) h
+  where
+    go : (x : Bool) → (if x then suc (span p t) else 0) ≡ 0 → x ≡ false
+    go true e = absurd (omega arith)
+    go false e = refl
+
+-- WRITING into a buffer that held d: n bytes of the spelling are there, those of the first `at` bytes
+pub record Spelling (m : Manner) (v d out : List ℕ) (n at : ℕ) : Type 0 where
+  pub inside : at ≤ length v
+  pub valid : m ≡ Unicode → utf8 (drop at v) ≡ true
+  pub laid : Laid (unitsBy m v) d out n
+  pub rest : drop n (unitsBy m v) ≡ unitsBy m (drop at v)
+
+pub spelling-start : (m : Manner) (v d : List ℕ) → utf8 v ≡ true → length (unitsBy m v) ≤ length d → Spelling m v d d 0 0
+spelling-start m v d u h = record { inside = omega arith; valid = λ e. u; laid = laid-none (unitsBy m v) d h; rest = refl }
+
+module _ {m : Manner} {v d out : List ℕ} {n at : ℕ} (p : Spelling m v d out n at) where
+  pub spelling-same : length out ≡ length d
+  spelling-same = laid-same (p .laid)
+
+  pub spelling-within : n ≤ length out
+  spelling-within = omega (arith, p .laid .part, p .laid .room, spelling-same)
+
+  pub spelling-end : length v ≤ at → PutBytes (unitsBy m v) d n out
+  unfolding unitsBy
+  spelling-end h =
+      let l = laid-all (p .laid) (p .rest ∙ ap (unitsBy m) (drop-of-length-le v h)) in
+      record { answer = l .0; buffer = l .1 }
+
+  module _ (h : at < length v) where
+    here : drop at v ≡ (v ! at) ∷ drop (suc at) v
+    here = drop-cons v at 0 h
+
+    -- A RUN of bytes that stand for themselves, as it is counted
+    module _ (k : Kept) (ek : k ≡ keptBy m) (r : ℕ) (er : r ≡ span (keeps k) (drop at v)) where
+      counted : r ≡ span (keeps (keptBy m)) (drop at v)
+      counted = er ∙ ap (λ (j : Kept). span (keeps j) (drop at v)) ek
+
+      passed : passes (keeps (keptBy m)) r (drop at v) ≡ true
+      passed = rw counted (span-passes (keeps (keptBy m)) (drop at v))
+
+      pub run-inside : at + r ≤ length v
+      run-inside = omega (arith, passes-inside (keeps (keptBy m)) r (drop at v) passed, length-drop at v)
+
+      pub run-none : r ≤ 0 → keeps (keptBy m) (v ! at) ≡ false
+      run-none s =
+          let z : r ≡ 0 = omega arith in
+          span-none (keeps (keptBy m)) (v ! at) (drop (suc at) v) (ap (span (keeps (keptBy m))) (sym here) ∙ sym counted ∙ z)
+
+      abbrev run : List ℕ
+      run = take (at + r - at) (drop at v)
+
+      copied : drop n (unitsBy m v) ≡ run ++ unitsBy m (drop (at + r) v)
+      copied =
+          let z : r ≡ at + r - at = omega arith in
+          p .rest ∙ kept-front m r (drop at v) passed
+          ∙ ap (λ (t : List ℕ). take r (drop at v) ++ unitsBy m t) (drop-drop r at v)
+          ∙ ap (λ (i : ℕ). take i (drop at v) ++ unitsBy m (drop (at + r) v)) z
+
+      module _ (a : ℕ) (last : List ℕ) (q : Puts run (take (length out - n) (drop n out)) a last) where
+        pub spelling-run : Spelling m v d (take n out ++ (last ++ drop (length out - n) (drop n out))) (n + a) (at + r)
+        spelling-run =
+            let s = unitsBy m (drop (at + r) v) in
+            let b = put-all q (laid-lent (p .laid) run s copied) in
+            record {
+              inside = run-inside;
+              valid = λ e. ap utf8 (sym (drop-drop r at v)) ∙ kept-behind r (drop at v) (rw e at passed) (p .valid e);
+              laid = laid-more (p .laid) run s copied a last (b .answer) (b .buffer);
+              rest = laid-rest (p .laid) run s copied (n + a) (ap (n +_) (b .answer));
+            }
+
+        pub run-fits : n + a ≤ length d
+        run-fits = let q = spelling-run in omega (arith, q .laid .part, q .laid .room)
+
+    -- A UNIT, where a byte does not stand for itself
+    module _ (x : keeps (keptBy m) (v ! at) ≡ false) where
+      abbrev wide : ℕ
+      wide = widthBy m (v ! at)
+
+      unit : Front m (v ! at) (drop (suc at) v)
+      unit = front m (v ! at) (drop (suc at) v) (λ e. rw here at (p .valid e))
+
+      next : drop wide ((v ! at) ∷ drop (suc at) v) ≡ drop (at + wide) v
+      next = ap (drop wide) (sym here) ∙ drop-drop wide at v
+
+      spelled : drop n (unitsBy m v) ≡ unitBy m (drop at v) ++ unitsBy m (drop (at + wide) v)
+      spelled =
+          p .rest ∙ ap (unitsBy m) here ∙ unit-front m (v ! at) (drop (suc at) v) x unit
+          ∙ ap₂ (λ (t u : List ℕ). unitBy m t ++ unitsBy m u) (sym here) next
+
+      pub unit-asked : UnitAt m v at (length (take (length out - n) (drop n out)))
+      unit-asked = record {
+        inside = h;
+        changed = x;
+        begins = unit .begins;
+        room = laid-lent (p .laid) (unitBy m (drop at v)) (unitsBy m (drop (at + wide) v)) spelled;
+      }
+
+      module _ (w : ℕ) (ew : w ≡ wide) where
+        pub unit-some : 0 < w
+        unit-some = omega (arith, unit .some)
+
+        pub unit-inside : at + w ≤ length v
+        unit-inside = omega (arith, unit .inside, ap length here, length-drop at v)
+
+      module _ (a : ℕ) (last : List ℕ) (q : PutBytes (unitBy m (drop at v)) (take (length out - n) (drop n out)) a last) where
+        pub spelling-unit : (w : ℕ) → w ≡ wide → Spelling m v d (take n out ++ (last ++ drop (length out - n) (drop n out))) (n + a) (at + w)
+        spelling-unit w ew =
+            let b = unitBy m (drop at v) in
+            let s = unitsBy m (drop (at + wide) v) in
+            rw ew (record {
+              inside = unit-inside wide refl;
+              valid = λ e. ap utf8 (sym next) ∙ unit .behind e;
+              laid = laid-more (p .laid) b s spelled a last (q .answer) (q .buffer);
+              rest = laid-rest (p .laid) b s spelled (n + a) (ap (n +_) (q .answer));
+            })
+
+        pub unit-fits : n + a ≤ length d
+        unit-fits = let q = spelling-unit wide refl in omega (arith, q .laid .part, q .laid .room)
+
+-- A VALUE THAT IS COPIED WHOLE
+pub copied-whole : {m : Manner} {x : Bool} {v out : List ℕ} → Fits m x v (unitsBy m v) (length out) → x ≡ true
+    → {a : ℕ} {after : List ℕ} → Puts v out a after → PutBytes (unitsBy m v) out a after
+copied-whole {m} {x} {v} {out} f h {a} {after} q =
+    let e = kept-units m v (f .copied h) in
+    let l : length v ≤ length out = omega (arith, f .room, ap length e) in
+    rw e (put-all q l)
+
+-- THE TEXT: the opening, the spelling, the mark
+laid-first : (b s t d : List ℕ) → t ≡ b ++ s → length t ≤ length d → {r : ℕ} {after : List ℕ} → PutBytes b d r after → Laid t d after r
+laid-first b s t d e h {r} {after} q =
+    let n : drop 0 t ≡ b ++ s = e in
+    let l = laid-part (laid-none t d h) b s n in
+    record {
+      part = omega (arith, q .answer);
+      room = h;
+      put =
+          q .buffer ∙ ap (_++ drop (length b) d) (sym (take-append-seam b s) ∙ ap (take (length b)) (sym e))
+          ∙ ap (λ (k : ℕ). take k t ++ drop k d) (sym (q .answer));
+    }
+
+module _ {m : Manner} {x : Bool} {v : List ℕ} (d : List ℕ) (f : Fits m x v (textBy m v) (length d)) where
+  pub opening-room : length (openingBy m) ≤ length d
+  unfolding textBy
+  opening-room = omega (arith, f .room, length-append (openingBy m) (unitsBy m v ++ (quote ∷ [])))
+
+  module _ {n : ℕ} {out : List ℕ} (o : PutBytes (openingBy m) d n out) where
+    opened : Laid (textBy m v) d out n
+    unfolding textBy
+    opened = laid-first (openingBy m) (unitsBy m v ++ (quote ∷ [])) (textBy m v) d refl (f .room) o
+
+    behind : drop n (textBy m v) ≡ unitsBy m v ++ (quote ∷ [])
+    unfolding textBy
+    behind = drop-at (openingBy m) (unitsBy m v ++ (quote ∷ [])) n (sym (o .answer))
+
+    pub opened-within : n ≤ length out
+    opened-within = omega (arith, opened .part, opened .room, laid-same opened)
+
+    pub value-fits : Fits m x v (unitsBy m v) (length (take (length out - n) (drop n out)))
+    value-fits = record { valid = f .valid; copied = f .copied; room = laid-lent opened (unitsBy m v) (quote ∷ []) behind }
+
+    module _ {a : ℕ} {last : List ℕ} (q : PutBytes (unitsBy m v) (take (length out - n) (drop n out)) a last) where
+      abbrev back : List ℕ
+      back = take n out ++ (last ++ drop (length out - n) (drop n out))
+
+      spelled-out : Laid (textBy m v) d back (n + a)
+      spelled-out = laid-more opened (unitsBy m v) (quote ∷ []) behind a last (q .answer) (q .buffer)
+
+      only : drop (n + a) (textBy m v) ≡ quote ∷ []
+      only = laid-rest opened (unitsBy m v) (quote ∷ []) behind (n + a) (ap (n +_) (q .answer))
+
+      pub mark-inside : n + a < length back
+      mark-inside = laid-inside spelled-out quote [] only
+
+      pub mark-fits : n + a + 1 ≤ length d
+      mark-fits = omega (arith, mark-inside, laid-same spelled-out)
+
+      pub text-put : PutBytes (textBy m v) d (n + a + 1) (set back (n + a) quote)
+      text-put =
+          let w = laid-byte spelled-out quote [] only in
+          let z = laid-all w (laid-rest spelled-out (quote ∷ []) [] only (n + a + 1) refl) in
+          record { answer = z .0; buffer = z .1 }
+
+      pub text-same : length (set back (n + a) quote) ≡ length d
+      text-same = length-set back (n + a) quote ∙ laid-same spelled-out

@@ -1,1 +1,3 @@
+pub mod Manners
 pub mod Texts
+pub mod Parts

@@ -1,3 +1,11 @@
-// [01 The writer] Plain literals, whole or in parts: the value is tested, then measured, then written, each in one pass.
+// [01 The writer; 02 T-01] Values as literals: plain ones, whole or in parts, and E and U& ones. A value is tested, then measured, then written. How one
+// character is spelled is all that the three manners differ by.
+pub mod figures;
+pub mod forms;
+pub mod lengths;
 pub mod literal;
-pub mod turns;
+pub mod manners;
+pub mod parts;
+pub mod scans;
+pub mod texts;
+pub mod units;

@@ -1,6 +1,7 @@
 //! A case asked of ours, and of the Rust with and without its check of UTF-8.
 
-use crate::cases::{Case, Place, Question};
+use crate::cases::{Case, Place, Question, Task};
+use crate::writing;
 use original::ast::literal::Literal;
 use original::codes;
 use original::dialect::StringLiteralSyntax;
@@ -25,28 +26,59 @@ pub struct Ready {
     case: Case,
     /// Lent to ours; the Rust allocates for each text that it writes.
     out: Vec<u8>,
-    /// The literals in the source, and each in a text of its own.
+    /// The literals in the source, and each in a text of its own; none where values are written.
     within: Vec<Literal>,
     alone: Vec<Literal>,
 }
 
 impl Ready {
     pub fn new(case: Case) -> Ready {
-        let kind = codes::kind(case.question.kind());
-        let over = |start, end| Literal { kind: kind.clone(), meta: Meta { span: Span::over(start, end) } };
-        let longest = case.places.iter().map(|place| place.end - place.start).max().unwrap_or(0);
-        let within = case.places.iter().map(|place| over(place.start, place.end)).collect();
-        let alone = case.places.iter().map(|place| over(0, place.end - place.start)).collect();
-        Ready { out: vec![0; longest.max(40) as usize], within, alone, case }
+        let longest = case.places.iter().map(|place| place.end - place.start).max().unwrap_or(0) as usize;
+        match case.task {
+            Task::Read(question) => {
+                let kind = codes::kind(question.kind());
+                let over = |start, end| Literal { kind: kind.clone(), meta: Meta { span: Span::over(start, end) } };
+                let within = case.places.iter().map(|place| over(place.start, place.end)).collect();
+                let alone = case.places.iter().map(|place| over(0, place.end - place.start)).collect();
+                Ready { out: vec![0; longest.max(40)], within, alone, case }
+            }
+            Task::Write(_) => {
+                Ready { out: vec![0; writing::most(longest)], within: Vec::new(), alone: Vec::new(), case }
+            }
+        }
     }
 
     pub fn case(&self) -> &Case {
         &self.case
     }
 
-    /// Asks about every literal of the case once; the sum is the same for each side.
+    /// Asks about every literal of the case, or writes every value, once; the sum is the same for each side.
     pub fn run(&mut self, side: Side) -> u64 {
-        match (side, self.case.question) {
+        match self.case.task {
+            Task::Read(question) => self.read(side, question),
+            Task::Write(spelling) => {
+                let mut sum = 0;
+                writing::each(&self.case, spelling, side, &mut self.out, |text| sum += digest(black_box(text)));
+                sum
+            }
+        }
+    }
+
+    /// Whether all sides give the same.
+    pub fn agrees(&mut self) -> bool {
+        let [ours, rust, rust_str] = SIDES.map(|(side, _)| match self.case.task {
+            Task::Read(_) => self.run(side).to_le_bytes().to_vec(),
+            Task::Write(spelling) => {
+                let mut all = Vec::new();
+                writing::each(&self.case, spelling, side, &mut self.out, |text| all.extend_from_slice(text));
+                all
+            }
+        });
+        ours == rust && ours == rust_str
+    }
+
+    fn read(&mut self, side: Side, question: Question) -> u64 {
+        match (side, question) {
             (Side::Ours, Question::I64) => self.ours_i64(),
             (Side::Ours, question) => self.ours_text(question),
             (Side::Rust, question) => self.rust(question),

@@ -1,7 +1,8 @@
-//! What is read.
+//! What is read, and what is written.
 
 use crate::rng::Rng;
 use std::fmt::Write;
+use valdrabus::{Kind, Literal, Settings};
 
 #[derive(Clone, Copy, PartialEq, Debug)]
 pub enum Question {
@@ -20,7 +21,24 @@ impl Question {
     }
 }
 
-/// Where a literal stands in the source, and at which setting it is read.
+/// How a value is written; plain is at the setting 0.
+#[derive(Clone, Copy, PartialEq, Debug)]
+pub enum Spelling {
+    Plain,
+    Escape,
+    Unicode,
+}
+
+const SPELLINGS: [(Spelling, &str); 3] =
+    [(Spelling::Plain, "plain"), (Spelling::Escape, "E"), (Spelling::Unicode, "U&")];
+
+#[derive(Clone, Copy)]
+pub enum Task {
+    Read(Question),
+    Write(Spelling),
+}
+
+/// Where a literal, or a value to write, stands in the source, and at which setting it is read.
 #[derive(Clone, Copy)]
 pub struct Place {
     pub start: u32,
@@ -30,15 +48,15 @@ pub struct Place {
 
 pub struct Case {
     pub name: String,
-    pub question: Question,
+    pub task: Task,
     pub source: String,
     pub places: Vec<Place>,
 }
 
 impl Case {
-    /// Literals one behind the other, a line each.
-    fn of(name: &str, question: Question, setting: u32, texts: impl IntoIterator<Item = String>) -> Case {
-        let mut case = Case { name: name.into(), question, source: String::new(), places: Vec::new() };
+    /// Literals or values one behind the other, a line feed between.
+    fn of(name: &str, task: Task, setting: u32, texts: impl IntoIterator<Item = String>) -> Case {
+        let mut case = Case { name: name.into(), task, source: String::new(), places: Vec::new() };
         for text in texts {
             let start = case.source.len() as u32;
             case.source.push_str(&text);
@@ -50,7 +68,7 @@ impl Case {
 
     fn numbers(name: &str, question: Question, mut make: impl FnMut(&mut Rng) -> String) -> Case {
         let mut rng = Rng::new(127);
-        Case::of(name, question, 0, (0..NUMBERS).map(|_| make(&mut rng)))
+        Case::of(name, Task::Read(question), 0, (0..NUMBERS).map(|_| make(&mut rng)))
     }
 
     /// A product list, the literals as they stand in its file: a line that begins with -- is none, and may set backslash escapes off or on.
@@ -67,10 +85,27 @@ impl Case {
             }
             start += line.len() as u32;
         }
-        Case { name: name.into(), question: Question::Str, source: file.into(), places }
+        Case { name: name.into(), task: Task::Read(Question::Str), source: file.into(), places }
     }
 
-    /// How many bytes the literals have together.
+    /// The same values, written in each spelling.
+    fn written(name: &str, values: &[String]) -> [Case; 3] {
+        SPELLINGS.map(|(spelling, form)| {
+            Case::of(&format!("write {form}: {name}"), Task::Write(spelling), 0, values.iter().cloned())
+        })
+    }
+
+    /// The values of a case of strings.
+    fn values(&self) -> Vec<String> {
+        let value = |place: &Place| {
+            let literal = Literal::new(Kind::String, place.start..place.end);
+            let settings = Settings { backslash: place.setting == 1 };
+            literal.to_str_in(&self.source, settings).expect("a string").into_owned()
+        };
+        self.places.iter().map(value).collect()
+    }
+
+    /// How many bytes the literals or values have together.
     pub fn bytes(&self) -> u64 {
         self.places.iter().map(|place| u64::from(place.end - place.start)).sum()
     }
@@ -78,6 +113,8 @@ impl Case {
 
 const LONG: usize = 65_536;
 const NUMBERS: usize = 1000;
+const SHORT_VALUES: usize = 1000;
+const WHOLESALE: &str = include_str!("../../lists/wholesale.txt");
 
 const PLAIN: [&str; 9] = ["a", "b", "c", "x", "y", "z", " ", "0", "-"];
 const WIDE: [&str; 9] = ["é", "ß", "ł", "€", "日", "本", "😀", "a", " "];
@@ -103,12 +140,20 @@ const BACKSLASHES: [&str; 15] =
     ["a", "b", "c", "d", " ", "é", "''", "\\n", "\\t", "\\\\", "\\'", "\\\"", "\\0", "\\%", "\\q"];
 const UNICODE: [&str; 12] =
     ["a", "b", "c", "d", " ", "é", "''", "\\\\", "\\0041", "\\20ac", "\\+01F600", "\\D83D\\DE00"];
+/// Three in four are below 20 hex, some of them with a letter of their own in an E string.
+const CONTROLS: [&str; 12] = ["\x01", "\x02", "\x07", "\x08", "\t", "\n", "\x0B", "\x1B", "\x1F", "a", "0", "'"];
 
 pub fn all() -> Vec<Case> {
-    let string = |name, setting, text| Case::of(name, Question::Str, setting, [text]);
+    let mut cases = read();
+    cases.extend(written());
+    cases
+}
+
+fn read() -> Vec<Case> {
+    let string = |name, setting, text| Case::of(name, Task::Read(Question::Str), setting, [text]);
     let mut cases = vec![
         Case::list("ward list", include_str!("../../lists/ward.txt")),
-        Case::list("wholesale list", include_str!("../../lists/wholesale.txt")),
+        Case::list("wholesale list", WHOLESALE),
         string("plain name, 64 KiB", 0, long("'", &PLAIN)),
         string("multi-byte name, 64 KiB", 0, long("'", &WIDE)),
         string("E escapes, 64 KiB", 0, long("E'", &ESCAPES)),
@@ -127,14 +172,41 @@ pub fn all() -> Vec<Case> {
     cases
 }
 
+fn written() -> impl Iterator<Item = Case> {
+    let long = |pieces| [filled("", LONG, &mut Rng::new(64), pieces)];
+    [
+        Case::written("names", &Case::list("", WHOLESALE).values()),
+        Case::written("ASCII name, 64 KiB", &long(&PLAIN)),
+        Case::written("control characters", &short_values(&CONTROLS)),
+        Case::written("control characters, 64 KiB", &long(&CONTROLS)),
+        Case::written("multi-byte name, 64 KiB", &long(&WIDE)),
+    ]
+    .into_iter()
+    .flatten()
+}
+
 /// A text of 64 KiB or a few bytes more, made of pieces.
 fn long(open: &str, pieces: &[&str]) -> String {
-    let mut rng = Rng::new(64);
+    filled(open, LONG, &mut Rng::new(64), pieces) + "'"
+}
+
+/// As long as the names of a list.
+fn short_values(pieces: &[&str]) -> Vec<String> {
+    let mut rng = Rng::new(127);
+    let mut value = || {
+        let least = rng.within(10, 40);
+        filled("", least, &mut rng, pieces)
+    };
+    (0..SHORT_VALUES).map(|_| value()).collect()
+}
+
+/// A text of so many bytes or a few more.
+fn filled(open: &str, least: usize, rng: &mut Rng, pieces: &[&str]) -> String {
     let mut text = String::from(open);
-    while text.len() < LONG {
+    while text.len() < least {
         text.push_str(rng.one(pieces));
     }
-    text + "'"
+    text
 }
 
 fn joined(parts: usize) -> String {

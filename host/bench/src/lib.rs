@@ -8,3 +8,4 @@ mod cases;
 #[path = "../../compare/src/rng.rs"]
 mod rng;
 pub mod run;
+mod writing;

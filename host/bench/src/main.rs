@@ -1,10 +1,10 @@
-//! Times ours and the Rust original side by side, in one process.
+//! Times ours and the Rust original side by side, in one process; the writers, which the original has not, beside loops that push into a `String`.
 //!
 //!     cargo run --release -p bench                          a table, as it stands in docs/PERFORMANCE.md
 //!     cargo run --release -p bench -- --cases               the names of the cases
 //!     cargo run --release -p bench -- --count CASE N SIDE   one case N times, to count instructions; SIDE is ours, rust or rust-str
 //!
-//! `rust` has bytes, as ours has, and so begins with `from_utf8`; `rust-str` has the text as `str` already.
+//! `rust` has bytes, as ours has, and so begins with `from_utf8`; `rust-str` has the text or value as `str` already.
 
 #[cfg(at_hand)]
 fn main() -> std::process::ExitCode {

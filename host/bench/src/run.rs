@@ -62,8 +62,7 @@ fn table() {
 
 /// Every side must give the same, or the times mean nothing.
 fn same(ready: &mut Ready) {
-    let sums = SIDES.map(|(side, _)| ready.run(side));
-    assert!(sums.iter().all(|sum| *sum == sums[0]), "{}: {sums:?}", ready.case().name);
+    assert!(ready.agrees(), "{}: the sides differ", ready.case().name);
 }
 
 /// How many runs of a case make a sample.

@@ -1,6 +1,7 @@
 //! Our answers, through the C interface as it is.
 
 use crate::question::{Asked, Question, Told};
+use crate::writer::Spelling;
 use valdrabus::sys;
 
 /// The lent numbers before a call: what a call must write must not be there already.
@@ -132,15 +133,21 @@ pub fn view(how: u32, first: usize, second: usize, source_len: usize, out_len: u
     (shown, from, until)
 }
 
-/// The writer's number and length; without a part size one literal.
-pub fn written(value: &[u8], part: Option<usize>, setting: u32, out: &mut [u8]) -> (u32, usize) {
+/// A writer's number and length.
+pub fn written(value: &[u8], spelling: Spelling, out: &mut [u8]) -> (u32, usize) {
     let mut len = STALE;
     let (from, long, to, room) = (value.as_ptr(), value.len(), out.as_mut_ptr(), out.len());
     // SAFETY: both slices are valid for their lengths, and what is written through is ours alone.
     let returned = unsafe {
-        match part {
-            None => sys::valdrabus_write_literal(from, long, setting, to, room, &raw mut len),
-            Some(part) => sys::valdrabus_write_parts(from, long, part, setting, to, room, &raw mut len),
+        match spelling {
+            Spelling::Plain { part: None, setting } => {
+                sys::valdrabus_write_literal(from, long, setting, to, room, &raw mut len)
+            }
+            Spelling::Plain { part: Some(part), setting } => {
+                sys::valdrabus_write_parts(from, long, part, setting, to, room, &raw mut len)
+            }
+            Spelling::Escape => sys::valdrabus_write_escape(from, long, to, room, &raw mut len),
+            Spelling::Unicode => sys::valdrabus_write_unicode(from, long, to, room, &raw mut len),
         }
     };
     (returned, len)

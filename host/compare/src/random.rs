@@ -3,7 +3,7 @@
 use crate::comparing::{Comparing, Outcome};
 use crate::question::{ALL, Asked, Question};
 use crate::texts::Texts;
-use crate::writer::Writing;
+use crate::writer::{Spelling, Writing};
 use Question::*;
 
 /// A text with what is asked of it: a question and a literal's kind.
@@ -22,7 +22,7 @@ struct Placed {
 
 pub fn run(comparing: &mut Comparing, texts: &mut Texts, until: u64) -> Outcome {
     while comparing.tally.comparisons() < until {
-        if texts.rng.odds(60) {
+        if texts.rng.odds(90) {
             write(comparing, texts)?;
         } else {
             let Chosen { text, asked } = chosen(texts);
@@ -151,14 +151,21 @@ fn write(comparing: &mut Comparing, texts: &mut Texts) -> Outcome {
     if texts.rng.odds(50) {
         broken(texts, &mut value);
     }
-    let part = match texts.rng.below(8) {
-        0..3 => None,
-        3..6 => Some(texts.rng.within(3, 12)),
-        6 => Some(texts.rng.within(0, value.len() + 5)),
-        _ => Some(texts.rng.one(&[0, 4, 64, 4096, usize::MAX])),
-    };
-    let setting = texts.rng.one(&[0, 0, 0, 0, 1, 1, 1, 1, 1, 2]);
+    let spelling = spelling(texts, value.len());
     comparing.tally.texts += 1;
     let value: Box<[u8]> = value.into();
-    comparing.write(&Writing { value: &value, part, setting })
+    comparing.write(&Writing { value: &value, spelling })
+}
+
+/// How a value of a length is to be written.
+fn spelling(texts: &mut Texts, long: usize) -> Spelling {
+    let part = match texts.rng.below(14) {
+        0..3 => None,
+        3..6 => Some(texts.rng.within(3, 12)),
+        6 => Some(texts.rng.within(0, long + 5)),
+        7 => Some(texts.rng.one(&[0, 4, 64, 4096, usize::MAX])),
+        8..11 => return Spelling::Escape,
+        _ => return Spelling::Unicode,
+    };
+    Spelling::Plain { part, setting: texts.rng.one(&[0, 0, 0, 0, 1, 1, 1, 1, 1, 2]) }
 }

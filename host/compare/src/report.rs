@@ -11,7 +11,7 @@ pub fn print(difference: &Difference) {
         println!("  question  {} with {asked:?}", asked.question.name());
     }
     let source = &difference.source;
-    // no text that is made here is longer, but for the one that is too long for the writer
+    // no text that is made here is longer, but for the one that is too long for the writers
     let shown = &source[..source.len().min(65_536)];
     println!("  source    {} bytes, {} = {:?}", source.len(), hex(shown), String::from_utf8_lossy(shown));
     println!("  buffer    {} bytes; shown below with {GUARD} bytes on each side that are not lent", difference.room);

@@ -3,7 +3,7 @@
 use crate::comparing::{Comparing, Outcome};
 use crate::ours;
 use crate::question::{ALL, Asked, BORROWED, Question, WRITTEN};
-use crate::writer::{MOST, Writing};
+use crate::writer::{MOST, Spelling, Writing};
 
 const SOURCES: [&[u8]; 16] = [
     b"",
@@ -134,12 +134,13 @@ fn near_the_limit() -> impl Iterator<Item = String> {
     })
 }
 
-/// One byte more than the writer takes, which is 12 before a byte of it is read; and just as many as it takes, which is 11 since they are NUL.
+/// One byte more than the writers take, which is 12 before a byte of it is read; and just as many as they take, which is 11 since they are NUL.
 fn too_long(comparing: &mut Comparing) -> Outcome {
     let value = vec![0; MOST + 1];
-    for part in [None, Some(4)] {
-        comparing.write(&Writing { value: &value, part, setting: 0 })?;
-        comparing.write(&Writing { value: &value[..MOST], part, setting: 0 })?;
+    let plain = |part| Spelling::Plain { part, setting: 0 };
+    for spelling in [plain(None), plain(Some(4)), Spelling::Escape, Spelling::Unicode] {
+        comparing.write(&Writing { value: &value, spelling })?;
+        comparing.write(&Writing { value: &value[..MOST], spelling })?;
     }
     Ok(())
 }

@@ -1,6 +1,7 @@
 //! Counts what was compared, so that a reader sees that no part of it was empty.
 
 use crate::question::{ALL, Question, Said};
+use crate::writer::Spelling;
 
 /// What can come out: the answers, then the refusals by their numbers.
 const OUTCOMES: [&str; 18] = [
@@ -10,8 +11,14 @@ const OUTCOMES: [&str; 18] = [
 const WRITTEN: usize = 1;
 const REFUSALS: usize = 5;
 
-/// The questions and the writer's two.
-const ROWS: usize = ALL.len() + 2;
+/// The writers, with what each can give.
+const WRITERS: [(&str, &str); 4] = [
+    ("write_literal", "written 4 9 10 11 12"),
+    ("write_parts", "written 4 9 10 11 12"),
+    ("write_escape", "written 4 9 11 12"),
+    ("write_unicode", "written 4 9 11 12"),
+];
+const ROWS: usize = ALL.len() + WRITERS.len();
 
 #[derive(Default)]
 pub struct Tally {
@@ -26,16 +33,17 @@ pub struct Tally {
 #[derive(Clone, Copy)]
 pub enum Row {
     Asked(Question),
-    Writer,
-    Parts,
+    Written(Spelling),
 }
 
 impl Row {
     fn at(self) -> usize {
         match self {
             Row::Asked(question) => question as usize,
-            Row::Writer => ALL.len(),
-            Row::Parts => ALL.len() + 1,
+            Row::Written(Spelling::Plain { part: None, .. }) => ALL.len(),
+            Row::Written(Spelling::Plain { part: Some(_), .. }) => ALL.len() + 1,
+            Row::Written(Spelling::Escape) => ALL.len() + 2,
+            Row::Written(Spelling::Unicode) => ALL.len() + 3,
         }
     }
 }
@@ -94,7 +102,7 @@ impl Tally {
 }
 
 fn names() -> impl Iterator<Item = &'static str> {
-    ALL.iter().map(|question| question.name()).chain(["write_literal", "write_parts"])
+    ALL.iter().map(|question| question.name()).chain(WRITERS.map(|(name, _)| name))
 }
 
 /// For each row what it can give, as the header says.
@@ -116,5 +124,5 @@ fn possible() -> impl Iterator<Item = Vec<usize>> {
     let outcomes = |names: &str| {
         names.split(' ').map(|name| OUTCOMES.iter().position(|known| *known == name).expect("an outcome")).collect()
     };
-    rows.chain(["written 4 9 10 11 12"; 2]).map(outcomes)
+    rows.chain(WRITERS.map(|(_, possible)| possible)).map(outcomes)
 }

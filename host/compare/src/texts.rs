@@ -123,7 +123,8 @@ impl Texts {
             0..120 => "'".into(),
             120..240 => "\\".into(),
             240..360 => t.one(&WIDE),
-            at if at < 360 + nul => "\0".into(),
+            360..460 => char::from(t.rng.within(0x01, 0x1F) as u8).into(),
+            at if at < 460 + nul => "\0".into(),
             _ => t.plain(),
         })
     }

@@ -1,14 +1,15 @@
 //! Decodes lists of products, one string literal a line, and points out the products that are there twice.
 //!
 //! ```text
-//! keys [--backslash] [--doubles] [--] [FILE ..]
+//! keys [--backslash] [--doubles] [--spell escape|unicode] [--] [FILE ..]
 //! ```
 //!
 //! Without a FILE, and for the FILE `-`, it reads standard input. `--` ends the options. `--backslash` reads with MySQL's backslash escapes from the first line on; a line `-- backslash on` or
 //! `-- backslash off`, in any case, changes that from there on, and another line that begins with `-- backslash` is an error. Other lines that begin with `--`, and empty lines, are no rows.
 //! `--doubles` leaves out the keys themselves, and still shows the rows that are refused.
 //!
-//! A control character of a key is shown as its number, `‹0A›`, and so is the mark itself, `‹2039›`: keys that differ look different.
+//! A control character of a key is shown as its number, `‹0A›`, and so is the mark itself, `‹2039›`: keys that differ look different. `--spell` shows each key as a literal that can be pasted into SQL,
+//! `E'a\nb'` or `U&'a\000Ab'`; a key with a NUL, which neither can spell, is shown as without it, behind `no literal:`.
 //!
 //! The status is 0 if each row has a key, 1 if a row is refused, 2 if a list cannot be read.
 
@@ -36,8 +37,8 @@ fn show(request: &Request, file: &Path) -> Result<bool, String> {
     let list = read(file).map_err(|why| place(&why))?;
     let rows = list::rows(&list, request.settings).map_err(|why| place(&why))?;
     let name = if request.files.len() > 1 { format!("{}\n", file.display()) } else { String::new() };
-    let said = if request.doubles_only { report::refused(&rows) } else { report::keys(&rows) };
-    let text = name + &said + &report::doubles(&rows);
+    let said = if request.doubles_only { report::refused(&rows) } else { report::keys(&rows, request.look) };
+    let text = name + &said + &report::doubles(&rows, request.look);
     io::stdout().write_all(text.as_bytes()).map_err(|why| why.to_string())?;
     Ok(rows.iter().all(|row| row.key.is_ok()))
 }

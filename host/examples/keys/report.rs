@@ -3,22 +3,34 @@
 use crate::list::Row;
 use std::collections::HashMap;
 use std::fmt::Write;
+use valdrabus::{to_escape, to_unicode};
+
+/// How keys are shown.
+#[derive(Clone, Copy, Debug, PartialEq, Eq)]
+pub enum Look {
+    /// As they are, control characters by their numbers, between marks.
+    Marked,
+    /// As `E'..'`.
+    Escape,
+    /// As `U&'..'`.
+    Unicode,
+}
 
 /// Each row's line and key, or why it has none.
-pub fn keys(rows: &[Row<'_>]) -> String {
-    lines(rows.iter())
+pub fn keys(rows: &[Row<'_>], look: Look) -> String {
+    lines(rows.iter(), look)
 }
 
 /// The same of the rows that have no key.
 pub fn refused(rows: &[Row<'_>]) -> String {
-    lines(rows.iter().filter(|row| row.key.is_err()))
+    lines(rows.iter().filter(|row| row.key.is_err()), Look::Marked)
 }
 
-fn lines<'r>(rows: impl Iterator<Item = &'r Row<'r>>) -> String {
+fn lines<'r>(rows: impl Iterator<Item = &'r Row<'r>>, look: Look) -> String {
     let mut text = String::new();
     for row in rows {
         let said = match &row.key {
-            Ok(key) => shown(key),
+            Ok(key) => shown(key, look),
             Err(error) => format!("refused: {error}"),
         };
         writeln!(text, "{:6}  {said}", row.line).expect("a String takes all");
@@ -27,14 +39,14 @@ fn lines<'r>(rows: impl Iterator<Item = &'r Row<'r>>) -> String {
 }
 
 /// The keys that stand in several rows, with their lines; then the counts.
-pub fn doubles(rows: &[Row<'_>]) -> String {
+pub fn doubles(rows: &[Row<'_>], look: Look) -> String {
     let products = products(rows);
     let doubled = products.iter().filter(|(_, lines)| lines.len() > 1);
     let mut text = String::new();
     let mut count = 0;
     for (key, lines) in doubled {
         let lines: Vec<String> = lines.iter().map(usize::to_string).collect();
-        writeln!(text, "doubled: {}, on lines {}", shown(key), lines.join(", ")).expect("a String takes all");
+        writeln!(text, "doubled: {}, on lines {}", shown(key, look), lines.join(", ")).expect("a String takes all");
         count += 1;
     }
     let counted: usize = products.iter().map(|(_, lines)| lines.len()).sum();
@@ -64,8 +76,18 @@ fn products<'r>(rows: &'r [Row<'_>]) -> Vec<(&'r [u8], Vec<usize>)> {
     products
 }
 
-/// A key as it can stand in a line: control characters by their numbers, between marks. The opening mark is shown so too, so that no two keys look alike.
-fn shown(key: &[u8]) -> String {
+/// A key as it can stand in a line. One that cannot be spelled, since it holds a NUL, is marked, behind words that no literal begins with: so no two keys look alike.
+fn shown(key: &[u8], look: Look) -> String {
+    let spelled = match look {
+        Look::Marked => return marked(key),
+        Look::Escape => to_escape(key),
+        Look::Unicode => to_unicode(key),
+    };
+    spelled.unwrap_or_else(|_| format!("no literal: {}", marked(key)))
+}
+
+/// Control characters by their numbers, between marks. The opening mark is shown so too, so that no two keys look alike.
+fn marked(key: &[u8]) -> String {
     let mut text = String::new();
     for next in String::from_utf8_lossy(key).chars() {
         if next.is_control() || next == '‹' {

@@ -27,6 +27,16 @@ pub const KINDS: [Kind; 14] = [
     Kind::Money,
 ];
 
+/// All values of up to so many characters of an alphabet, in the order of their lengths.
+pub fn values(alphabet: &[char], most: usize) -> Vec<String> {
+    let mut values = vec![String::new()];
+    for len in 1..=most {
+        let shorter = values.iter().filter(|value| value.chars().count() == len - 1).cloned().collect::<Vec<_>>();
+        values.extend(shorter.iter().flat_map(|value| alphabet.iter().map(move |next| format!("{value}{next}"))));
+    }
+    values
+}
+
 pub fn whole(kind: Kind, source: impl AsRef<[u8]>) -> Literal {
     Literal::whole(kind, source).expect("a short text")
 }

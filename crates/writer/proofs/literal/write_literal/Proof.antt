@@ -1,8 +1,10 @@
 -- `writer::literal::write_literal` meets its contract: nothing is written before all tests are passed and the text is measured. Assumes nothing.
-use Rattle.writer.proofs.Answering.{over-limit, not-utf8, holds-nul, accepted, short, no-room, text-fits, text-written}
+use Prim.Native.Nat.{_+_, _*_, _≤_}
+use native.Mathlib.Omega.{arith}
+use borrow.Author.Needs.{needs}
 use denote.Ref.{now}
 use Rattle.laws.proofs.WriterParts.{Accepted}
-use borrow.Author.Needs.{needs}
+use Rattle.writer.proofs.Answering.{over-limit, not-utf8, holds-nul, accepted, spellable, cuttable, needed-small, no-room, text-fits, text-written}
 use Rattle.writer.proofs.literal.write_literal.Statement.{statement}
 use Rattle.writer.proofs.literal.write_literal.Tie as tie
 
@@ -31,30 +33,45 @@ passed c = search accepted
 part-limit-requires : tie.Need-part-limit-requires
 part-limit-requires c κs = search needs
 
-text-len-requires : tie.Need-text-len-requires
-text-len-requires c κs = short (passed (c .before))
+measure-requires : tie.Need-measure-requires
+measure-requires c κs = spellable (passed (c .before))
+
+count-later-requires : tie.Need-count-later-requires
+count-later-requires c κs = cuttable (passed (c .before .before)) (c .before .part-limit .ensures)
+
+-- the text's length fits
+small : (c : tie.After-count-later) → c .before .measure .result .len + 3 * c .count-later .result ≤ 858993461
+small c = needed-small (passed (c .before .before .before)) (c .before .before .part-limit .ensures) (c .before .measure .ensures) (c .count-later .ensures)
+
+mul-len : tie.Need-mul-len
+mul-len c = let h = small c in omega (arith, h)
+
+add-len : tie.Need-add-len
+add-len c = let h = small (c .before) in omega (arith, h)
 
 returns-4 : tie.Need-returns-4
 returns-4 c =
-    no-room (passed (c .before .before .before)) _ (c .before .before .part-limit .ensures) (c .before .text-len .ensures) (c .if4 .taken)
-
-write-text-requires : tie.Need-write-text-requires
-write-text-requires c κs =
     let i = c .before .before in
-    text-fits (passed (i .before .before))
-    (now (i .before .before .before .before .before .before .before .before .before .before .args .out))
-    (i .before .part-limit .ensures)
-    (i .text-len .ensures)
-    (c .before .if4 .left)
+    let m = i .before in
+    no-room (passed (m .before .before)) (m .before .part-limit .ensures) (m .measure .ensures) (i .count-later .ensures) _ (c .if4 .taken)
+
+write-parts-requires : tie.Need-write-parts-requires
+write-parts-requires c κs =
+    let i = c .before .before .before in
+    let m = i .before in
+    text-fits (passed (m .before .before)) (m .before .part-limit .ensures) (m .measure .ensures) (i .count-later .ensures)
+    (now (m .before .before .before .before .before .before .before .before .before .before .args .out)) (c .before .if4 .left)
 
 same-length : tie.Need-same-length
 same-length c = search needs
 
 returns-5 : tie.Need-returns-5
 returns-5 c =
-    let i = c .before .before .before .before in
-    text-written (passed (i .before .before .before)) _ (i .before .before .part-limit .ensures) (i .before .text-len .ensures) (i .if4 .left)
-    (c .before .before .write-text .ensures .buffer)
+    let j = c .before .before .before .before in
+    let i = j .before .before in
+    let m = i .before in
+    text-written (passed (m .before .before)) (m .before .part-limit .ensures) (m .measure .ensures) (i .count-later .ensures) _ (j .if4 .left)
+    (c .before .before .write-parts .ensures)
 
 pub write-literal-spec : {M : Type 1} → statement M
 write-literal-spec =
@@ -67,8 +84,11 @@ write-literal-spec =
     holds-unwritable-nul-requires
     returns-3
     part-limit-requires
-    text-len-requires
+    measure-requires
+    count-later-requires
+    mul-len
+    add-len
     returns-4
-    write-text-requires
+    write-parts-requires
     same-length
     returns-5)

@@ -1,0 +1,83 @@
+// [01 The writer] The parts of a value: each takes as many whole characters as fit, and a gap stands between two.
+use crate::manners::Manner;
+use crate::texts::write_text;
+use leaves::puts::put_bytes;
+use meaning::PartSize;
+ghost use mathlib.Core.Path.{_≡_};
+ghost use Prim.Native.Nat.{_+_};
+ghost use lib.ListN.{length, drop};
+ghost use Rattle.meaning.specs.Bytes.{within};
+ghost use Rattle.meaning.specs.Writer.{literals, partsFrom};
+ghost use Rattle.writer.specs.Texts.{PutBytes};
+ghost use Rattle.writer.specs.Parts.{limitOf, firstPart, laterParts, Cuttable, FitsInParts};
+
+// How many value bytes a part may have. A value that is written whole is a part without an end: no value has so many bytes.
+pub(crate) fn part_limit(size: PartSize) -> usize
+    ensures { λ r. ⌜ r ≡ limitOf size ⌝ }
+{
+    match size {
+        PartSize::Whole => 0xFFFF_FFFF_FFFF_FFFF,
+        PartSize::AtMost(limit) => limit,
+    }
+}
+
+// Whether a byte goes on with a character.
+fn is_later(byte: u8) -> bool
+    ensures { λ r. ⌜ r ≡ within 0x80 0xBF byte ⌝ }
+{
+    (0x80 <= byte) & (byte <= 0xBF)
+}
+
+// Where the part ends that begins at a place.
+// Rules out: a character cut between two parts; a part that could have taken one more.
+fn part_end(value: &[u8], from: usize, limit: usize) -> usize
+    requires { ⌜ Cuttable limit from (now value) ⌝ }
+    ensures { λ r. ⌜ r ≡ from + length (firstPart limit (drop from (now (value .entry)))) ⌝ }
+{
+    if value.len() - from <= limit {
+        return value.len();
+    }
+    let mut end = from + limit;
+    while is_later(value[end]) {
+        end -= 1;
+    }
+    end
+}
+
+// How many parts there are behind the first.
+pub(crate) fn count_later(value: &[u8], limit: usize) -> usize
+    requires { ⌜ Cuttable limit 0 (now value) ⌝ }
+    ensures { λ r. ⌜ r ≡ length (laterParts limit (now (value .entry))) ⌝ }
+{
+    let mut count: usize = 0;
+    let mut end = part_end(value, 0, limit);
+    while end < value.len() {
+        end = part_end(value, end, limit);
+        count += 1;
+    }
+    count
+}
+
+// Writes the literals of the parts, for which there is room, and says how long that is.
+// Rules out: parts without a gap; a gap behind the last one.
+pub(crate) fn write_parts(
+    value: &[u8],
+    limit: usize,
+    backslash: bool,
+    whole: bool,
+    out: &mut [u8],
+) -> usize
+    requires { ⌜ FitsInParts limit backslash whole (now value) (length (now out)) ⌝ }
+    ensures { λ r. ⌜ PutBytes (literals backslash (partsFrom limit limit (now (value .entry)))) (now (out .entry)) r (now (out .exit)) ⌝ }
+{
+    let manner = Manner::Plain { backslash };
+    let mut end = part_end(value, 0, limit);
+    let mut n = write_text(&value[..end], manner, whole, out);
+    while end < value.len() {
+        let from = end;
+        end = part_end(value, from, limit);
+        n += put_bytes(b" ", &mut out[n..]);
+        n += write_text(&value[from..end], manner, whole, &mut out[n..]);
+    }
+    n
+}
