@@ -153,7 +153,7 @@ bool valdrabus_is_null(uint32_t kind);
    range in it, an empty one that fits included. A range that does not fit, or a refusal, shows an empty part: VALDRABUS_NONE, 0, 0. */
 uint32_t valdrabus_view(uint32_t how, size_t first, size_t second, size_t source_len, size_t out_len, size_t *from, size_t *until);
 
-/* THE WRITERS. len: the text's length, also the length needed with 9, else 0. */
+/* THE WRITERS. len: the text's length, also the length needed with 9, else 0. Every text has two bytes or more, so a buffer of no bytes (out_len 0) asks for the length alone. */
 
 /* A value as one plain literal at a setting. 4, 9, 10, 11, 12. */
 uint32_t valdrabus_write_literal(const uint8_t *value, size_t value_len, uint32_t setting, uint8_t *out, size_t out_len, size_t *len);

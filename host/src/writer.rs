@@ -58,7 +58,7 @@ pub fn to_parts(value: impl AsRef<[u8]>, part_size: usize, settings: Settings) -
 }
 
 /// A value as `E'..'`: backslash and quote are doubled, the codes 08, 09, 0A, 0C and 0D are `\b`, `\t`, `\n`, `\f` and `\r`, the others below 20 hex a backslash and three octal digits. All else stands as it
-/// is, 7F hex and characters that are not ASCII too. So the text has no byte below 20 hex, and no line feed in it ends a line.
+/// is, 7F hex and characters that are not ASCII too. So the text has no byte below 20 hex, and no line feed among them.
 ///
 /// What it writes reads back as the value at both settings, so none is given. For `n` bytes of the value it has at most `4 * n + 3`. Refusals: 12, 4, 11 (any NUL), 9, tested in this order.
 ///

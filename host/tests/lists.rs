@@ -79,7 +79,7 @@ fn keys_are_spelled_where_that_is_asked() {
     let list = "'a\tb''s'\nE'a\\tb''s'\n'é\u{7F}'\n-- backslash on\n'\\0\\n'\n'b\n";
     let rows = list::rows(list.as_bytes(), Settings::STANDARD).expect("settings that can be read");
     for (look, quoted, wide) in
-        [(Look::Escape, r"E'a\tb''s'", "E'é\u{7F}'"), (Look::Unicode, r"U&'a\0009b''s'", r"U&'\00E9\007F'")]
+        [(Look::Escape, r"E'a\tb''s'", r"U&'\00E9\007F'"), (Look::Unicode, r"U&'a\0009b''s'", r"U&'\00E9\007F'")]
     {
         let said = [
             &format!("     1  {quoted}"),

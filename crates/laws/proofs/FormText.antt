@@ -25,14 +25,14 @@ use Rattle.meaning.specs.Helpers.{escapeValid, unicodeValid}
 use Rattle.meaning.specs.Writer.{overLimit}
 use Rattle.meaning.specs.Forms.{letterOf, isDoubled, formStep, formOpening, formText}
 use Rattle.laws.proofs.Tests.{eqb-sym, or-left, or-right, within-bounds}
-use Rattle.laws.proofs.Utf8.{pushes-append, utf8-append, Good, push-good, pushes-good, fresh-good}
+use Rattle.laws.proofs.Utf8.{pushes-append, utf8-append, low-lead, Good, push-good, pushes-good, fresh-good}
 use Rattle.laws.proofs.Enclosed.{encloses-behind, part-behind}
 use Rattle.laws.proofs.Walks.{walk-skip, Exact, exact-append}
 use Rattle.laws.proofs.Courses.{checked-whole}
 use Rattle.laws.proofs.Written.{closing-local, closes, closes-at, closes-behind, lone}
 use Rattle.laws.proofs.Unchanged.{ReadsBack, back-means, back-borrowed, back-written, BodyMeans, course-back}
 use Rattle.laws.proofs.JoiningLaw.{Accepts}
-use Rattle.laws.proofs.WriterParts.{limit-length}
+use Rattle.laws.proofs.WriterParts.{limit-length, whole-within}
 use Rattle.laws.proofs.FormUnits.{readStep, shows, formCost, formCosts, most, Every, Itself, Spelled, Units, over, itself, spelled}
 use Rattle.laws.proofs.FormSpelling.{units-of}
 
@@ -43,15 +43,15 @@ single-apart b h =
     (or-left (eqb b backslash) (eqb b quote || false) h, sym (or-false (eqb b quote)) ∙ or-right (eqb b backslash) (eqb b quote || false) h)
 
 -- READING: so it is read as itself
-keeps : (f : Form) (b : ℕ) (t : List ℕ) → isDoubled b ≡ false → readStep f (b ∷ t) ≡ keep
-keeps f b t h = let a = single-apart b h in go f (a .0) (a .1)
+reads-itself : (f : Form) (b : ℕ) (t : List ℕ) → isDoubled b ≡ false → readStep f (b ∷ t) ≡ keep
+reads-itself f b t h = let a = single-apart b h in go f (a .0) (a .1)
   where
     go : (f : Form) → eqb b backslash ≡ false → eqb b quote ≡ false → readStep f (b ∷ t) ≡ keep
     go Escape x y = rw (x, y)
     go Unicode x y = rw (y, eqb-sym backslash b, x)
 
 itself-course : (f : Form) (b : ℕ) (u : List ℕ) → Itself f b → walk (readStep f) 0 (b ∷ u) ≡ kept b (walk (readStep f) 0 u)
-itself-course f b u i = rw (keeps f b u (i .single))
+itself-course f b u i = rw (reads-itself f b u (i .single))
 
 spelled-course : (f : Form) (p out u : List ℕ) → Spelled f p out → walk (readStep f) 0 (out ++ u) ≡ gave (length out - 1) p (walk (readStep f) 0 u)
 spelled-course f p [] u s = let l = s .longer in absurd (omega arith)
@@ -133,15 +133,19 @@ units-shows {f} (spelled {p} {v} {out} {u} s r) =
     every-append (shows f) out u (every-of (within 0x20 0x7E) (shows f) (ascii-shows f) out (s .visible)) (units-shows r)
 
 -- HOW LONG, by bytes of the value
-no-letter : (b : ℕ) → 0x20 ≤ b → letterOf escapeTable b ≡ 256
-no-letter b h =
+-- no letter means a byte that has none in the table
+pub letter-none : (b : ℕ) → (b ≡ 8 → ⊥) → (b ≡ 9 → ⊥) → (b ≡ 10 → ⊥) → (b ≡ 12 → ⊥) → (b ≡ 13 → ⊥) → letterOf escapeTable b ≡ 256
+letter-none b p q r s t =
     rw (
-      ne-eqb 0x08 b (λ e. omega arith),
-      ne-eqb 0x0C b (λ e. omega arith),
-      ne-eqb 0x0A b (λ e. omega arith),
-      ne-eqb 0x0D b (λ e. omega arith),
-      ne-eqb 0x09 b (λ e. omega arith),
+      ne-eqb 8 b (λ e. p (sym e)),
+      ne-eqb 12 b (λ e. s (sym e)),
+      ne-eqb 10 b (λ e. r (sym e)),
+      ne-eqb 13 b (λ e. t (sym e)),
+      ne-eqb 9 b (λ e. q (sym e)),
     )
+
+pub no-letter : (b : ℕ) → 0x20 ≤ b → letterOf escapeTable b ≡ 256
+no-letter b h = letter-none b (λ e. omega arith) (λ e. omega arith) (λ e. omega arith) (λ e. omega arith) (λ e. omega arith)
 
 itself-cost : (f : Form) (b : ℕ) → Itself f b → formCost f b ≡ 1
 unfolding formCost
@@ -277,21 +281,19 @@ text-unicode-valid Escape r h = rw (text-utf8 r h)
 text-unicode-valid Unicode {v} {u} r h =
     rw (text-utf8 r h, unicode-spelling u (units-exact r false), part-behind (formOpening Unicode) quote u, units-goes r)
 
--- THE BOUND IS REACHED by bytes 01, which neither form leaves as they are
-ones-costs : (f : Form) (n : ℕ) → formCosts f (replicate n 1) ≡ most f * n
-unfolding formCost isDoubled within
-ones-costs f zero = omega arith
-ones-costs Escape (suc n) = omega (arith, ones-costs Escape n)
-ones-costs Unicode (suc n) = omega (arith, ones-costs Unicode n)
+-- ONE BYTE OVER AND OVER, of ASCII and not NUL
+repeated-costs : (f : Form) (n b : ℕ) → formCosts f (replicate n b) ≡ formCost f b * n
+repeated-costs f zero b = omega arith
+repeated-costs f (suc n) b = omega (arith, repeated-costs f n b, mul-add (formCost f b) 1 n)
 
-ones-utf8 : (n : ℕ) → utf8 (replicate n 1) ≡ true
-unfolding utf8 lead within
-ones-utf8 zero = refl
-ones-utf8 (suc n) = ones-utf8 n
+pub repeated-utf8 : (n b : ℕ) → b < 0x80 → utf8 (replicate n b) ≡ true
+unfolding utf8
+repeated-utf8 zero b h = refl
+repeated-utf8 (suc n) b h = ap (λ (d : Due). whole (pushes d (replicate n b))) (low-lead b h) ∙ repeated-utf8 n b h
 
-ones-nul : (n : ℕ) → has 0 (replicate n 1) ≡ false
-ones-nul zero = refl
-ones-nul (suc n) = ones-nul n
+repeated-nul : (n b : ℕ) → 0 < b → has 0 (replicate n b) ≡ false
+repeated-nul zero b h = refl
+repeated-nul (suc n) b h = rw (ne-eqb 0 b (λ e. omega arith)) (repeated-nul n b h)
 
 -- WHAT THE WRITER ACCEPTS, in either form
 pub record FormAccepted (v : List ℕ) : Type 0 where
@@ -299,12 +301,11 @@ pub record FormAccepted (v : List ℕ) : Type 0 where
   pub valid : utf8 v ≡ true
   pub nul : has 0 v ≡ false
 
-pub ones-accepted : (n : ℕ) → n ≤ 268435456 → FormAccepted (replicate n 1)
-unfolding overLimit
-ones-accepted n h = record {
-  limit = rw (length-replicate {A = ℕ} n 1, le-ltb 268435456 n h);
-  valid = ones-utf8 n;
-  nul = ones-nul n;
+pub repeated-accepted : (n b : ℕ) → n ≤ 268435456 → 0 < b → b < 0x80 → FormAccepted (replicate n b)
+repeated-accepted n b h some low = record {
+  limit = whole-within (replicate n b) (omega (arith, length-replicate {A = ℕ} n b));
+  valid = repeated-utf8 n b low;
+  nul = repeated-nul n b some;
 }
 
 -- WHAT IT WRITES
@@ -315,10 +316,6 @@ module _ (f : Form) (v : List ℕ) (a : FormAccepted v) where
   pub formText-utf8 : utf8 (formText f v) ≡ true
   unfolding formText
   formText-utf8 = text-utf8 units (a .valid)
-
-  pub formText-spelling : spelling (formText f v) ≡ spelledAs f (length (formText f v) - 1)
-  unfolding formText
-  formText-spelling = text-spelling f (value (walk (formStep f) 0 v)) (units-exact units false)
 
   -- it reads back, whatever the setting
   pub form-back : (σ : Settings) → ReadsBack σ (formOpening f) (formText f v) v
@@ -360,8 +357,18 @@ module _ (f : Form) (v : List ℕ) (a : FormAccepted v) where
   unfolding formText
   formText-bound = omega (arith, formOf-length f (value (walk (formStep f) 0 v)), units-bound units)
 
+pub repeated-length : (f : Form) (n b : ℕ) → n ≤ 268435456 → 0 < b → b < 0x80
+    → length (formText f (replicate n b)) ≡ formCost f b * n + suc (length (formOpening f))
+repeated-length f n b h some low = omega (arith, formText-length f (replicate n b) (repeated-accepted n b h some low), repeated-costs f n b)
+
+-- THE BOUND IS REACHED by bytes 01, which neither form leaves as they are
+one-costs : (f : Form) → formCost f 1 ≡ most f
+unfolding formCost isDoubled within
+one-costs Escape = refl
+one-costs Unicode = refl
+
 pub formText-reached : (f : Form) (n : ℕ) → n ≤ 268435456 → length (formText f (replicate n 1)) ≡ most f * n + suc (length (formOpening f))
-formText-reached f n h = omega (arith, formText-length f (replicate n 1) (ones-accepted n h), ones-costs f n)
+formText-reached f n h = repeated-length f n 1 h (omega arith) (omega arith) ∙ ap (λ (c : ℕ). c * n + suc (length (formOpening f))) (one-costs f)
 
 -- 32 bits hold every length
 pub escapeText-fits : (v : List ℕ) → FormAccepted v → length (formText Escape v) ≤ 1073741827

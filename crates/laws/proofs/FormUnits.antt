@@ -1,5 +1,6 @@
 -- [02 T-01] A value beside its spelling in a form, unit by unit: what the definition writes for a UTF-8 value without NUL is such a spelling. All that the two
--- forms differ by in reading back, in length and in bytes is in the records here. Assumes nothing.
+-- forms differ by in a unit, in reading back, in length and in bytes, is in the records here. Openings and spellings differ too: `FormText`
+-- has them. Assumes nothing.
 use mathlib.Core.Path.{_≡_}
 use mathlib.Core.Bool.{Bool, true, false}
 use mathlib.Core.List.{List, [], _∷_, _++_}

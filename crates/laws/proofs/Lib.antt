@@ -69,6 +69,7 @@ pub mod FormText
 pub mod WrittenParts
 pub mod RoundTrip
 pub mod FormRoundTrip
+pub mod LongForms
 pub mod Answered
 pub mod Witnesses
 pub mod Starred

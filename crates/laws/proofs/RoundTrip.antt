@@ -1,10 +1,9 @@
 -- Demand 2 of the order, over the questions: "What our writer writes reads back as its value at the same setting." Assumes nothing.
-use mathlib.Core.Path.{_≡_}
+use mathlib.Core.Path.{_≡_, _∙_}
 use mathlib.Core.Bool.{true}
 use mathlib.Core.List.{List}
 use Prim.Native.Nat.{ℕ, _+_, _≤_, _<_}
 use lib.ListN.{length, take}
-use borrow.Author.Tests.{le-leb}
 use Rattle.meaning.specs.declared.Settings.{Settings}
 use Rattle.meaning.specs.declared.PartSize.{PartSize}
 use Rattle.meaning.specs.declared.Literal.{Literal}
@@ -14,7 +13,7 @@ use Rattle.meaning.specs.Questions.{isString, stringQuestion}
 use Rattle.meaning.specs.Writer.{overLimit, unwritableNul, writtenText, writeQuestion}
 use Rattle.laws.proofs.Asked.{Spans}
 use Rattle.laws.proofs.Ranges.{Answered, back-answered}
-use Rattle.laws.proofs.Writers.{written-passed, Wrote, writes-wrote}
+use Rattle.laws.proofs.Writers.{writes-all, written-passed, Wrote, writes-wrote}
 use Rattle.laws.proofs.WriterParts.{Accepted, accepted-writes}
 use Rattle.laws.proofs.WriterText.{writtenText-joins}
 
@@ -22,7 +21,7 @@ module _ (σ : Settings) (size : PartSize) (v out : List ℕ) where
   -- the writer writes a value that it accepts, where there is room
   pub writer-answers : Accepted σ size v → length (writtenText σ size v) ≤ length out
       → writeQuestion σ size v out .answer ≡ Written (length (writtenText σ size v))
-  writer-answers a r = rw (accepted-writes σ size v out a, le-leb (length (writtenText σ size v)) (length out) r)
+  writer-answers a r = rw (accepted-writes σ size v out a ∙ writes-all (writtenText σ size v) out r)
 
   -- and none other
   pub written-accepted : (n : ℕ) → writeQuestion σ size v out .answer ≡ Written n → Accepted σ size v

@@ -141,17 +141,17 @@ alone b n lo hi t e l w =
     let z : n ≡ 0 = cc in
     nothing t (l ∙ z)
 
-abbrev spelling : List ℕ → List ℕ
-spelling v = value (walk (formStep Unicode) 0 v)
+abbrev written : List ℕ → List ℕ
+written v = value (walk (formStep Unicode) 0 v)
 
 -- A CHARACTER, whatever follows
-unicode-unit : (c : ℕ) (r : List ℕ) → isScalar c ≡ true → 0 < c → Units Unicode r (spelling r) → Units Unicode (encode c ++ r) (spelling (encode c ++ r))
+unicode-unit : (c : ℕ) (r : List ℕ) → isScalar c ≡ true → 0 < c → Units Unicode r (written r) → Units Unicode (encode c ++ r) (written (encode c ++ r))
 unicode-unit c r s some ih =
     let d = encode-decodes c s in
     rw (d .spelled) (character (d .b) (d .n) (d .lo) (d .hi) (d .t) (d .spelled) (d .begins) (d .asDue) (d .sized) (d .value))
   where
     character : (b n lo hi : ℕ) (t : List ℕ) → encode c ≡ b ∷ t → lead b ≡ due n lo hi → AsDue n lo hi t → length t ≡ n → gather n lo hi (b - base n) t ≡ c
-        → Units Unicode (b ∷ (t ++ r)) (spelling (b ∷ (t ++ r)))
+        → Units Unicode (b ∷ (t ++ r)) (written (b ∷ (t ++ r)))
     character b n lo hi t e f a l v =
         rw (f, gather-append n lo hi (b - base n) t r a, v) (go (isDoubled b) (within 0x20 0x7E b) refl refl)
       where
@@ -174,12 +174,12 @@ not-nul zero h = absurd (false≢true (sym h))
 not-nul (suc c) h = omega arith
 
 -- A VALUE
-scalars-units : (cs : List ℕ) → AllScalar cs → has 0 (encodes cs) ≡ false → Units Unicode (encodes cs) (spelling (encodes cs))
+scalars-units : (cs : List ℕ) → AllScalar cs → has 0 (encodes cs) ≡ false → Units Unicode (encodes cs) (written (encodes cs))
 scalars-units [] a h = over
 scalars-units (c ∷ cs) a h =
     let k : (has 0 (encode c) || has 0 (encodes cs)) ≡ false = sym (has-append 0 (encode c) (encodes cs)) ∙ h in
     unicode-unit c (encodes cs) (a .0) (not-nul c (or-left (has 0 (encode c)) (has 0 (encodes cs)) k))
     (scalars-units cs (a .1) (or-right (has 0 (encode c)) (has 0 (encodes cs)) k))
 
-pub unicode-units : (v : List ℕ) → utf8 v ≡ true → has 0 v ≡ false → Units Unicode v (spelling v)
+pub unicode-units : (v : List ℕ) → utf8 v ≡ true → has 0 v ≡ false → Units Unicode v (written v)
 unicode-units v valid h = let k = scalars-of-utf8 v valid in rw (k .2) (scalars-units (k .0) (k .1) (rw (k .2) at h))

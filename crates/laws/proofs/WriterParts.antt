@@ -7,7 +7,7 @@ use Prim.Native.Nat.{ℕ, zero, suc, _+_, _-_, _≤_, _<_}
 use native.Mathlib.Omega.{arith}
 use lib.Dec.{ltb}
 use lib.ListN.{length}
-use borrow.Author.Tests.{ltb-true, ltb-false}
+use borrow.Author.Tests.{lt-ltb, le-ltb, ltb-true, ltb-false}
 use Rattle.meaning.specs.declared.Settings.{Settings}
 use Rattle.meaning.specs.declared.PartSize.{PartSize}
 use Rattle.meaning.specs.declared.PartSize.the-variants.{Whole, AtMost}
@@ -19,6 +19,7 @@ use Rattle.laws.proofs.Utf8.{pushes-append, pushes-broken, Rows, lead-r
 use Rattle.laws.proofs.Sequences.{utf8-split}
 use Rattle.laws.proofs.Enclosed.{has-append}
 use Rattle.laws.proofs.Written.{writable}
+use Rattle.laws.proofs.Writers.{tried-writes}
 
 abbrev pub concat : List (List ℕ) → List ℕ
 concat [] = []
@@ -278,6 +279,16 @@ pub limit-size : (size : PartSize) (v : List ℕ) → overLimit size v ≡ false
 unfolding overLimit
 limit-size size v h = or-right (ltb 268435456 (length v)) (partTooSmall size) h
 
+-- what is written whole is tested by its length alone
+pub whole-within : (v : List ℕ) → length v ≤ 268435456 → overLimit Whole v ≡ false
+unfolding overLimit
+whole-within v h = rw (le-ltb 268435456 (length v) h)
+
+pub whole-over : (v : List ℕ) → 268435456 < length v → overLimit Whole v ≡ true
+unfolding overLimit
+whole-over v h = rw (lt-ltb 268435456 (length v) h)
+
 pub accepted-writes : (σ : Settings) (size : PartSize) (v out : List ℕ) → Accepted σ size v → writeQuestion σ size v out ≡ writes (writtenText σ size v) out
 unfolding writeQuestion
-accepted-writes σ size v out a = rw (a .limit, a .valid, a .nul)
+accepted-writes σ size v out a =
+    tried-writes (overLimit size v) (utf8 v) (unwritableNul σ v) (writtenText σ size v) out (a .limit) (a .valid) (a .nul)

@@ -3,11 +3,12 @@
 use mathlib.Core.Path.{_≡_, refl, ap}
 use mathlib.Core.Bool.{Bool, true, false, not}
 use mathlib.Core.List.{List, _++_}
-use Prim.Native.Nat.{ℕ}
+use Prim.Native.Nat.{ℕ, _≤_, _<_}
 use native.Mathlib.Omega.{arith}
 use lib.Dec.{leb}
 use lib.ListN.{length, take, drop}
 use lib.Seq.{take-append-seam}
+use borrow.Author.Tests.{le-leb, lt-leb}
 use Rattle.meaning.specs.declared.Writing.{Writing}
 use Rattle.meaning.specs.declared.Writing.the-variants.{Written, OverLimit, NotUtf8, HoldsNul, NoRoom}
 use Rattle.meaning.specs.Bytes.{if_then_else_}
@@ -21,6 +22,30 @@ tried x y z t out =
     else if not y then record { answer = NotUtf8; buffer = out }
     else if z then record { answer = HoldsNul; buffer = out }
     else writes t out
+
+-- the first test that fails answers, and the buffer stays; where none does, the text is put
+module _ (x y z : Bool) (t out : List ℕ) where
+  pub tried-limit : x ≡ true → tried x y z t out ≡ record { answer = OverLimit; buffer = out }
+  tried-limit ex = rw ex
+
+  pub tried-utf8 : x ≡ false → y ≡ false → tried x y z t out ≡ record { answer = NotUtf8; buffer = out }
+  tried-utf8 ex ey = rw (ex, ey)
+
+  pub tried-nul : x ≡ false → y ≡ true → z ≡ true → tried x y z t out ≡ record { answer = HoldsNul; buffer = out }
+  tried-nul ex ey ez = rw (ex, ey, ez)
+
+  pub tried-writes : x ≡ false → y ≡ true → z ≡ false → tried x y z t out ≡ writes t out
+  tried-writes ex ey ez = rw (ex, ey, ez)
+
+-- put where there is room; where there is none, its length is asked for
+module _ (t out : List ℕ) where
+  pub writes-all : length t ≤ length out → writes t out ≡ record { answer = Written (length t); buffer = t ++ drop (length t) out }
+  unfolding filled
+  writes-all h = rw (le-leb (length t) (length out) h)
+
+  pub writes-none : length out < length t → writes t out ≡ record { answer = NoRoom (length t); buffer = out }
+  unfolding filled
+  writes-none h = rw (lt-leb (length t) (length out) h)
 
 -- one that wrote has passed the tests
 pub record Passed (x y z : Bool) : Type 0 where

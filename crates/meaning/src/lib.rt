@@ -175,7 +175,7 @@ pub enum Writing {
     NoRoom { needed: usize },
 }
 
-// A spelling that keeps a value's control characters visible: E'..' or U&'..'.
+// A spelling of a value that leaves no byte below 20 hex, E'..', or none outside 20 to 7E, U&'..'.
 pub enum Form {
     Escape,
     Unicode,

@@ -1,20 +1,21 @@
--- What the writer answers, test by test. Assumes nothing.
+-- What the writer answers behind its tests. Assumes nothing.
 use mathlib.Core.Path.{_≡_, refl, ap, sym, _∙_}
-use mathlib.Core.Bool.{Bool, true, false, not}
-use mathlib.Core.List.{List, [], _∷_}
+use mathlib.Core.Bool.{Bool, true, false}
+use mathlib.Core.List.{List, [], _∷_, _++_}
 use Prim.Native.Nat.{ℕ, _+_, _*_, _≤_, _<_}
 use native.Mathlib.Omega.{arith}
 use lib.ListN.{length, take, drop, drop-of-length-le}
 use lib.Seq.{take-all}
-use borrow.Author.Tests.{le-leb, lt-leb, ltb-false, not-false}
+use borrow.Author.Tests.{ltb-false}
 use Rattle.meaning.specs.declared.Settings.{Settings}
 use Rattle.meaning.specs.declared.PartSize.{PartSize}
 use Rattle.meaning.specs.declared.PartSize.the-variants.{Whole, AtMost}
-use Rattle.meaning.specs.declared.Writing.the-variants.{Written, OverLimit, NotUtf8, HoldsNul, NoRoom}
+use Rattle.meaning.specs.declared.Writing.the-variants.{Written, NoRoom}
 use Rattle.meaning.specs.Bytes.{has}
 use Rattle.meaning.specs.Chars.{utf8}
-use Rattle.meaning.specs.Answers.{Meets, filled}
+use Rattle.meaning.specs.Answers.{Meets}
 use Rattle.meaning.specs.Writer.{literals, partsFrom, partsOf, partTooSmall, overLimit, unwritableNul, writtenText, writeQuestion}
+use Rattle.laws.proofs.Writers.{Passed, writes-all, writes-none}
 use Rattle.laws.proofs.WriterParts.{concat, partsFrom-fills, partsFrom-concat, Accepted, accepted-writes, limit-length, limit-size}
 use Rattle.laws.proofs.WriterText.{costs, literal-length, literals-length, writtenText-fits}
 use Rattle.laws.proofs.PartEnds.{first-ends}
@@ -23,6 +24,7 @@ use Rattle.writer.specs.declared.lengths.Measured.{Measured}
 use Rattle.writer.specs.Texts.{Spellable, PutBytes, measuredBy}
 use Rattle.writer.specs.Parts.{others, limitOf, laterParts, Cuttable, FitsInParts}
 use Rattle.writer.proofs.PartWriting.{plain-text}
+use Rattle.writer.proofs.Refusing.{met}
 
 -- A NUL that no text can spell
 pub nul-spelled : (σ : Settings) (v : List ℕ) → σ .backslash ≡ true → false ≡ unwritableNul σ v
@@ -33,24 +35,8 @@ pub nul-unspelled : (σ : Settings) (v : List ℕ) (x : Bool) → σ .backslash 
 unfolding unwritableNul
 nul-unspelled σ v x e f = rw (e, f)
 
--- REFUSALS, in the order of the tests
-module _ (σ : Settings) (size : PartSize) (v out : List ℕ) (x : Bool) (ex : x ≡ overLimit size v) where
-  pub over-limit : x ≡ true → Meets (writeQuestion σ size v out) OverLimit out
-  unfolding writeQuestion
-  over-limit h = rw (sym ex ∙ h) (record { answer = refl; buffer = refl })
-
-  module _ (nx : x ≡ false) (y : Bool) (ey : y ≡ utf8 v) where
-    pub not-utf8 : not y ≡ true → Meets (writeQuestion σ size v out) NotUtf8 out
-    unfolding writeQuestion
-    not-utf8 h = rw (sym ex ∙ nx, sym (ap not ey) ∙ h) (record { answer = refl; buffer = refl })
-
-    module _ (ny : not y ≡ false) (z : Bool) (ez : z ≡ unwritableNul σ v) where
-      pub holds-nul : z ≡ true → Meets (writeQuestion σ size v out) HoldsNul out
-      unfolding writeQuestion
-      holds-nul h = rw (sym ex ∙ nx, sym (ap not ey) ∙ ny, sym ez ∙ h) (record { answer = refl; buffer = refl })
-
-      pub accepted : z ≡ false → Accepted σ size v
-      accepted h = record { limit = sym ex ∙ nx; valid = sym ey ∙ not-false y ny; nul = sym ez ∙ h }
+pub accepted : (σ : Settings) (size : PartSize) (v : List ℕ) → Passed (overLimit size v) (utf8 v) (unwritableNul σ v) → Accepted σ size v
+accepted σ size v p = record { limit = p .limit; valid = p .valid; nul = p .nul }
 
 -- ACCEPTED: the text is measured, and written where there is room
 wide : (size : PartSize) → partTooSmall size ≡ false → 4 ≤ limitOf size
@@ -115,17 +101,17 @@ module _ {σ : Settings} {size : PartSize} {v : List ℕ} (a : Accepted σ size 
 
       module _ (out : List ℕ) where
         pub no-room : length out < m .len + 3 * k → Meets (writeQuestion σ size v out) (NoRoom (m .len + 3 * k)) out
-        unfolding filled
         no-room h =
-            rw (accepted-writes σ size v out a, lt-leb (length (writtenText σ size v)) (length out) (omega (arith, needed)))
-            (record { answer = ap NoRoom needed; buffer = refl })
+            rw needed
+            (met (writeQuestion σ size v out) (NoRoom (length (writtenText σ size v))) out
+            (accepted-writes σ size v out a ∙ writes-none (writtenText σ size v) out (omega (arith, needed))))
 
         module _ (h : m .len + 3 * k ≤ length out) where
           pub text-fits : FitsInParts w (σ .backslash) (m .whole) v (length out)
           text-fits = record { cuttable = cuttable; copied = λ x. ap (λ (y : Measured). y .whole) (sym em) ∙ x; room = omega (arith, needs) }
 
           pub text-written : {n : ℕ} {after : List ℕ} → PutBytes text out n after → Meets (writeQuestion σ size v out) (Written (m .len + 3 * k)) after
-          unfolding filled
           text-written p =
-              rw (accepted-writes σ size v out a, le-leb (length (writtenText σ size v)) (length out) (omega (arith, needed)))
-              (record { answer = ap Written needed; buffer = rw text-is at (p .buffer) })
+              rw (needed, p .buffer, text-is)
+              (met (writeQuestion σ size v out) (Written (length (writtenText σ size v))) (writtenText σ size v ++ drop (length (writtenText σ size v)) out)
+              (accepted-writes σ size v out a ∙ writes-all (writtenText σ size v) out (omega (arith, needed))))

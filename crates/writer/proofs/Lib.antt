@@ -5,6 +5,7 @@ pub mod Putting
 pub mod Spelled
 pub mod Measuring
 pub mod Writings
+pub mod Refusing
 pub mod FormAnswers
 pub mod Parting
 pub mod PartWriting

@@ -8,7 +8,7 @@ use native.Mathlib.Omega.{arith}
 use lib.Dec.{eqb, leb}
 use lib.ListN.{length, getD, take, drop, length-append, length-take, length-drop, take-append-drop}
 use lib.Seq.{take-suc, take-all, take-length, drop-length, drop-drop, getD-drop}
-use borrow.Author.Tests.{leb-true, le-ltb, ne-eqb, not-true}
+use borrow.Author.Tests.{leb-true, ne-eqb, not-true}
 use Rattle.meaning.specs.declared.Form.{Form}
 use Rattle.meaning.specs.declared.Form.the-variants as Form′
 use Rattle.meaning.specs.Bytes.{if_then_else_, has, quote, backslash}
@@ -19,15 +19,16 @@ use Rattle.meaning.specs.Forms.{formStep}
 use Rattle.leaves.specs.Blocks.{passes}
 use Rattle.laws.proofs.Tests.{and-left, and-right}
 use Rattle.laws.proofs.WriterText.{cost, costs, spells-length}
-use Rattle.laws.proofs.FormUnits.{formCost, formCosts, Itself, Units, over, itself, spelled}
+use Rattle.laws.proofs.FormUnits.{formCost, formCosts}
 use Rattle.laws.proofs.FormSpelling.{units-of}
+use Rattle.laws.proofs.FormText as FormText′
 use Rattle.writer.specs.declared.manners.Manner.{Manner}
 use Rattle.writer.specs.declared.manners.Manner.the-variants.{Plain, Escape, Unicode}
 use Rattle.writer.specs.declared.manners.Kept.{Kept}
 use Rattle.writer.specs.declared.lengths.Measured.{Measured}
 use Rattle.writer.specs.Manners.{mannerOf, keptBy, keeps, stepBy, costBy, costsBy, openingBy, unitsBy, textBy}
 use Rattle.writer.specs.Texts.{Spellable, allKept, measuredBy}
-use Rattle.writer.proofs.Steps.{letter-none, kept-step}
+use Rattle.writer.proofs.Steps.{kept-step}
 use Rattle.writer.proofs.Costs.{byte-cost-most}
 
 -- WHAT BYTES COST: eight each at the most
@@ -150,25 +151,7 @@ pub form-units : (f : Form) (v : List ℕ) → unitsBy (mannerOf f) v ≡ value 
 unfolding unitsBy
 form-units f v = ap value (walk-same (stepBy (mannerOf f)) (formStep f) (form-step f) 0 v)
 
--- ITS LENGTH
-itself-cost : (f : Form) (b : ℕ) → Itself f b → formCost f b ≡ 1
-unfolding formCost
-itself-cost Form′.Escape b i =
-    let h = leb-true 0x20 b (i .visible) in
-    let l = letter-none b (λ e. omega arith) (λ e. omega arith) (λ e. omega arith) (λ e. omega arith) (λ e. omega arith) in
-    rw (i .single, l, le-ltb b 0x20 h)
-itself-cost Form′.Unicode b i = rw (i .single, i .visible)
-
-form-append : (f : Form) (u v : List ℕ) → formCosts f (u ++ v) ≡ formCosts f u + formCosts f v
-form-append f [] v = omega arith
-form-append f (b ∷ u) v = omega (arith, form-append f u v)
-
-form-length : {f : Form} {v u : List ℕ} → Units f v u → length u ≡ formCosts f v
-form-length over = refl
-form-length {f} (itself {b = b} i r) = omega (arith, itself-cost f b i, form-length r)
-form-length {f} (spelled {p = p} {v = v} {out = out} {u = u} s r) = omega (arith, length-append out u, s .counted, form-length r, form-append f p v)
-
--- the costs, summed either way
+-- ITS LENGTH: the costs, summed either way
 plain-costs : (bs : Bool) (v : List ℕ) → costs bs v ≡ costsBy (Plain bs) v
 plain-costs bs [] = refl
 plain-costs bs (b ∷ v) = ap (cost bs b +_) (plain-costs bs v)
@@ -179,7 +162,7 @@ form-costs Form′.Escape (b ∷ v) = ap (formCost Form′.Escape b +_) (form-co
 form-costs Form′.Unicode (b ∷ v) = ap (formCost Form′.Unicode b +_) (form-costs Form′.Unicode v)
 
 form-spelled : (f : Form) (v : List ℕ) → utf8 v ≡ true → not (has 0 v) ≡ true → length (unitsBy (mannerOf f) v) ≡ costsBy (mannerOf f) v
-form-spelled f v valid free = ap length (form-units f v) ∙ form-length (units-of f v valid (not-true (has 0 v) free)) ∙ form-costs f v
+form-spelled f v valid free = ap length (form-units f v) ∙ FormText′.units-length (units-of f v valid (not-true (has 0 v) free)) ∙ form-costs f v
 
 pub units-length : (m : Manner) (v : List ℕ) → Spellable m v → length (unitsBy m v) ≡ costsBy m v
 units-length (Plain bs) v s = ap length (plain-units bs v) ∙ spells-length bs v ∙ plain-costs bs v

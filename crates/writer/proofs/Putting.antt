@@ -2,7 +2,7 @@
 use mathlib.Core.Path.{_≡_, refl, ap, sym, _∙_}
 use mathlib.Core.Bool.{Bool, true, false}
 use mathlib.Core.List.{List, [], _∷_, _++_, append-assoc}
-use Prim.Native.Nat.{ℕ, _+_, _≤_, _<_}
+use Prim.Native.Nat.{ℕ, _+_, _/_, _%_, _^_, _≤_, _<_}
 use native.Mathlib.Nat.{zero-add}
 use native.Mathlib.Omega.{arith}
 use lib.Dec.{leb}
@@ -11,7 +11,7 @@ use lib.ListN.{length, take, drop, set, length-append, length-drop}
 use lib.Seq.{sets, sets-eq, take-at, drop-at, drop-drop, length-take-le}
 use Rattle.meaning.specs.Bytes.{if_then_else_}
 use Rattle.meaning.specs.Answers.{filled}
-use Rattle.meaning.specs.Forms.{figures, unicodeFigures}
+use Rattle.meaning.specs.Forms.{figure, figures, unicodeFigures}
 use Rattle.laws.proofs.Figures.{figures-length}
 use Rattle.leaves.specs.Puts.{Puts}
 use Rattle.writer.specs.declared.manners.Manner.{Manner}
@@ -74,6 +74,14 @@ unicode-four c h = rw (le-leb c 0xFFFF h)
 pub unicode-six : (c : ℕ) → 0xFFFF < c → unicodeFigures c ≡ 92 ∷ 43 ∷ figures 16 6 c
 unfolding unicodeFigures
 unicode-six c h = rw (lt-leb c 0xFFFF h)
+
+-- of a byte two of the four digits are zeros
+pub unicode-low : (b : ℕ) → b < 128 → unicodeFigures b ≡ 92 ∷ 48 ∷ 48 ∷ figures 16 2 b
+unfolding figure
+unicode-low b h =
+    let z : b / 16 ^ 3 % 16 ≡ 0 = omega arith in
+    let y : b / 16 ^ 2 % 16 ≡ 0 = omega arith in
+    unicode-four b (omega arith) ∙ rw (z, y) refl
 
 pub unicode-some : (c : ℕ) → 0 < length (unicodeFigures c)
 unfolding unicodeFigures

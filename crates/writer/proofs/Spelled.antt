@@ -2,7 +2,7 @@
 use mathlib.Core.Path.{_≡_, refl, ap, sym, _∙_}
 use mathlib.Core.Bool.{Bool, true, false, _&&_, _||_, not, and-true, or-true, false≢true}
 use mathlib.Core.List.{List, [], _∷_}
-use Prim.Native.Nat.{ℕ, suc, _≤_, _<_}
+use Prim.Native.Nat.{ℕ, suc, _-_, _≤_, _<_}
 use native.Mathlib.Decide.{decLt}
 use native.Mathlib.Omega.{arith}
 use lib.Dec.{eqb, leb, ltb}
@@ -17,13 +17,16 @@ use Rattle.meaning.specs.Steps.{escapeTable}
 use Rattle.meaning.specs.Writer.{spell}
 use Rattle.meaning.specs.Forms.{figures, letterOf, isDoubled, escapeForm, unicodeFigures, unicodeForm}
 use Rattle.laws.proofs.Tests.{or-left, or-right}
+use Rattle.laws.proofs.Utf8.{low-lead}
+use Rattle.laws.proofs.FormText.{letter-none}
 use Rattle.scalars.specs.Scalars.{scalarFrom, scalarOf}
 use Rattle.writer.specs.declared.manners.Manner.{Manner}
 use Rattle.writer.specs.declared.manners.Manner.the-variants.{Plain, Escape, Unicode}
 use Rattle.writer.specs.declared.manners.Kept.{Kept}
 use Rattle.writer.specs.Manners.{keptBy, keeps, given, unitBy, letterFor}
-use Rattle.writer.specs.Texts.{UnitAt}
-use Rattle.writer.proofs.Steps.{letter-none, escape-keeps, unicode-keeps, doubled-lead}
+use Rattle.writer.specs.Texts.{UnitAt, PutBytes}
+use Rattle.writer.proofs.Putting.{put-same, unicode-low}
+use Rattle.writer.proofs.Steps.{escape-keeps, unicode-keeps, doubled-lead}
 
 -- the code's test for a byte that is doubled
 abbrev twice : ℕ → Bool
@@ -162,3 +165,24 @@ module _ {m : Manner} {v : List ℕ} {at n : ℕ} (u : UnitAt m v at n) where
   -- there is room for it
   pub at-room : {s : List ℕ} → unitBy m (drop at v) ≡ s → length s ≤ n
   at-room e = rw e at (u .room)
+
+-- A CHARACTER BY ITS NUMBER; an ASCII one is its own, of which two digits are zeros
+low-figures : (v : List ℕ) (at : ℕ) → at < length v → v ! at < 128 → unicodeFigures (scalarOf (drop at v)) ≡ 92 ∷ 48 ∷ 48 ∷ figures 16 2 (v ! at)
+low-figures v at h l =
+    let z : v ! at - 0 ≡ v ! at = omega arith in
+    rw (drop-cons v at 0 h, low-lead (v ! at) l, z) (unicode-low (v ! at) l)
+
+module _ (v : List ℕ) (at : ℕ) (h : at < length v) where
+  pub low-room : v ! at < 128 → (n : ℕ) → length (unicodeFigures (scalarOf (drop at v))) ≤ n → 5 ≤ n
+  low-room l n r = omega (arith, ap length (low-figures v at h l))
+
+  pub low-put : v ! at < 128 → (out : List ℕ) (r : ℕ) (after : List ℕ) → PutBytes (92 ∷ 48 ∷ 48 ∷ figures 16 2 (v ! at)) out r after
+      → PutBytes (unicodeFigures (scalarOf (drop at v))) out r after
+  low-put l out r after p = put-same (low-figures v at h l) p
+
+pub number-room : (v : List ℕ) (at c n : ℕ) → c ≡ scalarOf (drop at v) → length (unicodeFigures (scalarOf (drop at v))) ≤ n → length (unicodeFigures c) ≤ n
+number-room v at c n e r = rw e r
+
+pub number-put : (v : List ℕ) (at c : ℕ) → c ≡ scalarOf (drop at v) → (out : List ℕ) (r : ℕ) (after : List ℕ) → PutBytes (unicodeFigures c) out r after
+    → PutBytes (unicodeFigures (scalarOf (drop at v))) out r after
+number-put v at c e out r after p = rw (← e) p

@@ -1,11 +1,11 @@
 -- How one character is spelled, by whether its first byte stands for itself: the tests of the code beside those of the definitions. Assumes nothing.
-use mathlib.Core.Path.{_≡_, refl, ap, sym, _∙_}
+use mathlib.Core.Path.{_≡_, refl, sym, _∙_}
 use mathlib.Core.Bool.{Bool, true, false, _&&_, _||_, not, false≢true}
 use mathlib.Core.List.{List, [], _∷_}
-use Prim.Native.Nat.{ℕ, suc, _-_, _≤_, _<_}
+use Prim.Native.Nat.{ℕ, suc, _-_, _<_}
 use native.Mathlib.Omega.{arith}
 use lib.Dec.{eqb, leb, ltb}
-use borrow.Author.Tests.{leb-true, le-leb, le-ltb, ltb-false, ne-eqb, not-true}
+use borrow.Author.Tests.{leb-true, le-leb, le-ltb, ltb-false, not-true}
 use Rattle.meaning.specs.declared.Form.the-variants as Form′
 use Rattle.meaning.specs.Bytes.{if_then_else_, within, quote, backslash}
 use Rattle.meaning.specs.Chars.{Due, due, broken, fresh, lead, base, gather, width}
@@ -16,25 +16,10 @@ use Rattle.meaning.specs.Forms.{figures, letterOf, isDoubled, escapeForm, unico
 use Rattle.laws.proofs.Tests.{and-left, and-right, within-bounds}
 use Rattle.laws.proofs.Utf8.{low-lead}
 use Rattle.laws.proofs.Spellings.{twice}
+use Rattle.laws.proofs.FormText.{no-letter}
 use Rattle.writer.specs.declared.manners.Manner.{Manner}
 use Rattle.writer.specs.declared.manners.Manner.the-variants.{Plain, Escape, Unicode}
-use Rattle.writer.specs.Manners.{keptBy, keeps, stepBy, given, unitBy, widthBy}
-
--- no letter means a byte that has none in the table
-pub letter-none : (b : ℕ) → (b ≡ 8 → ⊥) → (b ≡ 9 → ⊥) → (b ≡ 10 → ⊥) → (b ≡ 12 → ⊥) → (b ≡ 13 → ⊥) → letterOf escapeTable b ≡ 256
-letter-none b p q r s t =
-    rw (
-      ne-eqb 8 b (λ e. p (sym e)),
-      ne-eqb 12 b (λ e. s (sym e)),
-      ne-eqb 10 b (λ e. r (sym e)),
-      ne-eqb 13 b (λ e. t (sym e)),
-      ne-eqb 9 b (λ e. q (sym e)),
-    )
-
-letter-high : (b : ℕ) → 0x20 ≤ b → ltb (letterOf escapeTable b) 256 ≡ false
-letter-high b h =
-    ap (λ (n : ℕ). ltb n 256)
-    (letter-none b (λ e. omega arith) (λ e. omega arith) (λ e. omega arith) (λ e. omega arith) (λ e. omega arith))
+use Rattle.writer.specs.Manners.{keptBy, keeps, stepBy, given, unitBy, unitWidth}
 
 -- WHICH BYTES A FORM KEEPS, by the definitions' tests
 pub escape-keeps : (b : ℕ) → keeps (keptBy Escape) b ≡ (leb 0x20 b && not (isDoubled b))
@@ -72,7 +57,7 @@ module _ (b : ℕ) where
       let k : (leb 0x20 b && not (isDoubled b)) ≡ true = sym (escape-keeps b) ∙ h in
       let l = leb-true 0x20 b (and-left (leb 0x20 b) (not (isDoubled b)) k) in
       let d = not-true (isDoubled b) (and-right (leb 0x20 b) (not (isDoubled b)) k) in
-      rw (d, letter-high b l, le-ltb b 0x20 l)
+      rw (d, no-letter b l, le-ltb b 0x20 l)
 
   abbrev escapeBy : Bool → Bool → Bool → Step
   escapeBy x y z =
@@ -140,7 +125,7 @@ kept-step Escape b v h = escape-kept b h
 kept-step Unicode b v h = unicode-kept b v h
 
 pub changed-step : (m : Manner) (b : ℕ) (v : List ℕ) → keeps (keptBy m) b ≡ false → (m ≡ Unicode → 0 < width b)
-    → stepBy m (b ∷ v) ≡ give (widthBy m b - 1) (unitBy m (b ∷ v))
+    → stepBy m (b ∷ v) ≡ give (unitWidth m b - 1) (unitBy m (b ∷ v))
 changed-step (Plain bs) b v h begins = rw h
 changed-step Escape b v h begins = escape-changed b h
 changed-step Unicode b v h begins = unicode-changed b v h (begins refl)

@@ -23,7 +23,7 @@ use Rattle.laws.proofs.Laying.{Laid, laid-none, laid-same, laid-all, laid-part,
 use Rattle.writer.specs.declared.manners.Manner.{Manner}
 use Rattle.writer.specs.declared.manners.Manner.the-variants.{Plain, Escape, Unicode}
 use Rattle.writer.specs.declared.manners.Kept.{Kept}
-use Rattle.writer.specs.Manners.{keptBy, keeps, stepBy, unitBy, widthBy, openingBy, unitsBy, textBy}
+use Rattle.writer.specs.Manners.{keptBy, keeps, stepBy, unitBy, unitWidth, openingBy, unitsBy, textBy}
 use Rattle.writer.specs.Texts.{Fits, UnitAt, PutBytes}
 use Rattle.writer.proofs.Steps.{changed-step}
 use Rattle.writer.proofs.Putting.{put-all}
@@ -71,9 +71,9 @@ kept-behind (suc n) (b ∷ t) h u =
 
 -- A UNIT at the front: its bytes are there, and behind them another character begins
 record Front (m : Manner) (b : ℕ) (t : List ℕ) : Type 0 where
-  some : 0 < widthBy m b
-  inside : widthBy m b ≤ length (b ∷ t)
-  behind : m ≡ Unicode → utf8 (drop (widthBy m b) (b ∷ t)) ≡ true
+  some : 0 < unitWidth m b
+  inside : unitWidth m b ≤ length (b ∷ t)
+  behind : m ≡ Unicode → utf8 (drop (unitWidth m b) (b ∷ t)) ≡ true
   begins : m ≡ Unicode → 0 < width b
 
 front : (m : Manner) (b : ℕ) (t : List ℕ) → (m ≡ Unicode → utf8 (b ∷ t) ≡ true) → Front m b t
@@ -90,10 +90,10 @@ front Unicode b t u =
     record { some = k .0; inside = first-fits b t (u refl); behind = λ e. k .1; begins = λ e. k .0 }
 
 unit-front : (m : Manner) (b : ℕ) (t : List ℕ) → keeps (keptBy m) b ≡ false → Front m b t
-    → unitsBy m (b ∷ t) ≡ unitBy m (b ∷ t) ++ unitsBy m (drop (widthBy m b) (b ∷ t))
+    → unitsBy m (b ∷ t) ≡ unitBy m (b ∷ t) ++ unitsBy m (drop (unitWidth m b) (b ∷ t))
 unfolding unitsBy
 unit-front m b t h f =
-    let w = widthBy m b in
+    let w = unitWidth m b in
     let z : suc (w - 1) ≡ w = omega (arith, f .some) in
     ap (λ (s : Step). value (after s b (λ n. walk (stepBy m) n t))) (changed-step m b t h (f .begins))
     ∙ ap (λ (r : Trace). unitBy m (b ∷ t) ++ value r) (walk-drop (stepBy m) (w - 1) t)
@@ -178,7 +178,7 @@ module _ {m : Manner} {v d out : List ℕ} {n at : ℕ} (p : Spelling m v d out 
     -- A UNIT, where a byte does not stand for itself
     module _ (x : keeps (keptBy m) (v ! at) ≡ false) where
       abbrev wide : ℕ
-      wide = widthBy m (v ! at)
+      wide = unitWidth m (v ! at)
 
       unit : Front m (v ! at) (drop (suc at) v)
       unit = front m (v ! at) (drop (suc at) v) (λ e. rw here at (p .valid e))

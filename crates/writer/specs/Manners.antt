@@ -46,10 +46,10 @@ given stop = []
 abbrev pub unitBy : Manner → List ℕ → List ℕ
 unitBy m v = given (stepBy m v)
 
-abbrev pub widthBy : Manner → ℕ → ℕ
-widthBy (Plain bs) b = 1
-widthBy Escape b = 1
-widthBy Unicode b = width b
+abbrev pub unitWidth : Manner → ℕ → ℕ
+unitWidth (Plain bs) b = 1
+unitWidth Escape b = 1
+unitWidth Unicode b = width b
 
 -- E's letter for a byte; 0: it has none
 unfoldable pub letterFor : ℕ → ℕ

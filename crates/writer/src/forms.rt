@@ -1,10 +1,12 @@
-// [02 T-01] A value as an E or a U& literal: its control characters are visible, and it reads back at either setting.
+// [02 T-01] A value as an E or a U& literal, which reads back at either setting: E leaves no byte below 20 hex, and U& none outside 20 to 7E.
 // "Refusals: 12, 4, 11 (any NUL, at either setting), 9, in that order."
 use crate::lengths::measure;
+use crate::literal::is_over_limit;
 use crate::manners::manner_of;
 use crate::texts::write_text;
 use leaves::texts::string_literal_embeds_nul;
 use meaning::Form;
+use meaning::PartSize;
 use meaning::Writing;
 use utf8::check::is_utf8;
 ghost use Rattle.meaning.specs.Answers.{Meets};
@@ -15,7 +17,7 @@ ghost use Rattle.meaning.specs.Forms.{formQuestion};
 pub fn write_form(value: &[u8], form: Form, out: &mut [u8]) -> Writing
     ensures { λ r. ⌜ Meets (formQuestion form (now (value .entry)) (now (out .entry))) r (now (out .exit)) ⌝ }
 {
-    if 268_435_456 < value.len() {
+    if is_over_limit(value, PartSize::Whole) {
         return Writing::OverLimit;
     }
     if !is_utf8(value) {

@@ -14,8 +14,8 @@ ghost use Rattle.meaning.specs.Answers.{Meets};
 ghost use Rattle.meaning.specs.Writer.{overLimit, unwritableNul, writeQuestion};
 
 // Whether a value is too long to be written, or the parts are too small.
-// Rules out: a limit one byte further (must-fail: quote_not_doubled).
-fn is_over_limit(value: &[u8], size: PartSize) -> bool
+// Rules out: a limit one byte further (must-fail: digits_in_lower_case).
+pub(crate) fn is_over_limit(value: &[u8], size: PartSize) -> bool
     ensures { λ r. ⌜ r ≡ overLimit size (now (value .entry)) ⌝ }
 {
     match size {
@@ -25,7 +25,7 @@ fn is_over_limit(value: &[u8], size: PartSize) -> bool
 }
 
 // Whether a value holds a NUL, which can be spelled with the setting on alone.
-// Rules out: a NUL written with the setting off (must-fail: quote_not_doubled).
+// Rules out: a NUL written with the setting off (must-fail: digits_in_lower_case).
 fn holds_unwritable_nul(value: &[u8], settings: Settings) -> bool
     ensures { λ r. ⌜ r ≡ unwritableNul settings (now (value .entry)) ⌝ }
 {

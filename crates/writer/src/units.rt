@@ -5,11 +5,12 @@ use scalars::reading::scalar_at;
 use scalars::reading::utf8_width;
 ghost use mathlib.Core.Path.{_≡_};
 ghost use mathlib.Core.List.{[], _∷_};
-ghost use Prim.Native.Nat.{_≤_};
+ghost use Prim.Native.Nat.{_≤_, _<_};
 ghost use lib.ListN.{length, drop};
 ghost use Rattle.meaning.specs.Bytes.{backslash};
 ghost use Rattle.meaning.specs.Forms.{figures, unicodeFigures};
-ghost use Rattle.writer.specs.Manners.{letterFor, unitBy, widthBy};
+ghost use Rattle.scalars.specs.Scalars.{scalarOf};
+ghost use Rattle.writer.specs.Manners.{letterFor, unitBy, unitWidth};
 ghost use Rattle.writer.specs.Texts.{PutBytes, UnitAt};
 
 // E's letter for a byte; 0: it has none.
@@ -62,6 +63,30 @@ fn put_scalar(scalar: u32, out: &mut [u8]) -> usize
     8
 }
 
+// An ASCII character's number: of its four digits two are zeros.
+fn put_low(byte: u8, out: &mut [u8]) -> usize
+    requires { ⌜ 5 ≤ length (now out) ⌝ }
+    ensures { λ r. ⌜ PutBytes (backslash ∷ 48 ∷ 48 ∷ figures 16 2 byte) (now (out .entry)) r (now (out .exit)) ⌝ }
+{
+    out[0] = 92;
+    out[1] = 48;
+    out[2] = 48;
+    put_figures(byte as u32, 16, &mut out[3..5]);
+    5
+}
+
+// The number of the character at a place. An ASCII one, as most control characters are, is put without looking further.
+fn put_character(value: &[u8], at: usize, out: &mut [u8]) -> usize
+    requires { ⌜ (at < length (now value)) × (length (unicodeFigures (scalarOf (drop at (now value)))) ≤ length (now out)) ⌝ }
+    ensures { λ r. ⌜ PutBytes (unicodeFigures (scalarOf (drop at (now (value .entry))))) (now (out .entry)) r (now (out .exit)) ⌝ }
+{
+    let byte = value[at];
+    if byte < 128 {
+        return put_low(byte, out);
+    }
+    put_scalar(scalar_at(value, at), out)
+}
+
 // Puts the spelling of the character at a place at the buffer's start, and says how long it is.
 // Rules out: a quote mark by a backslash; the byte spelled in place of the character.
 pub(crate) fn put_unit(value: &[u8], at: usize, manner: Manner, out: &mut [u8]) -> usize
@@ -81,13 +106,13 @@ pub(crate) fn put_unit(value: &[u8], at: usize, manner: Manner, out: &mut [u8]) 
             }
             put_octal(byte, out)
         }
-        Manner::Unicode => put_scalar(scalar_at(value, at), out),
+        Manner::Unicode => put_character(value, at, out),
     }
 }
 
 // How many bytes of the value the character at a byte has: in U& all of its own, elsewhere each byte is spelled alone.
 pub(crate) fn unit_width(byte: u8, manner: Manner) -> usize
-    ensures { λ r. ⌜ r ≡ widthBy manner byte ⌝ }
+    ensures { λ r. ⌜ r ≡ unitWidth manner byte ⌝ }
 {
     match manner {
         Manner::Plain { backslash: _ } => 1,

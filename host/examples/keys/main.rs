@@ -9,7 +9,7 @@
 //! `--doubles` leaves out the keys themselves, and still shows the rows that are refused.
 //!
 //! A control character of a key is shown as its number, `‹0A›`, and so is the mark itself, `‹2039›`: keys that differ look different. `--spell` shows each key as a literal that can be pasted into SQL,
-//! `E'a\nb'` or `U&'a\000Ab'`; a key with a NUL, which neither can spell, is shown as without it, behind `no literal:`.
+//! `E'a\nb'` or `U&'a\000Ab'`. A key with a control character from 7F to 9F hex, which E leaves as it is, is shown as U& by either. A key with a NUL, which neither can spell, is shown as without it, behind `no literal:`.
 //!
 //! The status is 0 if each row has a key, 1 if a row is refused, 2 if a list cannot be read.
 

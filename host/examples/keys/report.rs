@@ -10,7 +10,7 @@ use valdrabus::{to_escape, to_unicode};
 pub enum Look {
     /// As they are, control characters by their numbers, between marks.
     Marked,
-    /// As `E'..'`.
+    /// As `E'..'`; as `U&'..'` where that would leave a control character as it is.
     Escape,
     /// As `U&'..'`.
     Unicode,
@@ -76,14 +76,19 @@ fn products<'r>(rows: &'r [Row<'_>]) -> Vec<(&'r [u8], Vec<usize>)> {
     products
 }
 
-/// A key as it can stand in a line. One that cannot be spelled, since it holds a NUL, is marked, behind words that no literal begins with: so no two keys look alike.
+/// A key as it can stand in a line. One that cannot be spelled, since it holds a NUL, is marked, behind words that no literal begins with: no two keys are shown by the same text.
 fn shown(key: &[u8], look: Look) -> String {
     let spelled = match look {
         Look::Marked => return marked(key),
-        Look::Escape => to_escape(key),
-        Look::Unicode => to_unicode(key),
+        Look::Escape if !leaves_control(key) => to_escape(key),
+        Look::Escape | Look::Unicode => to_unicode(key),
     };
     spelled.unwrap_or_else(|_| format!("no literal: {}", marked(key)))
+}
+
+/// Whether a key holds a control character that E leaves as it is: 7F to 9F hex.
+fn leaves_control(key: &[u8]) -> bool {
+    String::from_utf8_lossy(key).chars().any(|next| next.is_control() && next >= '\x7F')
 }
 
 /// Control characters by their numbers, between marks. The opening mark is shown so too, so that no two keys look alike.

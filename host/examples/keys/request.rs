@@ -1,7 +1,7 @@
 //! What the command line asks for.
 
 use crate::report::Look;
-use std::ffi::OsString;
+use std::ffi::{OsStr, OsString};
 use std::path::PathBuf;
 use valdrabus::Settings;
 
@@ -30,7 +30,7 @@ pub fn request(words: impl IntoIterator<Item = OsString>) -> Result<Request, Str
         match word.as_encoded_bytes() {
             b"--backslash" => request.settings = Settings::MYSQL,
             b"--doubles" => request.doubles_only = true,
-            b"--spell" => request.look = look(words.next())?,
+            b"--spell" => request.look = look(words.next().as_deref())?,
             b"--" => request.files.extend(words.by_ref().map(PathBuf::from)),
             [b'-', _, ..] => return Err(format!("no option {}\n{USAGE}", PathBuf::from(word).display())),
             _ => request.files.push(word.into()),
@@ -43,8 +43,8 @@ pub fn request(words: impl IntoIterator<Item = OsString>) -> Result<Request, Str
 }
 
 /// The look that the word behind `--spell` names.
-fn look(word: Option<OsString>) -> Result<Look, String> {
-    match word.as_ref().map(|word| word.as_encoded_bytes()) {
+fn look(word: Option<&OsStr>) -> Result<Look, String> {
+    match word.map(OsStr::as_encoded_bytes) {
         Some(b"escape") => Ok(Look::Escape),
         Some(b"unicode") => Ok(Look::Unicode),
         _ => Err(format!("--spell is followed by neither escape nor unicode\n{USAGE}")),

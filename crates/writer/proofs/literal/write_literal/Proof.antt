@@ -4,7 +4,9 @@ use native.Mathlib.Omega.{arith}
 use borrow.Author.Needs.{needs}
 use denote.Ref.{now}
 use Rattle.laws.proofs.WriterParts.{Accepted}
-use Rattle.writer.proofs.Answering.{over-limit, not-utf8, holds-nul, accepted, spellable, cuttable, needed-small, no-room, text-fits, text-written}
+use Rattle.meaning.specs.Writer.{writeQuestion}
+use Rattle.writer.proofs.Refusing.{over-limit, not-utf8, holds-nul, all-passed}
+use Rattle.writer.proofs.Answering.{accepted, spellable, cuttable, needed-small, no-room, text-fits, text-written}
 use Rattle.writer.proofs.literal.write_literal.Statement.{statement}
 use Rattle.writer.proofs.literal.write_literal.Tie as tie
 
@@ -12,23 +14,26 @@ is-over-limit-requires : tie.Need-is-over-limit-requires
 is-over-limit-requires c κs = search needs
 
 returns : tie.Need-returns
+unfolding writeQuestion
 returns c = search over-limit
 
 is-utf8-requires : tie.Need-is-utf8-requires
 is-utf8-requires c κs = search needs
 
 returns-2 : tie.Need-returns-2
+unfolding writeQuestion
 returns-2 c = search not-utf8
 
 holds-unwritable-nul-requires : tie.Need-holds-unwritable-nul-requires
 holds-unwritable-nul-requires c κs = search needs
 
 returns-3 : tie.Need-returns-3
+unfolding writeQuestion
 returns-3 c = search holds-nul
 
 -- behind the tests
 passed : (c : tie.Else3) → let a = c .before .before .before .before .before .before .before .before .args in Accepted (a .settings) (a .size) (now (a .value))
-passed c = search accepted
+passed c = search (accepted, all-passed)
 
 part-limit-requires : tie.Need-part-limit-requires
 part-limit-requires c κs = search needs

@@ -1,11 +1,12 @@
 -- `writer::units::put_unit` meets its contract: the tests are the definition's, and each arm puts what `UnitAt` makes of them. Assumes nothing.
-use mathlib.Core.Path.{_≡_}
+use mathlib.Core.Path.{_≡_, refl}
 use mathlib.Core.List.{List, [], _∷_}
 use Prim.Native.Nat.{ℕ}
 use denote.Ref.{now}
 use lib.ListN.{drop}
 use Rattle.meaning.specs.Bytes.{_!_}
 use Rattle.meaning.specs.Forms.{figures, unicodeFigures}
+use Rattle.scalars.specs.Scalars.{scalarOf}
 use Rattle.writer.specs.Manners.{unitBy}
 use Rattle.writer.proofs.Putting.{put-same}
 use Rattle.writer.proofs.Spelled.{at-doubled, at-nul, at-letter, at-octal, at-scalar, at-room}
@@ -39,10 +40,10 @@ octal c =
     let i = l .before .before .before in
     at-octal (i .before .before .before .before .pre) (i .if1 .left) (l .before .enum-told2 .given .1) _ (l .escape-letter .ensures) (c .if2 .left)
 
-scalar : (c : tie.After-scalar-at) → unit (c .before .before .before .before .before .before .before) ≡ unicodeFigures (c .scalar-at .result)
-scalar c =
-    let i = c .before .before .before in
-    at-scalar (i .before .before .before .before .pre) (i .if1 .left) (c .before .enum-told3 .given .1) _ (c .scalar-at .ensures)
+number : (c : tie.After-enum-told3) → let s = c .before .before .before .before .before .before in unit s ≡ unicodeFigures (scalarOf (drop (s .args .at) (now (s .args .value))))
+number c =
+    let i = c .before .before in
+    at-scalar (i .before .before .before .before .pre) (i .if1 .left) (c .enum-told3 .given .1) _ refl
 
 shared-slice-read-byte : tie.Need-shared-slice-read-byte
 shared-slice-read-byte c = search needs
@@ -83,11 +84,10 @@ put-octal-requires c κs = at-room (c .before .before .before .before .before .b
 enum-told-3 : tie.Need-enum-told-3
 enum-told-3 c = search needs
 
-scalar-at-requires : tie.Need-scalar-at-requires
-scalar-at-requires c κs = search needs
-
-put-scalar-requires : tie.Need-put-scalar-requires
-put-scalar-requires c κs = at-room (c .before .before .before .before .before .before .before .before .pre) (scalar (c .before))
+put-character-requires : tie.Need-put-character-requires
+put-character-requires c κs =
+    let s = c .before .before .before .before .before .before .before in
+    (s .pre .inside, at-room (s .pre) (number (c .before)))
 
 same-length-3 : tie.Need-same-length-3
 same-length-3 c = search needs
@@ -105,7 +105,7 @@ same-length-5 : tie.Need-same-length-5
 same-length-5 c = search needs
 
 returns-5 : tie.Need-returns-5
-returns-5 c = put-same (scalar (c .before .before .before .before)) (c .before .before .put-scalar .ensures)
+returns-5 c = put-same (number (c .before .before .before .before)) (c .before .before .put-character .ensures)
 
 pub put-unit-spec : {M : Type 1} → statement M
 put-unit-spec =
@@ -124,8 +124,7 @@ put-unit-spec =
     returns-2
     put-octal-requires
     enum-told-3
-    scalar-at-requires
-    put-scalar-requires
+    put-character-requires
     same-length-3
     returns-3
     same-length-4
