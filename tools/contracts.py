@@ -29,16 +29,22 @@ def edits():
 
 
 def unfit():
-    """the edits of which a text to be replaced does not stand in its file just once"""
+    """the edits of which a text to be replaced does not stand in its file just once, the edit's texts before it replaced"""
     for edit in edits():
-        crate, path = edit.split('/')[1], ''
+        crate, name, old, files = edit.split('/')[1], '', '', {}
         with open(edit) as f:
             for line in f.read().split('\n'):
                 if line.startswith('file: '):
-                    with open(f'crates/{crate}/{line[6:]}') as g:
-                        path = g.read()
-                elif line.startswith('old: ') and path.count(line[5:]) != 1:
-                    yield f'{edit}: {line}: {path.count(line[5:])} times'
+                    name = line[6:]
+                    if name not in files:
+                        with open(f'crates/{crate}/{name}') as g:
+                            files[name] = g.read()
+                elif line.startswith('old: '):
+                    old = line[5:]
+                    if files[name].count(old) != 1:
+                        yield f'{edit}: {line}: {files[name].count(old)} times'
+                elif line.startswith('new: '):
+                    files[name] = files[name].replace(old, line[5:], 1)
 
 
 def wrong_programs():
