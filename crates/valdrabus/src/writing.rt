@@ -55,7 +55,7 @@ pub extern "C" fn valdrabus_write_parts(
 }
 
 // A value as an E literal. No number is given that could name nothing, so it never answers 10.
-// Rules out: an empty value written; U& for E (must-fail: first_of_each, second_of_each).
+// Rules out: U& for E; an empty value written (must-fail: first_of_each, second_of_each).
 #[no_mangle]
 pub extern "C" fn valdrabus_write_escape(value: &[u8], out: &mut [u8], len: &mut usize) -> u32
     ensures { λ r. ⌜ Lengths (formCall Escape (now (value .entry)) (now (out .entry))) r (now (len .exit)) (now (out .exit)) ⌝ }

@@ -25,7 +25,7 @@ pub(crate) fn is_over_limit(value: &[u8], size: PartSize) -> bool
 }
 
 // Whether a value holds a NUL, which can be spelled with the setting on alone.
-// Rules out: a NUL written with the setting off (must-fail: digits_in_lower_case).
+// Rules out: a value without NUL refused (must-fail: digits_in_lower_case).
 fn holds_unwritable_nul(value: &[u8], settings: Settings) -> bool
     ensures { λ r. ⌜ r ≡ unwritableNul settings (now (value .entry)) ⌝ }
 {
