@@ -110,7 +110,7 @@ def lines(name):
 
 
 def listed(name):
-    """(stratum, row) of oracle.tsv or clarified.tsv; the records are no question's, and `litrec` answers them"""
+    """(stratum, row) of oracle.tsv, clarified.tsv or parts.tsv; the records are no question's, and `litrec` answers them"""
     for identity, question, kind, setting, start, end, source, room, answer in lines(name):
         if question == 'record':
             continue
@@ -204,9 +204,9 @@ def written_forms():
             yield identity, form, value, unhex(text)
 
 
-def form_read(form, value, text):
+def read_back(opening, value, text):
     """what a written text means as a string: borrowed where nothing in it was spelled otherwise"""
-    start, end = len(OPENING[form]), len(text) - 1
+    start, end = len(opening), len(text) - 1
     return f'b {start} {end}' if text[start:end] == value else f'w {value.hex()}'
 
 
@@ -218,10 +218,27 @@ def forms_asked():
                 yield f'forms, {form}', Row(f'forms {identity}, {form}', 'form', number, 0, 0, 0, value, answer, room)
     for identity, form, value, text in written_forms():
         for setting in (0, 1):
-            yield 'forms, read back', Row(f'forms {identity}, {form}, setting {setting}', 'string', 4, setting, 0, len(text), text, form_read(form, value, text))
+            yield 'forms, read back', Row(f'forms {identity}, {form}, setting {setting}', 'string', 4, setting, 0, len(text), text, read_back(OPENING[form], value, text))
     for question in ('evalid', 'uvalid'):
         for identity, form, _, text in written_forms():
             yield f'forms, {question}', Row(f'forms {identity}, {form}, {question}', question, 0, 0, 0, 0, text, 'yes')
+
+
+def written_parts():
+    """(id, setting, value, text) of what parts.tsv says is written, each once"""
+    met = set()
+    for identity, question, _, setting, _, _, value, _, answer in lines('parts'):
+        case, _, text = answer.partition(' ')
+        if question == 'writer' and case == 'w' and (setting, text) not in met:
+            met.add((setting, text))
+            yield identity, setting, unhex(value), unhex(text)
+
+
+def parts_asked():
+    """(stratum, row) of parts.tsv: each row; each written text read back at its setting"""
+    yield from listed('parts')
+    for identity, setting, value, text in written_parts():
+        yield 'parts, read back', Row(f'parts {identity}, read back', 'string', 4, setting, 0, len(text), text, read_back("'", value, text))
 
 
 def all_rows():
@@ -231,6 +248,7 @@ def all_rows():
     yield from sequences()
     yield from readable('examples')
     yield from forms_asked()
+    yield from parts_asked()
 
 
 def blocks(rows):

@@ -27,7 +27,7 @@
 //! - [`Literal`]: a kind and a span; the questions are its methods. [`InBytes`]: the same over bytes that may not be UTF-8.
 //! - [`Text`]: an answer that is a part of the source, or written into the buffer that was lent.
 //! - [`Error`]: why a call is refused, with its number. A refusal leaves the buffer as it was.
-//! - [`write_literal`], [`write_parts`]: values as plain literals. [`write_escape`], [`write_unicode`]: values as `E'..'` and `U&'..'`, in which no byte is below 20 hex. [`to_literal`],
+//! - [`write_literal`], [`write_parts`]: values as plain literals, whole or in parts. [`write_escape`], [`write_unicode`]: values as `E'..'` and `U&'..'`, in which no byte is below 20 hex. [`to_literal`],
 //!   [`to_parts`], [`to_escape`], [`to_unicode`]: the same into texts of their own.
 //! - [`split_radix_prefix`] and the other functions: helpers on bare text.
 //!

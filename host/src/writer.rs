@@ -23,13 +23,24 @@ pub fn write_literal(value: impl AsRef<[u8]>, settings: Settings, out: &mut [u8]
     write(value.as_ref(), Spelling::Plain(settings), out)
 }
 
-/// A value in parts of at most `part_size` bytes of the value, cut between characters, with a space between. The parts read back as the whole value at the same setting.
-/// Refusals: 12, 4, 11, 9, tested in this order.
+/// A value in parts of at most `part_size` bytes of the value, cut between characters, with one line feed between each two, as PostgreSQL wants it. The parts read back as the whole value at the same
+/// setting. Refusals: 12, 4, 11, 9, tested in this order.
 ///
 /// ```
 /// use valdrabus::{Settings, write_parts};
 /// let mut out = [0; 16];
-/// assert_eq!(write_parts("éééé", 5, Settings::STANDARD, &mut out)?, "'éé' 'éé'");
+/// assert_eq!(write_parts("éééé", 5, Settings::STANDARD, &mut out)?, "'éé'\n'éé'");
+/// # Ok::<(), valdrabus::Error>(())
+/// ```
+///
+/// So the text spans lines, and a list of one literal a line, as the example `keys` reads it, would take each part for a row. Into such a list goes [`write_literal`]'s text, if the value holds no line
+/// feed, or [`write_escape`]'s or [`write_unicode`]'s, whatever it holds. The parts of a value that holds none may also stand in one line, a space for each line feed: any white space joins them.
+///
+/// ```
+/// use valdrabus::{Kind, Literal, Settings, to_parts};
+/// let row = to_parts("Paracetamol 500 mg", 8, Settings::STANDARD)?.replace('\n', " ");
+/// assert_eq!(row, "'Paraceta' 'mol 500 ' 'mg'");
+/// assert_eq!(Literal::whole(Kind::String, &row).expect("a short row").to_str(&row)?, "Paracetamol 500 mg");
 /// # Ok::<(), valdrabus::Error>(())
 /// ```
 pub fn write_parts(
@@ -53,6 +64,12 @@ pub fn to_literal(value: impl AsRef<[u8]>, settings: Settings) -> Result<String,
 }
 
 /// As [`write_parts`], into a text of its own. Refusals: 12, 4, 11.
+///
+/// ```
+/// use valdrabus::{Settings, to_parts};
+/// assert_eq!(to_parts("Bob's balm", 5, Settings::STANDARD)?, "'Bob''s'\n' balm'");
+/// # Ok::<(), valdrabus::Error>(())
+/// ```
 pub fn to_parts(value: impl AsRef<[u8]>, part_size: usize, settings: Settings) -> Result<String, Error> {
     written(value.as_ref(), Spelling::Parts(part_size, settings))
 }

@@ -11,7 +11,7 @@ use report::Look;
 use std::collections::HashSet;
 use std::ffi::OsString;
 use std::os::unix::ffi::OsStringExt;
-use valdrabus::Settings;
+use valdrabus::{Settings, to_escape, to_literal, to_parts, to_unicode};
 
 fn read(name: &str) -> String {
     let path = format!("{}/lists/{name}", env!("CARGO_MANIFEST_DIR"));
@@ -64,6 +64,23 @@ fn a_row_that_cannot_be_read_stops_nothing() {
     assert_eq!(report::refused(&rows).lines().collect::<Vec<_>>(), said[1..3]);
     let doubles = "doubled: a, on lines 1, 8\n3 products with doubles, 2 without; 1 doubled; 2 rows refused\n";
     assert_eq!(report::doubles(&rows, Look::Marked), doubles);
+}
+
+/// The writer puts a line feed between parts, so each would be a row; whole, as E or U&, or in one line the name is one.
+#[test]
+fn a_name_in_parts_is_put_on_one_line() {
+    let name = "Paracetamol 500 mg";
+    let parts = to_parts(name, 8, Settings::STANDARD).expect("a short name");
+    assert_eq!(keys(&parts), Ok("     1  Paraceta\n     2  mol 500 \n     3  mg\n".to_string()));
+    let rows = [
+        to_literal(name, Settings::STANDARD),
+        to_escape(name),
+        to_unicode(name),
+        Ok(parts.replace('\n', " ")),
+    ];
+    for row in rows.map(|row| row.expect("a short name")) {
+        assert_eq!(keys(&row), Ok(format!("     1  {name}\n")), "{row}");
+    }
 }
 
 #[test]

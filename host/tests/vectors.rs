@@ -1,5 +1,5 @@
-//! Every row of `vectors/` that a caller of this crate can ask: the Rust original's own answers, how document 01 is read, and the facts of the writers' two forms. docs/VECTORS.md says what a row
-//! holds.
+//! Every row of `vectors/` that a caller of this crate can ask: the Rust original's own answers, how document 01 is read, and the facts of the writers' two forms and of values in parts.
+//! docs/VECTORS.md says what a row holds.
 
 mod common;
 
@@ -79,15 +79,16 @@ impl Row {
         self.answer.strip_prefix("w ").map(unhex)
     }
 
-    fn is_form(&self) -> bool {
-        self.question == "escape" || self.question == "unicode"
+    /// Whether a value is written; then the room is the buffer's length.
+    fn is_writers(&self) -> bool {
+        ["writer", "escape", "unicode"].contains(&self.question.as_str())
     }
 
-    /// The lengths of the buffers to lend. A borrowed answer and a refusal need none, and must leave any. A form that is written is also lent just what it needs, and a byte less.
+    /// The lengths of the buffers to lend. A borrowed answer and a refusal need none, and must leave any. A value that is written is also lent just what it needs, and a byte less.
     fn lengths(&self) -> Vec<usize> {
         match (self.room.parse::<isize>(), self.value()) {
-            (Ok(room), Some(value)) if self.is_form() => vec![room as usize, value.len(), value.len() - 1],
-            (Ok(room), _) if self.question == "writer" || self.is_form() => vec![room as usize],
+            (Ok(room), Some(value)) if self.is_writers() => vec![room as usize, value.len(), value.len() - 1],
+            (Ok(room), _) if self.is_writers() => vec![room as usize],
             (Ok(room), Some(value)) => vec![value.len().checked_add_signed(room).expect("a length")],
             _ => vec![0, 64],
         }
@@ -226,8 +227,14 @@ fn allocated(row: &Row, text: &str) -> Option<String> {
         "bits" => row.literal().to_bit_text(text),
         "temporal" => row.literal().to_temporal_text(text),
         "ident" => to_unicode_ident(text),
-        "escape" if !row.answer.starts_with("r 9") => to_escape(text).map(Cow::Owned),
-        "unicode" if !row.answer.starts_with("r 9") => to_unicode(text).map(Cow::Owned),
+        _ if row.answer.starts_with("r 9") => return None,
+        "writer" => match row.start.parse() {
+            Ok(size) => to_parts(text, size, row.setting),
+            Err(_) => to_literal(text, row.setting),
+        }
+        .map(Cow::Owned),
+        "escape" => to_escape(text).map(Cow::Owned),
+        "unicode" => to_unicode(text).map(Cow::Owned),
         _ => return None,
     };
     Some(match answer {
@@ -271,4 +278,9 @@ fn how_document_01_is_read() {
 #[test]
 fn the_facts_of_the_two_forms() {
     assert_eq!(replay("forms"), 2 * (60 + 28));
+}
+
+#[test]
+fn the_facts_of_values_in_parts() {
+    assert_eq!(replay("parts"), 31 + 11);
 }

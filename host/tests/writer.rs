@@ -21,9 +21,19 @@ fn quotes_backslashes_and_nul() {
 fn parts_hold_whole_characters() {
     assert_eq!(to_parts("", 4, Settings::STANDARD).unwrap(), "''");
     assert_eq!(to_parts("abcd", 4, Settings::STANDARD).unwrap(), "'abcd'");
-    assert_eq!(to_parts("abcde", 4, Settings::STANDARD).unwrap(), "'abcd' 'e'");
-    assert_eq!(to_parts("aaa😀b", 4, Settings::STANDARD).unwrap(), "'aaa' '😀' 'b'");
-    assert_eq!(to_parts("''''''", 4, Settings::STANDARD).unwrap(), "'''''''''' ''''''");
+    assert_eq!(to_parts("aaa😀b", 4, Settings::STANDARD).unwrap(), "'aaa'\n'😀'\n'b'");
+    assert_eq!(to_parts("''''''", 4, Settings::STANDARD).unwrap(), "''''''''''\n''''''");
+}
+
+/// One line feed between each two parts, none before the first or behind the last, at both settings.
+#[test]
+fn a_line_feed_stands_between_parts() {
+    for settings in BOTH {
+        assert_eq!(to_parts("abcde", 4, settings).unwrap(), "'abcd'\n'e'");
+        assert_eq!(to_parts("     ", 4, settings).unwrap(), "'    '\n' '");
+        assert_eq!(to_parts("a\nb\nc", 4, settings).unwrap(), "'a\nb\n'\n'c'");
+        assert_eq!(to_parts("\r\n\r\n\n", 4, settings).unwrap(), "'\r\n\r\n'\n'\n'");
+    }
 }
 
 #[test]
@@ -58,6 +68,24 @@ fn parts_read_back_whole() {
         for (settings, size) in BOTH.into_iter().flat_map(|settings| [4, 5, 7, 1000].map(|size| (settings, size))) {
             let parts = to_parts(&long, size, settings).unwrap();
             assert_eq!(whole(Kind::String, &parts).to_str_in(&parts, settings).unwrap(), long, "{parts}");
+        }
+    }
+}
+
+/// How a text in parts is put into a list of one literal a line: a space for each line feed, if the value holds none.
+#[test]
+fn parts_read_back_from_one_line() {
+    for value in values(&ALPHABET, 2).into_iter().filter(|value| !value.contains('\n')) {
+        let long = format!("{value}{value}x{value}{value}");
+        for (settings, size) in BOTH.into_iter().flat_map(|settings| [4, 5, 7].map(|size| (settings, size))) {
+            let parts = to_parts(&long, size, settings).unwrap();
+            let row = parts.replace('\n', " ");
+            assert_eq!(whole(Kind::String, &row).to_str_in(&row, settings).unwrap(), long, "{row}");
+            let values: String = parts
+                .lines()
+                .map(|part| whole(Kind::String, part).to_str_in(part, settings).unwrap().into_owned())
+                .collect();
+            assert_eq!(values, long, "{parts}");
         }
     }
 }

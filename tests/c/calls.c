@@ -252,7 +252,13 @@ static void writer(void)
     CHECK(c.number == VALDRABUS_OK && c.second == 7 && holds(&c, "'a\\\\\\0'"));
     c = lent();
     c.number = valdrabus_write_parts(bytes("abcde"), 5, 4, 0, c.out, ROOM, &c.second);
-    CHECK(c.number == VALDRABUS_OK && c.second == 10 && holds(&c, "'abcd' 'e'"));
+    CHECK(c.number == VALDRABUS_OK && c.second == 10 && holds(&c, "'abcd'\n'e'"));
+    c = lent();
+    c.number = valdrabus_write_parts(bytes("abcde\\"), 6, 4, 1, c.out, ROOM, &c.second);
+    CHECK(c.number == VALDRABUS_OK && c.second == 12 && holds(&c, "'abcd'\n'e\\\\'"));
+    c = lent();
+    CHECK(valdrabus_write_parts(bytes("abcde"), 5, 4, 0, c.out, 9, &c.second) == VALDRABUS_NO_ROOM && c.second == 10 && holds(&c, ""));
+    CHECK(written(string("'abcd'\n'e'", 0), "abcde"));
     CHECK(written(string("'abcd' 'e'", 0), "abcde"));
 
     c = lent();

@@ -3,7 +3,8 @@
 
     tools/oracle/clarify.py
 
-The page is no part of this repository: VALDRABUS_CLARIFICATIONS, by default ../shared/docs/clarifications.md beside it.
+The page is no part of this repository: VALDRABUS_CLARIFICATIONS, by default ../shared/docs/clarifications.md beside it. Between the parts of a value it has
+document 01's space; the rows have what request T-02 puts there.
 """
 import os
 import re
@@ -72,6 +73,11 @@ def answer_of(cell, question, kind, start, end, data):
     return cell
 
 
+def parted(cell):
+    """What the writer answers, "The writer now puts one LF" between parts. No value of the page has a quote mark on both sides of a space."""
+    return cell.replace("' '", "'<LF>'")
+
+
 def hexed(cell):
     return b'' if cell == '-' else bytes.fromhex(cell)
 
@@ -116,7 +122,7 @@ def main():
             answer = answer_of(row[3], question, kind, start, end, data)
         elif header[0] == 'value':
             setting = int(row[2] == 'on')
-            rows.append([name, 'writer', '.', str(setting), row[3], '.', row[1], row[4], answer_of(row[5], 'writer', 0, 0, 0, data)])
+            rows.append([name, 'writer', '.', str(setting), row[3], '.', row[1], row[4], answer_of(parted(row[5]), 'writer', 0, 0, 0, data)])
             continue
         else:
             m = re.match(r'(.*?)(?: kind (\d+))?( \*\*on\*\*)?$', row[2])

@@ -1,5 +1,6 @@
 #!/usr/bin/env python3
-"""Whether the Rust gives what the rows written by hand state: vectors/manuals.tsv and examples.tsv, and the written texts of forms.tsv, read back.
+"""Whether the Rust gives what the rows written by hand state: vectors/manuals.tsv, examples.tsv and parts.tsv, and the written texts of forms.tsv and parts.tsv, read
+back.
 
     tools/oracle/stated.py
 
@@ -20,13 +21,13 @@ def main():
     if not oracle.at_hand():
         print('literal.rs is not at hand: nothing is asked')
         return 0
-    stated = itertools.chain(replay.readable('manuals'), replay.readable('examples'), replay.forms_asked())
+    stated = itertools.chain(replay.readable('manuals'), replay.readable('examples'), replay.forms_asked(), replay.parts_asked())
     rows = [row for _, row in stated if row.question not in ('writer', 'form') and replay.is_utf8(row.source)]
     said = oracle.ask([(row.question, row.kind, row.setting, row.start, row.end, row.source) for row in rows])
     wrong = [(row, answer) for row, answer in zip(rows, said) if replay.due(row.source, answer) != (row.number, row.letter, row.values, row.value)]
     for row, answer in wrong:
         print(f'{row.name}: the Rust says {answer}')
-    print(f'{len(rows)} rows of manuals.tsv, examples.tsv and forms.tsv asked of the Rust, {len(wrong)} different')
+    print(f'{len(rows)} rows of manuals.tsv, examples.tsv, forms.tsv and parts.tsv asked of the Rust, {len(wrong)} different')
     return 1 if wrong else 0
 
 

@@ -1,10 +1,10 @@
 #!/usr/bin/env python3
-"""Turns vectors/oracle.tsv, clarified.tsv and forms.tsv into tables of antt, proved by one computation.
+"""Turns vectors/oracle.tsv, clarified.tsv, forms.tsv and parts.tsv into tables of antt, proved by one computation.
 
     tools/oracle/tables.py
 
-writes crates/meaning/proofs/Oracle1.antt and on, Clarified.antt, FormRows.antt, Tables.antt that proves them, and Lib.antt with their names and those of the
-tables written by hand. The forms of the rows are those of crates/meaning/proofs/Rows.antt.
+writes crates/meaning/proofs/Oracle1.antt and on, Clarified.antt, FormRows.antt, PartRows.antt, Tables.antt that proves them, and Lib.antt with their names and
+those of the tables written by hand. The forms of the rows are those of crates/meaning/proofs/Rows.antt.
 """
 import glob
 import os
@@ -109,9 +109,17 @@ def form_rows():
         yield f'forms {form.capitalize()} {quoted(value)} {room} {made(answer)}'
     for _, form, value, text in replay.written_forms():
         for setting in '01':
-            yield row('string', 4, setting, 0, len(text), text.hex(), 0, replay.form_read(form, value, text))
+            yield row('string', 4, setting, 0, len(text), text.hex(), 0, replay.read_back(replay.OPENING[form], value, text))
         for question in ('evalid', 'uvalid'):
             yield row(question, 0, 0, 0, 0, text.hex(), 0, 'yes')
+
+
+def part_rows():
+    """the rows of parts.tsv; then what each written text means at its setting"""
+    for _, *columns in read('parts.tsv'):
+        yield row(*columns)
+    for _, setting, value, text in replay.written_parts():
+        yield row('string', 4, setting, 0, len(text), text.hex(), 0, replay.read_back("'", value, text))
 
 
 def read(name):
@@ -195,11 +203,12 @@ def main():
     vectors = read('clarified.tsv')
     records = [r for r in vectors if r[1] == 'record']
     rows = [row(*r[1:]) for r in vectors] + [printed([replay.unhex(r[6]) for r in records], [r[8] for r in records]), printed([], [])]
-    table('Clarified', 'how document 01 is read; the records together, and none.', 'clarified.tsv', rows,
-          ['use Rattle.meaning.specs.declared.PartSize.the-variants.{Whole, AtMost}'])
+    sizes = ['use Rattle.meaning.specs.declared.PartSize.the-variants.{Whole, AtMost}']
+    table('Clarified', 'how document 01 is read; the records together, and none.', 'clarified.tsv', rows, sizes)
     table('FormRows', 'values as E and U& literals, and these read back.', 'forms.tsv', list(form_rows()),
           ['use Rattle.meaning.specs.declared.Form.the-variants.{Escape, Unicode}'])
-    modules += ['Clarified', 'FormRows']
+    table('PartRows', 'values in parts, and these and other texts read.', 'parts.tsv', list(part_rows()), sizes)
+    modules += ['Clarified', 'FormRows', 'PartRows']
     proof_of(modules[1:])
     modules += ['Tables'] + BY_HAND
     with open(os.path.join(PROOFS, 'Lib.antt'), 'w') as f:

@@ -1,10 +1,11 @@
 #!/usr/bin/env python3
-"""Whether the writers' rows are what the sentences on them say, document 01's on the plain writer and request T-01's on E and U&, read once more: on
-characters, where the definitions go by bytes.
+"""Whether the writers' rows are what the sentences on them say, document 01's and request T-02's on the plain writer and request T-01's on E and U&, read once
+more: on characters, where the definitions go by bytes.
 
     tools/oracle/writer.py
 
-Every row of the writers that `replay` asks is held to them, of clarified.tsv, rfc3629.tsv, examples.tsv and forms.tsv. Needs no Rust. Exits 1 if a row differs.
+Every row of the writers that `replay` asks is held to them, of clarified.tsv, rfc3629.tsv, examples.tsv, forms.tsv and parts.tsv. Needs no Rust. Exits 1 if a
+row differs.
 """
 import os
 import sys
@@ -34,8 +35,8 @@ def in_parts(value, size):
 
 
 def plain(value, setting, size):
-    """one space between parts; a size of None is no part size"""
-    return ' '.join(literal(part, setting) for part in ([value] if size is None else in_parts(value, size)))
+    """one LF between parts; a size of None is no part size"""
+    return '\n'.join(literal(part, setting) for part in ([value] if size is None else in_parts(value, size)))
 
 
 def escaped(c):

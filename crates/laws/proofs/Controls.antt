@@ -86,13 +86,16 @@ module _ {X A : Type 0} (question : Program X A) (told : Telling X A) (x : X) (v
   pub no-made-up-length : (n : ℕ) → told .values (p x [] .answer) ≡ n ∷ [] → n ≡ length v
   no-made-up-length n h = let e : n ∷ [] ≡ length v ∷ [] = sym h ∙ ap (told .values) (right x [] .answer) ∙ w .needs in ap (λ (t : List ℕ). t ! 0) e
 
-  -- "one that reads the first segment and drops the later ones": of p nothing is shown that is shorter than v
-  pub no-first-segment-only : (u : List ℕ) → length u < length v → told .view x (p x (room v)) ≡ u → ⊥
-  no-first-segment-only u h e =
+  -- of p nothing but v is shown
+  pub shows-only : (u : List ℕ) → told .view x (p x (room v)) ≡ u → u ≡ v
+  shows-only u e =
       let m = right x (room v) in
       let o : p x (room v) ≡ question x (room v) = λ i. record { answer = m .answer i; buffer = m .buffer i } in
-      let z : u ≡ v = sym e ∙ ap (told .view x) o ∙ w .shows in
-      omega (arith, ap length z)
+      sym e ∙ ap (told .view x) o ∙ w .shows
+
+  -- "one that reads the first segment and drops the later ones": so nothing that is shorter than v
+  pub no-first-segment-only : (u : List ℕ) → length u < length v → told .view x (p x (room v)) ≡ u → ⊥
+  no-first-segment-only u h e = omega (arith, ap length (shows-only u e))
 
 -- all five, of every right program
 pub record ShutOut {X A : Type 0} (question : Program X A) (told : Telling X A) (x : X) (v : List ℕ) : Type 0 where

@@ -1,10 +1,13 @@
 -- [01 What the contracts owe] "Shut out" by the contract of each other question that is lent a buffer: a closed input that it writes text for, and so all of
 -- `Controls`. Those that join have an input of two segments; the writer's has two parts, so that one which writes the first part only is shut out too.
 -- Assumes nothing.
-use mathlib.Core.Path.{refl}
+use mathlib.Core.Path.{_≡_, refl, ap}
+use mathlib.Core.Bool.{Bool, true, false}
 use mathlib.Core.List.{List, [], _∷_, _++_}
 use Prim.Native.Nat.{ℕ}
 use native.Mathlib.Omega.{arith}
+use lib.Dec.{eqb}
+use borrow.Author.Tests.{eqb-false}
 use Rattle.meaning.specs.declared.Settings.{Settings}
 use Rattle.meaning.specs.declared.PartSize.{PartSize}
 use Rattle.meaning.specs.declared.PartSize.the-variants.{AtMost}
@@ -18,10 +21,10 @@ use Rattle.meaning.specs.declared.Identifier.{Identifier}
 use Rattle.meaning.specs.declared.Identifier.the-variants as Identifier′
 use Rattle.meaning.specs.declared.Writing.{Writing}
 use Rattle.meaning.specs.declared.Writing.the-variants as Writing′
-use Rattle.meaning.specs.Bytes.{ascii, within, isMark, digit, allDigits}
+use Rattle.meaning.specs.Bytes.{_!_, ascii, within, isMark, digit, allDigits}
 use Rattle.meaning.specs.Chars.{lead, utf8, width, more, encode, isScalar, isSpace}
 use Rattle.meaning.specs.Steps.{doubled, mayEscape, scalarBy, uescaped}
-use Rattle.meaning.specs.Cutting.{off, named, segment, segmentStep, cut, continues}
+use Rattle.meaning.specs.Cutting.{named, segment, segmentStep, cut, continues}
 use Rattle.meaning.specs.Spelling.{encloses, isUnicode, unicodeSpelling, spelling}
 use Rattle.meaning.specs.Reading.{answer, one, read}
 use Rattle.meaning.specs.Numbers.{signLength, baseBy, radixPrefix, separated, decimalOf}
@@ -32,7 +35,8 @@ use Rattle.meaning.specs.Questions.{cutsCharacter, badSpan, sourceText, tested,
 use Rattle.meaning.specs.Questions.{identifierQuestion}
 use Rattle.meaning.specs.Writer.{spell, writtenText, overLimit, unwritableNul, writeQuestion}
 use Rattle.meaning.specs.Forms.{figure, isDoubled, escapeForm, unicodeFigures, formText, formQuestion}
-use Rattle.laws.proofs.Controls.{Program, Telling, WritesAt, ShutOut, shut-out, all-as, all-of-it, textTelling, two}
+use Rattle.laws.proofs.Controls.{Program, Right, Telling, room, WritesAt, shows-only, ShutOut, shut-out, all-as, all-of-it, textTelling, two}
+use Rattle.laws.proofs.WriterParts.{Every}
 
 -- questions on a literal and its source
 abbrev pub OnSource : Type 0
@@ -119,7 +123,7 @@ identifier-writes = record { begins = omega arith; answered = refl; leaves = ref
 pub identifier-shut-out : ShutOut identifierQuestion identifierTelling unicodeName (ascii "a")
 identifier-shut-out = shut-out identifier-writes
 
--- THE WRITER, for the value 'abcd in parts of four bytes. What it wrote is shown
+-- THE WRITER, for the value 'abcd in parts of four bytes, at either setting. What it wrote is shown
 abbrev pub writingView : List ℕ → Writing → List ℕ
 writingView out (Writing′.Written n) = partShown 0 n out
 writingView out Writing′.OverLimit = []
@@ -133,12 +137,33 @@ writerTelling = record { number = writingNumber; values = writingValues; view = 
 abbrev pub onWriter : Program (Settings × PartSize × List ℕ) Writing
 onWriter x out = writeQuestion (x .0) (x .1) (x .2) out
 
-pub writer-writes : WritesAt onWriter writerTelling (off, AtMost 4, ascii "'abcd") (ascii "'''abc' 'd'")
-unfolding writeQuestion overLimit utf8 lead within unwritableNul writtenText width spell filled partShown
-writer-writes = record { begins = omega arith; answered = refl; leaves = refl; shows = refl; short = refl; needs = refl }
+abbrev pub inParts : Bool → Settings × PartSize × List ℕ
+inParts b = (record { backslash = b }, AtMost 4, ascii "'abcd")
 
-pub writer-shut-out : ShutOut onWriter writerTelling (off, AtMost 4, ascii "'abcd") (ascii "'''abc' 'd'")
-writer-shut-out = shut-out writer-writes
+abbrev pub twoParts : List ℕ
+twoParts = ascii "'''abc'\n'd'"
+
+pub writer-writes : (b : Bool) → WritesAt onWriter writerTelling (inParts b) twoParts
+unfolding writeQuestion overLimit utf8 lead within unwritableNul writtenText width spell filled partShown
+writer-writes true = record { begins = omega arith; answered = refl; leaves = refl; shows = refl; short = refl; needs = refl }
+writer-writes false = record { begins = omega arith; answered = refl; leaves = refl; shows = refl; short = refl; needs = refl }
+
+pub writer-shut-out : (b : Bool) → ShutOut onWriter writerTelling (inParts b) twoParts
+writer-shut-out b = shut-out (writer-writes b)
+
+-- [02 T-02] "The writer now puts one LF": shut out are document 01's space, CR LF, an LF behind the last part too, one before the first, and no gap, each at
+-- either setting
+abbrev pub otherGaps : List (List ℕ)
+otherGaps =
+    ascii "'''abc' 'd'" ∷ ascii "'''abc'\r\n'd'" ∷ ascii "'''abc'\n'd'\n" ∷ ascii "\n'''abc'\n'd'" ∷ ascii "'''abc''d'" ∷ []
+
+pub no-other-gap : (b : Bool) (p : Program (Settings × PartSize × List ℕ) Writing) → Right onWriter p
+    → Every (λ u. writerTelling .view (inParts b) (p (inParts b) (room twoParts)) ≡ u → ⊥) otherGaps
+no-other-gap b p right = (apart 7 refl, (apart 7 refl, (apart 11 refl, (apart 0 refl, (apart 7 refl, tt)))))
+  where
+    -- they differ from the text that is due at a place
+    apart : {u : List ℕ} (i : ℕ) → eqb (u ! i) (twoParts ! i) ≡ false → writerTelling .view (inParts b) (p (inParts b) (room twoParts)) ≡ u → ⊥
+    apart {u} i f e = eqb-false (u ! i) (twoParts ! i) f (ap (_! i) (shows-only onWriter writerTelling (inParts b) twoParts (writer-writes b) p right u e))
 
 -- IN A FORM: E for the value a' and a byte 01, and U& for a character of two bytes and a backslash
 abbrev pub formTelling : Telling (Form × List ℕ) Writing

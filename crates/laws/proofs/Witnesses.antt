@@ -11,19 +11,19 @@ use Rattle.meaning.specs.declared.Settings.{Settings}
 use Rattle.meaning.specs.declared.PartSize.the-variants.{Whole, AtMost}
 use Rattle.meaning.specs.declared.Form.the-variants.{Escape, Unicode}
 use Rattle.meaning.specs.declared.Text.the-variants.{Written}
-use Rattle.meaning.specs.Bytes.{part, ascii, within, isMark, digit}
+use Rattle.meaning.specs.Bytes.{_!_, part, ascii, within, isMark, digit}
 use Rattle.meaning.specs.Chars.{lead, utf8, width, isSpace}
 use Rattle.meaning.specs.Steps.{doubled, oneByte}
 use Rattle.meaning.specs.Cutting.{off, on, named, segment, segmentStep, cut, complete, continues}
 use Rattle.meaning.specs.Spelling.{encloses, spelling}
 use Rattle.meaning.specs.Reading.{answer, one, read, meaning}
-use Rattle.meaning.specs.Writer.{spell, partsOf, writtenText, overLimit, unwritableNul, writeQuestion}
+use Rattle.meaning.specs.Writer.{spell, partsOf, between, writtenText, overLimit, unwritableNul, writeQuestion}
 use Rattle.meaning.specs.Forms.{figure, isDoubled, escapeForm, unicodeFigures, formText, formQuestion}
 use Rattle.meaning.specs.Answers.{textNumber, filled}
 use Rattle.meaning.specs.Questions.{cutsCharacter, badSpan, sourceText, tested, stringQuestion}
 use Rattle.laws.proofs.Asked.{Spans}
 use Rattle.laws.proofs.Controls.{all-of-it}
-use Rattle.laws.proofs.Joining.{White, fails≢means}
+use Rattle.laws.proofs.Joining.{fails≢means}
 use Rattle.laws.proofs.JoiningLaw.{Complete, Gap, joining-law}
 use Rattle.laws.proofs.Parts.{Part, Next, chain}
 use Rattle.laws.proofs.Ranges.{Answered}
@@ -33,6 +33,7 @@ use Rattle.laws.proofs.Cuts.{segmentsOf, Each, Values, values-one}
 use Rattle.laws.proofs.Segments as Segments′
 use Rattle.laws.proofs.Strung.{Further, segments-question}
 use Rattle.laws.proofs.WriterParts.{Accepted}
+use Rattle.laws.proofs.WriterText.{between-white}
 use Rattle.laws.proofs.WrittenParts.{CutInto, between-cuts, parts-law}
 
 abbrev pub set : Bool → Settings
@@ -86,12 +87,9 @@ pub third-parts : partsOf (AtMost 4) third ≡ ascii "\\Ã©" ∷ ascii "Ã©a" 
 unfolding width lead within
 third-parts = refl
 
-pub line-white : White (10 ∷ [])
-unfolding within lead isSpace
-line-white = refl
-
+-- joined by what the writer itself puts between parts
 abbrev pub next : Part → Next
-next p = record { first = 10; rest = []; white = line-white; part = p }
+next p = record { first = between ! 0; rest = []; white = between-white; part = p }
 
 abbrev pub start : Part
 start = record { value = ascii "'"; size = Whole }

@@ -8,7 +8,7 @@ use lib.Dec.{eqb}
 use lib.ListN.{length, length-append}
 use Rattle.meaning.specs.declared.Settings.{Settings}
 use Rattle.meaning.specs.declared.PartSize.{PartSize}
-use Rattle.meaning.specs.Bytes.{if_then_else_, within, quote, backslash}
+use Rattle.meaning.specs.Bytes.{if_then_else_, _!_, within, quote, backslash}
 use Rattle.meaning.specs.Chars.{lead, isSpace}
 use Rattle.meaning.specs.Reading.{borrowed, written, read}
 use Rattle.meaning.specs.Writer.{spell, spells, literal, between, literals, partsOf, writtenText}
@@ -19,8 +19,8 @@ use Rattle.laws.proofs.Parts.{Joinable, joins, literal-joins}
 use Rattle.laws.proofs.WriterParts.{concat, Every, Valid, Writable, Five, Parted, partsOf-some, partsOf-concat, partsOf-parts, writable-append}
 use Rattle.laws.proofs.WriterParts.{nul-writable, Accepted, limit-length, limit-size}
 
--- THE TEXT. One space is white space, so the literals of the parts join
-between-white : White between
+-- THE TEXT. What stands between two parts is white space, so their literals join
+pub between-white : White between
 unfolding lead within isSpace
 between-white = refl
 
@@ -29,7 +29,7 @@ literals-join : (σ : Settings) (p : List ℕ) (ps : List (List ℕ)) → Every 
 literals-join σ p [] u w = rw (append-nil p) (literal-joins σ p (u .0) (rw (append-nil p) at w))
 literals-join σ p (q ∷ ps) u w =
     let r = writable-append (σ .backslash) p (concat (q ∷ ps)) w in
-    joins σ 32 [] between-white (literal-joins σ p (u .0) (r .0)) (literals-join σ q ps (u .1) (r .1))
+    joins σ (between ! 0) [] between-white (literal-joins σ p (u .0) (r .0)) (literals-join σ q ps (u .1) (r .1))
 
 parted : (σ : Settings) (size : PartSize) (v : List ℕ) → Accepted σ size v → Parted v (partsOf size v)
 parted σ size v a = partsOf-parts size v (limit-size size v (a .limit)) (a .valid)
@@ -99,7 +99,7 @@ costs-append bs (b ∷ u) v = omega (arith, costs-append bs u v)
 pub literal-length : (bs : Bool) (v : List ℕ) → length (literal bs v) ≡ costs bs v + 2
 literal-length bs v = omega (arith, length-append (spells bs v) (quote ∷ []), spells-length bs v)
 
--- two marks a part, and a space between each two
+-- two marks a part, and one byte between each two
 pub literals-length : (bs : Bool) (p : List ℕ) (ps : List (List ℕ)) → length (literals bs (p ∷ ps)) ≡ costs bs (concat (p ∷ ps)) + 2 + 3 * length ps
 literals-length bs p [] = omega (arith, literal-length bs p, costs-append bs p [])
 literals-length bs p (q ∷ ps) =

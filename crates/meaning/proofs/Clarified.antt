@@ -590,10 +590,10 @@ rows =
     spells false Whole "\0" 99 (refused 11) ∷
     spells false Whole "\"" 99 (wrote "'\"'") ∷
     spells false (AtMost 4) "abcd" 99 (wrote "'abcd'") ∷
-    spells false (AtMost 4) "abcde" 99 (wrote "'abcd' 'e'") ∷
-    spells false (AtMost 4) "''''''" 99 (wrote "'''''''''' ''''''") ∷
-    spells false (AtMost 5) "Ã©Ã©Ã©Ã©" 99 (wrote "'Ã©Ã©' 'Ã©Ã©'") ∷
-    spells false (AtMost 4) "aaað\u{9f}\u{98}\u{80}b" 99 (wrote "'aaa' 'ð\u{9f}\u{98}\u{80}' 'b'") ∷
+    spells false (AtMost 4) "abcde" 99 (wrote "'abcd'\n'e'") ∷
+    spells false (AtMost 4) "''''''" 99 (wrote "''''''''''\n''''''") ∷
+    spells false (AtMost 5) "Ã©Ã©Ã©Ã©" 99 (wrote "'Ã©Ã©'\n'Ã©Ã©'") ∷
+    spells false (AtMost 4) "aaað\u{9f}\u{98}\u{80}b" 99 (wrote "'aaa'\n'ð\u{9f}\u{98}\u{80}'\n'b'") ∷
     spells false (AtMost 3) "a" 99 (refused 12) ∷
     spells false (AtMost 0) "a" 99 (refused 12) ∷
     spells false (AtMost 3) "ÿ" 99 (refused 12) ∷

@@ -249,29 +249,29 @@ abbrev pub long-values : List Row
 long-values =
     spells true Whole nuls 40 (wrote "'\\0it''s \\0\\\\Ã©â\u{82}¬''\\\\\\0ð\u{9d}\u{84}\u{9e}'''' done\\0'") ∷
     spells false Whole nuls 3 (refused 11) ∷
-    spells true (AtMost 4) nuls 61 (wrote "'\\0it''' 's \\0\\\\' 'Ã©' 'â\u{82}¬''' '\\\\\\0' 'ð\u{9d}\u{84}\u{9e}' ''''' d' 'one\\0'") ∷
-    spells true (AtMost 5) nuls 56 (wrote "'\\0it''s' ' \\0\\\\Ã©' 'â\u{82}¬''\\\\' '\\0ð\u{9d}\u{84}\u{9e}' ''''' do' 'ne\\0'") ∷
-    spells true (AtMost 7) nuls 49 (wrote "'\\0it''s \\0' '\\\\Ã©â\u{82}¬''' '\\\\\\0ð\u{9d}\u{84}\u{9e}''' ''' done\\0'") ∷
-    spells true (AtMost 16) nuls 44 (wrote "'\\0it''s \\0\\\\Ã©â\u{82}¬''\\\\\\0' 'ð\u{9d}\u{84}\u{9e}'''' done\\0'") ∷
+    spells true (AtMost 4) nuls 61 (wrote "'\\0it'''\n's \\0\\\\'\n'Ã©'\n'â\u{82}¬'''\n'\\\\\\0'\n'ð\u{9d}\u{84}\u{9e}'\n''''' d'\n'one\\0'") ∷
+    spells true (AtMost 5) nuls 56 (wrote "'\\0it''s'\n' \\0\\\\Ã©'\n'â\u{82}¬''\\\\'\n'\\0ð\u{9d}\u{84}\u{9e}'\n''''' do'\n'ne\\0'") ∷
+    spells true (AtMost 7) nuls 49 (wrote "'\\0it''s \\0'\n'\\\\Ã©â\u{82}¬'''\n'\\\\\\0ð\u{9d}\u{84}\u{9e}'''\n''' done\\0'") ∷
+    spells true (AtMost 16) nuls 44 (wrote "'\\0it''s \\0\\\\Ã©â\u{82}¬''\\\\\\0'\n'ð\u{9d}\u{84}\u{9e}'''' done\\0'") ∷
     spells false (AtMost 7) nuls 3 (refused 11) ∷
     spells false Whole clefs 66 (wrote "'Don''t fold \\n: 3 Âµm, 5 â\u{82}¬, Â½ tick''d; clef: ð\u{9d}\u{84}\u{9e} ð\u{9d}\u{84}¢ ''\\Ã©'") ∷
     spells true Whole clefs 67 (wrote "'Don''t fold \\\\n: 3 Âµm, 5 â\u{82}¬, Â½ tick''d; clef: ð\u{9d}\u{84}\u{9e} ð\u{9d}\u{84}¢ ''\\\\Ã©'") ∷
     spells false (AtMost 4) clefs 114
     (wrote
-    "'Don''' 't fo' 'ld \\' 'n: 3' ' Âµm' ', 5 ' 'â\u{82}¬,' ' Â½ ' 'tick' '''d; ' 'clef' ': ' 'ð\u{9d}\u{84}\u{9e}' ' ' 'ð\u{9d}\u{84}¢' ' ''\\' 'Ã©'") ∷
+    "'Don'''\n't fo'\n'ld \\'\n'n: 3'\n' Âµm'\n', 5 '\n'â\u{82}¬,'\n' Â½ '\n'tick'\n'''d; '\n'clef'\n': '\n'ð\u{9d}\u{84}\u{9e}'\n' '\n'ð\u{9d}\u{84}¢'\n' ''\\'\n'Ã©'") ∷
     spells true (AtMost 4) clefs 115
     (wrote
-    "'Don''' 't fo' 'ld \\\\' 'n: 3' ' Âµm' ', 5 ' 'â\u{82}¬,' ' Â½ ' 'tick' '''d; ' 'clef' ': ' 'ð\u{9d}\u{84}\u{9e}' ' ' 'ð\u{9d}\u{84}¢' ' ''\\\\' 'Ã©'") ∷
+    "'Don'''\n't fo'\n'ld \\\\'\n'n: 3'\n' Âµm'\n', 5 '\n'â\u{82}¬,'\n' Â½ '\n'tick'\n'''d; '\n'clef'\n': '\n'ð\u{9d}\u{84}\u{9e}'\n' '\n'ð\u{9d}\u{84}¢'\n' ''\\\\'\n'Ã©'") ∷
     spells true (AtMost 5) clefs 104
-    (wrote "'Don''t' ' fold' ' \\\\n: ' '3 Âµm' ', 5 ' 'â\u{82}¬, ' 'Â½ ti' 'ck''d;' ' clef' ': ' 'ð\u{9d}\u{84}\u{9e} ' 'ð\u{9d}\u{84}¢ ' '''\\\\Ã©'") ∷
+    (wrote "'Don''t'\n' fold'\n' \\\\n: '\n'3 Âµm'\n', 5 '\n'â\u{82}¬, '\n'Â½ ti'\n'ck''d;'\n' clef'\n': '\n'ð\u{9d}\u{84}\u{9e} '\n'ð\u{9d}\u{84}¢ '\n'''\\\\Ã©'") ∷
     spells false (AtMost 7) clefs 92
-    (wrote "'Don''t f' 'old \\n:' ' 3 Âµm,' ' 5 â\u{82}¬,' ' Â½ tic' 'k''d; cl' 'ef: ' 'ð\u{9d}\u{84}\u{9e} ' 'ð\u{9d}\u{84}¢ ''\\' 'Ã©'") ∷
+    (wrote "'Don''t f'\n'old \\n:'\n' 3 Âµm,'\n' 5 â\u{82}¬,'\n' Â½ tic'\n'k''d; cl'\n'ef: '\n'ð\u{9d}\u{84}\u{9e} '\n'ð\u{9d}\u{84}¢ ''\\'\n'Ã©'") ∷
     spells false (AtMost 16) clefs 75
-    (wrote "'Don''t fold \\n: 3' ' Âµm, 5 â\u{82}¬, Â½ ' 'tick''d; clef: ' 'ð\u{9d}\u{84}\u{9e} ð\u{9d}\u{84}¢ ''\\Ã©'") ∷
+    (wrote "'Don''t fold \\n: 3'\n' Âµm, 5 â\u{82}¬, Â½ '\n'tick''d; clef: '\n'ð\u{9d}\u{84}\u{9e} ð\u{9d}\u{84}¢ ''\\Ã©'") ∷
     spells true (AtMost 16) clefs 76
-    (wrote "'Don''t fold \\\\n: 3' ' Âµm, 5 â\u{82}¬, Â½ ' 'tick''d; clef: ' 'ð\u{9d}\u{84}\u{9e} ð\u{9d}\u{84}¢ ''\\\\Ã©'") ∷
+    (wrote "'Don''t fold \\\\n: 3'\n' Âµm, 5 â\u{82}¬, Â½ '\n'tick''d; clef: '\n'ð\u{9d}\u{84}\u{9e} ð\u{9d}\u{84}¢ ''\\\\Ã©'") ∷
     spells true (AtMost 59) clefs 71
-    (wrote "'Don''t fold \\\\n: 3 Âµm, 5 â\u{82}¬, Â½ tick''d; clef: ð\u{9d}\u{84}\u{9e} ð\u{9d}\u{84}¢ ''\\\\' 'Ã©'") ∷
+    (wrote "'Don''t fold \\\\n: 3 Âµm, 5 â\u{82}¬, Â½ tick''d; clef: ð\u{9d}\u{84}\u{9e} ð\u{9d}\u{84}¢ ''\\\\'\n'Ã©'") ∷
     spells true (AtMost 60) clefs 67
     (wrote "'Don''t fold \\\\n: 3 Âµm, 5 â\u{82}¬, Â½ tick''d; clef: ð\u{9d}\u{84}\u{9e} ð\u{9d}\u{84}¢ ''\\\\Ã©'") ∷
     spells false (AtMost 61) clefs 66
@@ -284,15 +284,15 @@ long-values =
 abbrev pub read-back : List Row
 read-back =
     asks (string true) 4 "" "'\\0it''s \\0\\\\Ã©â\u{82}¬''\\\\\\0ð\u{9d}\u{84}\u{9e}'''' done\\0'" "" (writes 0 nuls) ∷
-    asks (string true) 4 "" "'\\0it''s' ' \\0\\\\Ã©' 'â\u{82}¬''\\\\' '\\0ð\u{9d}\u{84}\u{9e}' ''''' do' 'ne\\0'" "" (writes 1 nuls) ∷
+    asks (string true) 4 "" "'\\0it''s'\n' \\0\\\\Ã©'\n'â\u{82}¬''\\\\'\n'\\0ð\u{9d}\u{84}\u{9e}'\n''''' do'\n'ne\\0'" "" (writes 1 nuls) ∷
     asks (string false) 4 "" "'Don''t fold \\n: 3 Âµm, 5 â\u{82}¬, Â½ tick''d; clef: ð\u{9d}\u{84}\u{9e} ð\u{9d}\u{84}¢ ''\\Ã©'" "" (writes 0 clefs) ∷
     asks (string false) 4 ""
-    "'Don''' 't fo' 'ld \\' 'n: 3' ' Âµm' ', 5 ' 'â\u{82}¬,' ' Â½ ' 'tick' '''d; ' 'clef' ': ' 'ð\u{9d}\u{84}\u{9e}' ' ' 'ð\u{9d}\u{84}¢' ' ''\\' 'Ã©'" ""
+    "'Don'''\n't fo'\n'ld \\'\n'n: 3'\n' Âµm'\n', 5 '\n'â\u{82}¬,'\n' Â½ '\n'tick'\n'''d; '\n'clef'\n': '\n'ð\u{9d}\u{84}\u{9e}'\n' '\n'ð\u{9d}\u{84}¢'\n' ''\\'\n'Ã©'" ""
     (writes 1 clefs) ∷
     asks (string true) 4 ""
-    "'Don''t' ' fold' ' \\\\n: ' '3 Âµm' ', 5 ' 'â\u{82}¬, ' 'Â½ ti' 'ck''d;' ' clef' ': ' 'ð\u{9d}\u{84}\u{9e} ' 'ð\u{9d}\u{84}¢ ' '''\\\\Ã©'" ""
+    "'Don''t'\n' fold'\n' \\\\n: '\n'3 Âµm'\n', 5 '\n'â\u{82}¬, '\n'Â½ ti'\n'ck''d;'\n' clef'\n': '\n'ð\u{9d}\u{84}\u{9e} '\n'ð\u{9d}\u{84}¢ '\n'''\\\\Ã©'" ""
     (writes 0 clefs) ∷
-    asks (string true) 4 "" "'Don''t fold \\\\n: 3 Âµm, 5 â\u{82}¬, Â½ tick''d; clef: ð\u{9d}\u{84}\u{9e} ð\u{9d}\u{84}¢ ''\\\\' 'Ã©'" "" (writes 1 clefs) ∷ []
+    asks (string true) 4 "" "'Don''t fold \\\\n: 3 Âµm, 5 â\u{82}¬, Â½ tick''d; clef: ð\u{9d}\u{84}\u{9e} ð\u{9d}\u{84}¢ ''\\\\'\n'Ã©'" "" (writes 1 clefs) ∷ []
 
 abbrev pub rows : List Row
 rows = examples ++ (postgres ++ (mysql ++ (ranges ++ (broken-texts ++ (helpers ++ (escapes ++ (cut-places ++ (records ++ (long-values ++ read-back)))))))))

@@ -6,6 +6,7 @@ pub mod Oracle4
 pub mod Oracle5
 pub mod Clarified
 pub mod FormRows
+pub mod PartRows
 pub mod Tables
 pub mod Further
 pub mod Unseen

@@ -23,13 +23,14 @@ use Rattle.meaning.proofs.Oracle4 as Oracle4
 use Rattle.meaning.proofs.Oracle5 as Oracle5
 use Rattle.meaning.proofs.Clarified as Clarified
 use Rattle.meaning.proofs.FormRows as FormRows
+use Rattle.meaning.proofs.PartRows as PartRows
 
 pub rows-right : T (all Oracle1.rows) × T (all Oracle2.rows) × T (all Oracle3.rows) × T (all Oracle4.rows) × T (all Oracle5.rows) × T (all Clarified.rows)
-    × T (all FormRows.rows)
+    × T (all FormRows.rows) × T (all PartRows.rows)
 unfolding within isMark isLetter isDecimal inName startsTag inTag digit allDigits lead utf8 more encode isScalar width isSpace doubled oneByte mayEscape
     scalarBy pair lowHalf uescaped named segment segmentStep cut continues encloses argument upper isUnicode unicodeSpelling delimiter spelling answer one
     read signLength isMinus baseBy radixPrefix parsed separated radixValue i64Of digitsBy digitsOf decimalOf bitBody bits money tokenStart quoteToken
     temporalToken temporal charsetEnd uescapeLegal escapeValid unicodeValid ident partShown filled cutsCharacter badSpan sourceText tested stringQuestion
     decimalQuestion bitsQuestion temporalQuestion sourceQuestion moneyQuestion charsetQuestion i64Question identifierQuestion spell writtenText overLimit
     unwritableNul writeQuestion figure isDoubled escapeForm unicodeFigures formText formQuestion line goodRecord recordLine output
-rows-right = (tt, tt, tt, tt, tt, tt, tt)
+rows-right = (tt, tt, tt, tt, tt, tt, tt, tt)

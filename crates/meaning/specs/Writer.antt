@@ -1,4 +1,4 @@
--- [01 The writer] Plain literals at a setting, whole or in parts. "Writing tests 12, 4, 11, 9." Assumes nothing.
+-- [01 The writer; 02 T-02] Plain literals at a setting, whole or in parts. "Writing tests 12, 4, 11, 9." Assumes nothing.
 use mathlib.Core.Bool.{Bool, true, false, _&&_, _||_, not}
 use mathlib.Core.List.{List, [], _∷_, _++_}
 use Prim.Native.Nat.{ℕ, _-_}
@@ -44,9 +44,9 @@ abbrev pub partsOf : PartSize → List ℕ → List (List ℕ)
 partsOf Whole v = v ∷ []
 partsOf (AtMost w) v = partsFrom w w v
 
--- "puts one space between parts". (There is always a part)
+-- "puts one space between parts"; [02 T-02] "The writer now puts one LF." (There is always a part)
 abbrev pub between : List ℕ
-between = code " " ∷ []
+between = code "\n" ∷ []
 
 abbrev pub literals : Bool → List (List ℕ) → List ℕ
 literals bs [] = []

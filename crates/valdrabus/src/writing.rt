@@ -37,7 +37,7 @@ pub extern "C" fn valdrabus_write_literal(
     told.number
 }
 
-// A value in parts of at most so many bytes, a space between.
+// A value in parts of at most so many bytes, a line feed between.
 // Rules out: one part for several; the setting passed over (must-fail: first_of_each, second_of_each).
 #[no_mangle]
 pub extern "C" fn valdrabus_write_parts(

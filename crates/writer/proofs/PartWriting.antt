@@ -1,11 +1,11 @@
--- The literals of the parts, put one after the other with a space between. Assumes nothing.
+-- The literals of the parts, put one after the other with the gap between. Assumes nothing.
 use mathlib.Core.Path.{_≡_, refl, ap, sym, _∙_}
 use mathlib.Core.Bool.{Bool, true}
 use mathlib.Core.List.{List, [], _∷_, _++_, append-nil}
 use Prim.Native.Nat.{ℕ, zero, suc, _+_, _-_, _≤_, _<_}
 use native.Mathlib.Omega.{arith}
 use lib.ListN.{length, take, drop, length-append}
-use lib.Seq.{take-append-seam, drop-append-seam, drop-drop, length-take-le}
+use lib.Seq.{drop-append-seam, drop-drop, length-take-le}
 use Rattle.meaning.specs.Bytes.{quote}
 use Rattle.meaning.specs.Writer.{literal, between, literals, partsFrom}
 use Rattle.leaves.specs.Blocks.{passes}
@@ -14,11 +14,12 @@ use Rattle.leaves.proofs.Scans.{passes-append}
 use Rattle.laws.proofs.Tests.{and-left, and-right}
 use Rattle.laws.proofs.Laying.{Laid, laid-same, laid-all, laid-part, laid-lent, laid-rest, laid-more}
 use Rattle.laws.proofs.PartEnds.{partsBehind}
+use Rattle.writer.specs.declared.manners.Manner.{Manner}
 use Rattle.writer.specs.declared.manners.Manner.the-variants.{Plain}
 use Rattle.writer.specs.Manners.{keptBy, keeps, textBy}
 use Rattle.writer.specs.Texts.{allKept, Fits, PutBytes}
 use Rattle.writer.specs.Parts.{firstPart, Cuttable, FitsInParts}
-use Rattle.writer.proofs.Putting.{put-all}
+use Rattle.writer.proofs.Putting.{put-all, laid-first}
 use Rattle.writer.proofs.Measuring.{plain-units}
 use Rattle.writer.proofs.Parting.{PartIs, part-is, behind-some, behind-none}
 
@@ -38,7 +39,7 @@ passes-part p from n v l h =
     (sym (passes-append p n (k - n) k (drop from v) (omega arith)) ∙ a) in
     passes-take p n (drop from v) b
 
--- THE TEXT: a part's is its literal, and what stands behind it begins with a space
+-- THE TEXT: a part's is its literal, and what stands behind it begins with the gap
 pub plain-text : (bs : Bool) (v : List ℕ) → textBy (Plain bs) v ≡ literal bs v
 unfolding textBy
 plain-text bs v = ap (λ (u : List ℕ). quote ∷ (u ++ (quote ∷ []))) (plain-units bs v)
@@ -58,20 +59,7 @@ pub record Written (w : ℕ) (bs whole : Bool) (v d out : List ℕ) (n end : ℕ
   pub laid : Laid (literals bs (partsFrom w w v)) d out n
   pub rest : drop n (literals bs (partsFrom w w v)) ≡ behindLiteral bs (partsBehind w (drop end v))
 
--- THE FIRST PART, put into all of the buffer
-laid-first : (t d b s : List ℕ) → t ≡ b ++ s → length t ≤ length d → (n : ℕ) → n ≡ length b → (out : List ℕ) → out ≡ b ++ drop (length b) d
-    → Laid t d out n × (drop n t ≡ s)
-laid-first t d b s e h n en out eo =
-    let x : take n t ≡ b = rw (en, e) (take-append-seam b s) in (
-      record {
-        part = omega (arith, ap length e, length-append b s);
-        room = h;
-        put = eo ∙ ap (_++ drop (length b) d) (sym x) ∙ ap (λ (k : ℕ). take n t ++ drop k d) (sym en);
-      },
-      rw (en, e) (drop-append-seam b s),
-    )
-
--- from there on the buffer is held to what it is then
+-- THE FIRST PART is put into all of the buffer; from there on the buffer is held to what it is then
 module _ {t d out : List ℕ} {n : ℕ} (l : Laid t d out n) where
   as-lent : drop n out ≡ drop n d
   as-lent =
@@ -109,8 +97,7 @@ module _ {w : ℕ} {bs whole : Bool} {v : List ℕ} (d : List ℕ) (f : FitsInPa
   module _ (n : ℕ) (out : List ℕ) (p : PutBytes (textBy (Plain bs) (take end v)) d n out) where
     first-laid : Laid (literals bs (partsFrom w w v)) d out n × (drop n (literals bs (partsFrom w w v)) ≡ behindLiteral bs (partsBehind w (drop end v)))
     first-laid =
-        laid-first (literals bs (partsFrom w w v)) d (textBy (Plain bs) (take end v)) (behindLiteral bs (partsBehind w (drop end v))) front (f .room)
-        n (p .answer) out (p .buffer)
+        laid-first (textBy (Plain bs) (take end v)) (behindLiteral bs (partsBehind w (drop end v))) (literals bs (partsFrom w w v)) d front (f .room) p
 
     pub first-written : Written w bs whole v out out n end
     first-written = record { cuttable = opening .next; copied = f .copied; laid = laid-again (first-laid .0); rest = first-laid .1 }
@@ -126,7 +113,7 @@ module _ {w : ℕ} {bs whole : Bool} {v : List ℕ} (d : List ℕ) (f : FitsInPa
           let a = laid-all (m .laid) (m .rest ∙ ap (behindLiteral bs) (behind-none w upto v h)) in
           record { answer = a .0; buffer = a .1 ∙ ap (t ++_) (behind-lent (first-laid .0) (length t) (first-laid .0 .part)) }
 
--- A FURTHER PART: a space, then its literal
+-- A FURTHER PART: the gap, then its literal
 module _ {w : ℕ} {bs whole : Bool} {v d out : List ℕ} {n from : ℕ} (m : Written w bs whole v d out n from) (h : from < length v) (end : ℕ)
     (e : end ≡ from + length (firstPart w (drop from v))) where
   here : PartIs w from end v
@@ -138,57 +125,69 @@ module _ {w : ℕ} {bs whole : Bool} {v d out : List ℕ} {n from : ℕ} (m : Wr
   pub further-inside : end ≤ length v
   further-inside = here .next .inside
 
-  -- the part; its text; the texts behind it
+  -- the part; the gap and its text; the texts behind it
   abbrev part : List ℕ
   part = take (end - from) (drop from v)
 
   abbrev text : List ℕ
-  text = textBy (Plain bs) part
+  text = between ++ textBy (Plain bs) part
 
   abbrev texts : List ℕ
   texts = behindLiteral bs (partsBehind w (drop end v))
 
-  spaced : drop n (literals bs (partsFrom w w v)) ≡ between ++ (text ++ texts)
-  spaced =
-      m .rest ∙ ap (behindLiteral bs) (behind-some w from v h ∙ here .are) ∙ ap (between ++_) (literals-front bs part (partsBehind w (drop end v)))
+  left : drop n (literals bs (partsFrom w w v)) ≡ text ++ texts
+  left =
+      m .rest ∙ ap (behindLiteral bs) (behind-some w from v h ∙ here .are)
+      ∙ ap (between ++_) (literals-front bs part (partsBehind w (drop end v)))
 
-  pub space-inside : n < length out
-  space-inside = omega (arith, laid-part (m .laid) between (text ++ texts) spaced, m .laid .room, laid-same (m .laid))
+  pub further-room : n ≤ length out
+  further-room = omega (arith, m .laid .part, m .laid .room, laid-same (m .laid))
 
-  module _ (r : ℕ) (last : List ℕ) (p : Puts between (take (length out - n) (drop n out)) r last) where
-    put : PutBytes between (take (length out - n) (drop n out)) r last
-    put = put-all p (laid-lent (m .laid) between (text ++ texts) spaced)
+  pub further-fits : Fits (Plain bs) whole part text (length (take (length out - n) (drop n out)))
+  further-fits = record {
+    valid = here .front;
+    copied = λ x. passes-part (keeps (keptBy (Plain bs))) from (end - from) v (omega (arith, here .ordered, here .next .inside)) (m .copied x);
+    room = laid-lent (m .laid) text texts left;
+  }
 
-    pub space-few : n + r ≤ length (literals bs (partsFrom w w v))
-    space-few = omega (arith, laid-part (m .laid) between (text ++ texts) spaced, put .answer)
+  module _ (r : ℕ) (last : List ℕ) (p : PutBytes text (take (length out - n) (drop n out)) r last) where
+    pub further-few : n + r ≤ length (literals bs (partsFrom w w v))
+    further-few = omega (arith, laid-part (m .laid) text texts left, p .answer)
 
-    abbrev out′ : List ℕ
-    out′ = take n out ++ (last ++ drop (length out - n) (drop n out))
-
-    laid′ : Laid (literals bs (partsFrom w w v)) d out′ (n + r)
-    laid′ = laid-more (m .laid) between (text ++ texts) spaced r last (put .answer) (put .buffer)
-
-    left : drop (n + r) (literals bs (partsFrom w w v)) ≡ text ++ texts
-    left = laid-rest (m .laid) between (text ++ texts) spaced (n + r) (ap (n +_) (put .answer))
-
-    pub part-inside : n + r ≤ length out′
-    part-inside = omega (arith, laid-part laid′ text texts left, laid′ .room, laid-same laid′)
-
-    pub part-fits : Fits (Plain bs) whole part text (length (take (length out′ - (n + r)) (drop (n + r) out′)))
-    part-fits = record {
-      valid = here .front;
-      copied = λ x. passes-part (keeps (keptBy (Plain bs))) from (end - from) v (omega (arith, here .ordered, here .next .inside)) (m .copied x);
-      room = laid-lent laid′ text texts left;
+    pub further-written : Written w bs whole v d (take n out ++ (last ++ drop (length out - n) (drop n out))) (n + r) end
+    further-written = record {
+      cuttable = here .next;
+      copied = m .copied;
+      laid = laid-more (m .laid) text texts left r last (p .answer) (p .buffer);
+      rest = laid-rest (m .laid) text texts left (n + r) (ap (n +_) (p .answer));
     }
 
-    module _ (q : ℕ) (last′ : List ℕ) (p′ : PutBytes text (take (length out′ - (n + r)) (drop (n + r) out′)) q last′) where
-      pub part-few : n + r + q ≤ length (literals bs (partsFrom w w v))
-      part-few = omega (arith, laid-part laid′ text texts left, p′ .answer)
+-- ITS GAP AND ITS TEXT, one behind the other
+module _ {m : Manner} {x : Bool} {v : List ℕ} (d : List ℕ) (f : Fits m x v (between ++ textBy m v) (length d)) {n : ℕ} {out : List ℕ}
+    (p : Puts between d n out) where
+  parted : Laid (between ++ textBy m v) d out n × (drop n (between ++ textBy m v) ≡ textBy m v)
+  parted =
+      let l : length between ≤ length d = omega (arith, f .room, length-append between (textBy m v)) in
+      laid-first between (textBy m v) (between ++ textBy m v) d refl (f .room) (put-all p l)
 
-      pub part-written : Written w bs whole v d (take (n + r) out′ ++ (last′ ++ drop (length out′ - (n + r)) (drop (n + r) out′))) (n + r + q) end
-      part-written = record {
-        cuttable = here .next;
-        copied = m .copied;
-        laid = laid-more laid′ text texts left q last′ (p′ .answer) (p′ .buffer);
-        rest = laid-rest laid′ text texts left (n + r + q) (ap (n + r +_) (p′ .answer));
-      }
+  -- the text is all that is left
+  only : drop n (between ++ textBy m v) ≡ textBy m v ++ []
+  only = parted .1 ∙ sym (append-nil (textBy m v))
+
+  pub gap-within : n ≤ length out
+  gap-within = omega (arith, parted .0 .part, parted .0 .room, laid-same (parted .0))
+
+  pub text-fits : Fits m x v (textBy m v) (length (take (length out - n) (drop n out)))
+  text-fits = record { valid = f .valid; copied = f .copied; room = laid-lent (parted .0) (textBy m v) [] only }
+
+  module _ {a : ℕ} {last : List ℕ} (q : PutBytes (textBy m v) (take (length out - n) (drop n out)) a last) where
+    both : Laid (between ++ textBy m v) d (take n out ++ (last ++ drop (length out - n) (drop n out))) (n + a)
+    both = laid-more (parted .0) (textBy m v) [] only a last (q .answer) (q .buffer)
+
+    pub both-few : n + a ≤ length d
+    both-few = omega (arith, both .part, both .room)
+
+    pub both-put : PutBytes (between ++ textBy m v) d (n + a) (take n out ++ (last ++ drop (length out - n) (drop n out)))
+    both-put =
+        let z = laid-all both (laid-rest (parted .0) (textBy m v) [] only (n + a) (ap (n +_) (q .answer))) in
+        record { answer = z .0; buffer = z .1 }

@@ -8,11 +8,12 @@ use native.Mathlib.Omega.{arith}
 use lib.Dec.{leb}
 use borrow.Author.Tests.{le-leb, lt-leb}
 use lib.ListN.{length, take, drop, set, length-append, length-drop}
-use lib.Seq.{sets, sets-eq, take-at, drop-at, drop-drop, length-take-le}
+use lib.Seq.{sets, sets-eq, take-at, drop-at, take-append-seam, drop-append-seam, drop-drop, length-take-le}
 use Rattle.meaning.specs.Bytes.{if_then_else_}
 use Rattle.meaning.specs.Answers.{filled}
 use Rattle.meaning.specs.Forms.{figure, figures, unicodeFigures}
 use Rattle.laws.proofs.Figures.{figures-length}
+use Rattle.laws.proofs.Laying.{Laid}
 use Rattle.leaves.specs.Puts.{Puts}
 use Rattle.writer.specs.declared.manners.Manner.{Manner}
 use Rattle.writer.specs.Manners.{openingBy}
@@ -33,6 +34,20 @@ put-all {t} {out} p h = record { answer = p .answer ∙ rw (le-leb (length t) (l
 pub put-opening : {m w : Manner} {out : List ℕ} {r : ℕ} {after : List ℕ} → m ≡ w → length (openingBy m) ≤ length out → Puts (openingBy w) out r after
     → PutBytes (openingBy m) out r after
 put-opening e h p = rw e (put-all p (rw e at h))
+
+-- THE FIRST PIECE of a text, put into all of the buffer; s is behind it
+pub laid-first : (b s t d : List ℕ) → t ≡ b ++ s → length t ≤ length d → {r : ℕ} {after : List ℕ} → PutBytes b d r after
+    → Laid t d after r × (drop r t ≡ s)
+laid-first b s t d e h {r} {after} q = (
+  record {
+    part = omega (arith, q .answer, ap length e, length-append b s);
+    room = h;
+    put =
+        q .buffer ∙ ap (_++ drop (length b) d) (sym (take-append-seam b s) ∙ ap (take (length b)) (sym e))
+        ∙ ap (λ (k : ℕ). take k t ++ drop k d) (sym (q .answer));
+  },
+  ap (λ (k : ℕ). drop k t) (q .answer) ∙ ap (drop (length b)) e ∙ drop-append-seam b s,
+)
 
 -- by another name
 pub put-same : {t s out : List ℕ} {r : ℕ} {after : List ℕ} → t ≡ s → PutBytes s out r after → PutBytes t out r after

@@ -6,7 +6,7 @@ use Prim.Native.Nat.{ℕ, zero, suc, _+_, _-_, _≤_, _<_}
 use native.Mathlib.Omega.{arith}
 use lib.Dec.{eqb, leb}
 use lib.ListN.{length, take, drop, set, length-append, length-drop, length-set, drop-of-length-le}
-use lib.Seq.{drop-cons, drop-drop, drop-at, take-append-seam}
+use lib.Seq.{drop-cons, drop-drop}
 use borrow.Author.Tests.{leb-true}
 use Rattle.meaning.specs.Bytes.{if_then_else_, within, span, quote, backslash, _!_}
 use Rattle.meaning.specs.Chars.{Due, due, broken, fresh, lead, pushes, whole, utf8, width}
@@ -19,14 +19,14 @@ use Rattle.laws.proofs.Tests.{and-left, and-right}
 use Rattle.laws.proofs.Utf8.{pushes-broken, low-lead}
 use Rattle.laws.proofs.Walks.{walk-drop}
 use Rattle.laws.proofs.WriterParts.{first-fits}
-use Rattle.laws.proofs.Laying.{Laid, laid-none, laid-same, laid-all, laid-part, laid-lent, laid-rest, laid-more, laid-inside, laid-byte}
+use Rattle.laws.proofs.Laying.{Laid, laid-none, laid-same, laid-all, laid-lent, laid-rest, laid-more, laid-inside, laid-byte}
 use Rattle.writer.specs.declared.manners.Manner.{Manner}
 use Rattle.writer.specs.declared.manners.Manner.the-variants.{Plain, Escape, Unicode}
 use Rattle.writer.specs.declared.manners.Kept.{Kept}
 use Rattle.writer.specs.Manners.{keptBy, keeps, stepBy, unitBy, unitWidth, openingBy, unitsBy, textBy}
 use Rattle.writer.specs.Texts.{Fits, UnitAt, PutBytes}
 use Rattle.writer.proofs.Steps.{changed-step}
-use Rattle.writer.proofs.Putting.{put-all}
+use Rattle.writer.proofs.Putting.{put-all, laid-first}
 use Rattle.writer.proofs.Measuring.{kept-front, kept-units}
 
 -- UTF-8. Behind the bytes that are due, and so behind the first character, a UTF-8 text is UTF-8
@@ -230,31 +230,21 @@ copied-whole {m} {x} {v} {out} f h {a} {after} q =
     rw e (put-all q l)
 
 -- THE TEXT: the opening, the spelling, the mark
-laid-first : (b s t d : List ℕ) → t ≡ b ++ s → length t ≤ length d → {r : ℕ} {after : List ℕ} → PutBytes b d r after → Laid t d after r
-laid-first b s t d e h {r} {after} q =
-    let n : drop 0 t ≡ b ++ s = e in
-    let l = laid-part (laid-none t d h) b s n in
-    record {
-      part = omega (arith, q .answer);
-      room = h;
-      put =
-          q .buffer ∙ ap (_++ drop (length b) d) (sym (take-append-seam b s) ∙ ap (take (length b)) (sym e))
-          ∙ ap (λ (k : ℕ). take k t ++ drop k d) (sym (q .answer));
-    }
-
 module _ {m : Manner} {x : Bool} {v : List ℕ} (d : List ℕ) (f : Fits m x v (textBy m v) (length d)) where
   pub opening-room : length (openingBy m) ≤ length d
   unfolding textBy
   opening-room = omega (arith, f .room, length-append (openingBy m) (unitsBy m v ++ (quote ∷ [])))
 
   module _ {n : ℕ} {out : List ℕ} (o : PutBytes (openingBy m) d n out) where
-    opened : Laid (textBy m v) d out n
+    begun : Laid (textBy m v) d out n × (drop n (textBy m v) ≡ unitsBy m v ++ (quote ∷ []))
     unfolding textBy
-    opened = laid-first (openingBy m) (unitsBy m v ++ (quote ∷ [])) (textBy m v) d refl (f .room) o
+    begun = laid-first (openingBy m) (unitsBy m v ++ (quote ∷ [])) (textBy m v) d refl (f .room) o
+
+    opened : Laid (textBy m v) d out n
+    opened = begun .0
 
     behind : drop n (textBy m v) ≡ unitsBy m v ++ (quote ∷ [])
-    unfolding textBy
-    behind = drop-at (openingBy m) (unitsBy m v ++ (quote ∷ [])) n (sym (o .answer))
+    behind = begun .1
 
     pub opened-within : n ≤ length out
     opened-within = omega (arith, opened .part, opened .room, laid-same opened)

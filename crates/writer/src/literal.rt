@@ -1,4 +1,4 @@
-// [01 The writer] A value as a literal, or as several with a gap between. "Writing tests 12, 4, 11, 9."
+// [01 The writer; 02 T-02] A value as a literal, or as several with a line feed between. "Writing tests 12, 4, 11, 9."
 use crate::lengths::measure;
 use crate::manners::Manner;
 use crate::parts::count_later;

@@ -1,14 +1,16 @@
-// [01 The writer] The parts of a value: each takes as many whole characters as fit, and a gap stands between two.
+// [01 The writer; 02 T-02] The parts of a value: each takes as many whole characters as fit, and a line feed stands between two.
 use crate::manners::Manner;
 use crate::texts::write_text;
 use leaves::puts::put_bytes;
 use meaning::PartSize;
+ghost use mathlib.Core.List.{_++_};
 ghost use mathlib.Core.Path.{_≡_};
 ghost use Prim.Native.Nat.{_+_};
 ghost use lib.ListN.{length, drop};
 ghost use Rattle.meaning.specs.Bytes.{within};
-ghost use Rattle.meaning.specs.Writer.{literals, partsFrom};
-ghost use Rattle.writer.specs.Texts.{PutBytes};
+ghost use Rattle.meaning.specs.Writer.{between, literals, partsFrom};
+ghost use Rattle.writer.specs.Manners.{textBy};
+ghost use Rattle.writer.specs.Texts.{PutBytes, Fits};
 ghost use Rattle.writer.specs.Parts.{limitOf, firstPart, laterParts, Cuttable, FitsInParts};
 
 // How many value bytes a part may have. A value that is written whole is a part without an end: no value has so many bytes.
@@ -58,6 +60,16 @@ pub(crate) fn count_later(value: &[u8], limit: usize) -> usize
     count
 }
 
+// Writes a part behind the first, a line feed and its text, for which there is room, and says how long that is.
+// Rules out: a space for the line feed; CR LF; the line feed behind the part (must-fail: space_between_parts).
+fn write_further(part: &[u8], manner: Manner, whole: bool, out: &mut [u8]) -> usize
+    requires { ⌜ Fits manner whole (now part) (between ++ textBy manner (now part)) (length (now out)) ⌝ }
+    ensures { λ r. ⌜ PutBytes (between ++ textBy manner (now (part .entry))) (now (out .entry)) r (now (out .exit)) ⌝ }
+{
+    let from = put_bytes(b"\n", out);
+    from + write_text(part, manner, whole, &mut out[from..])
+}
+
 // Writes the literals of the parts, for which there is room, and says how long that is.
 // Rules out: parts without a gap; a gap behind the last one.
 pub(crate) fn write_parts(
@@ -76,8 +88,7 @@ pub(crate) fn write_parts(
     while end < value.len() {
         let from = end;
         end = part_end(value, from, limit);
-        n += put_bytes(b" ", &mut out[n..]);
-        n += write_text(&value[from..end], manner, whole, &mut out[n..]);
+        n += write_further(&value[from..end], manner, whole, &mut out[n..]);
     }
     n
 }

@@ -1,4 +1,4 @@
-//! The writers, which the Rust has not: what they write is due by the sentences of document 01 and of the request for the two forms, and the Rust has to read it back.
+//! The writers, which the Rust has not: what they write is due by the sentences of document 01 and of the requests on them, and the Rust has to read it back.
 
 use crate::comparing::{Comparing, Difference, Outcome, hex};
 use crate::question::{Asked, NO_ROOM, Question, Said};
@@ -138,13 +138,13 @@ impl Writing<'_> {
     }
 }
 
-/// As many whole characters in each part as fit so many bytes of the value, a space between parts.
+/// As many whole characters in each part as fit so many bytes of the value, a line feed between parts.
 fn plain(value: &str, part: usize, on: bool) -> Vec<u8> {
     let mut text = String::from("'");
     let mut used = 0;
     for character in value.chars() {
         if character.len_utf8() > part - used {
-            text.push_str("' '");
+            text.push_str("'\n'");
             used = 0;
         }
         used += character.len_utf8();
