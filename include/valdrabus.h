@@ -158,8 +158,8 @@ uint32_t valdrabus_view(uint32_t how, size_t first, size_t second, size_t source
 /* A value as one plain literal at a setting. 4, 9, 10, 11, 12. */
 uint32_t valdrabus_write_literal(const uint8_t *value, size_t value_len, uint32_t setting, uint8_t *out, size_t out_len, size_t *len);
 
-/* The same in parts of at most part_size bytes of the value, one line feed between each two, as PostgreSQL wants it. So the text spans lines: into a list of one literal a line goes the value whole,
-   or as E'..' or U&'..', which hold no line feed whatever it is. 4, 9, 10, 11, 12. */
+/* The same in parts of at most part_size bytes of the value, one line feed between each two, as PostgreSQL wants it. So the text spans lines: into a list of one literal a line the value goes
+   as E'..' or U&'..', which hold no line feed, or whole, if it holds none. 4, 9, 10, 11, 12. */
 uint32_t valdrabus_write_parts(const uint8_t *value, size_t value_len, size_t part_size, uint32_t setting, uint8_t *out, size_t out_len, size_t *len);
 
 /* A value as E'..', which reads back as the value at either setting. Backslash and quote are doubled; the codes 08, 09, 0A, 0C and 0D are \b, \t, \n, \f and \r, the others below 20 hex a

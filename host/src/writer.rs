@@ -33,8 +33,9 @@ pub fn write_literal(value: impl AsRef<[u8]>, settings: Settings, out: &mut [u8]
 /// # Ok::<(), valdrabus::Error>(())
 /// ```
 ///
-/// So the text spans lines, and a list of one literal a line, as the example `keys` reads it, would take each part for a row. Into such a list goes [`write_literal`]'s text, if the value holds no line
-/// feed, or [`write_escape`]'s or [`write_unicode`]'s, whatever it holds. The parts of a value that holds none may also stand in one line, a space for each line feed: any white space joins them.
+/// So the text spans lines, and of a list of one literal a line, as the example `keys` reads it, each line would be taken for a row. Into such a list goes the text of [`write_escape`] or
+/// [`write_unicode`], which holds no line feed and is read alike at both settings; or, if the value holds no line feed, that of [`write_literal`], or the parts on one line with a space for each
+/// line feed, since any white space joins them: both are read as the value at the setting that they were written at.
 ///
 /// ```
 /// use valdrabus::{Kind, Literal, Settings, to_parts};

@@ -11,7 +11,7 @@ use report::Look;
 use std::collections::HashSet;
 use std::ffi::OsString;
 use std::os::unix::ffi::OsStringExt;
-use valdrabus::{Settings, to_escape, to_literal, to_parts, to_unicode};
+use valdrabus::{Error, Settings, to_escape, to_literal, to_parts, to_unicode};
 
 fn read(name: &str) -> String {
     let path = format!("{}/lists/{name}", env!("CARGO_MANIFEST_DIR"));
@@ -66,21 +66,34 @@ fn a_row_that_cannot_be_read_stops_nothing() {
     assert_eq!(report::doubles(&rows, Look::Marked), doubles);
 }
 
-/// The writer puts a line feed between parts, so each would be a row; whole, as E or U&, or in one line the name is one.
+/// The writer puts a line feed between parts, so each would be a row; as E or U&, whole, or in one line the name is one.
 #[test]
 fn a_name_in_parts_is_put_on_one_line() {
-    let name = "Paracetamol 500 mg";
-    let parts = to_parts(name, 8, Settings::STANDARD).expect("a short name");
+    let parts = to_parts("Paracetamol 500 mg", 8, Settings::STANDARD).expect("a short name");
     assert_eq!(keys(&parts), Ok("     1  Paraceta\n     2  mol 500 \n     3  mg\n".to_string()));
-    let rows = [
-        to_literal(name, Settings::STANDARD),
-        to_escape(name),
-        to_unicode(name),
-        Ok(parts.replace('\n', " ")),
-    ];
-    for row in rows.map(|row| row.expect("a short name")) {
-        assert_eq!(keys(&row), Ok(format!("     1  {name}\n")), "{row}");
+    for (settings, line) in [(Settings::STANDARD, "-- backslash off"), (Settings::MYSQL, "-- backslash on")] {
+        for name in ["Paracetamol 500 mg", r"Bob's balm 5\10 ml", r"\ '' \ -- \' \"] {
+            let in_parts = to_parts(name, 4, settings).map(|parts| parts.replace('\n', " "));
+            for row in [to_escape(name), to_unicode(name), to_literal(name, settings), in_parts] {
+                let row = row.expect("a short name");
+                assert_eq!(keys(&format!("{line}\n{row}")), Ok(format!("     2  {name}\n")), "{row}");
+            }
+        }
     }
+}
+
+/// E and U& spell a name with a line feed on one line; plain, it would be two rows. A name with NUL has a plain literal alone, with the setting on.
+#[test]
+fn names_that_are_not_put_on_one_line_as_they_are() {
+    for row in [to_escape("a\nb"), to_unicode("a\nb")] {
+        assert_eq!(keys(&row.expect("a short name")), Ok("     1  a‹0A›b\n".to_string()));
+    }
+    let plain = to_literal("a\nb", Settings::STANDARD).expect("a short name");
+    assert_eq!(keys(&plain).map(|said| said.matches("refused").count()), Ok(2));
+    assert_eq!(to_escape("a\0b"), Err(Error::HoldsNul));
+    assert_eq!(to_unicode("a\0b"), Err(Error::HoldsNul));
+    let plain = to_literal("a\0b", Settings::MYSQL).expect("a short name");
+    assert_eq!(keys(&format!("-- backslash on\n{plain}")), Ok("     2  a‹00›b\n".to_string()));
 }
 
 #[test]

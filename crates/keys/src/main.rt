@@ -1,7 +1,7 @@
 // Decodes a list of products, one string literal a line, from standard input; tells each row's key, then the products that stand in it twice.
 //
-// The parts of a name that was written in parts stand on lines of their own, and each would be a row here. Such a name is put into a list whole or as E'..' or
-// U&'..'; if it holds no line feed, its parts may also stand on one line, a space for each line feed (host/lists/README.md).
+// A name that was written in parts spans lines, and each line would be taken for a row. It is put into a list as E'..' or U&'..'; or, if it holds no line
+// feed, whole or in parts on one line with a space for each line feed, at the setting that it was written at (host/lists/README.md).
 //
 // A line `-- backslash on` or `-- backslash off`, in any case, sets how the rows behind it are read; at first it is off. Another line that begins with
 // `-- backslash` ends the reading, since no row behind it has a meaning. Other lines that begin with `--`, and empty lines, are no rows. A row that is

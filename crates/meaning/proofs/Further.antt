@@ -263,7 +263,8 @@ long-values =
     (wrote
     "'Don'''\n't fo'\n'ld \\\\'\n'n: 3'\n' Âµm'\n', 5 '\n'â\u{82}¬,'\n' Â½ '\n'tick'\n'''d; '\n'clef'\n': '\n'ð\u{9d}\u{84}\u{9e}'\n' '\n'ð\u{9d}\u{84}¢'\n' ''\\\\'\n'Ã©'") ∷
     spells true (AtMost 5) clefs 104
-    (wrote "'Don''t'\n' fold'\n' \\\\n: '\n'3 Âµm'\n', 5 '\n'â\u{82}¬, '\n'Â½ ti'\n'ck''d;'\n' clef'\n': '\n'ð\u{9d}\u{84}\u{9e} '\n'ð\u{9d}\u{84}¢ '\n'''\\\\Ã©'") ∷
+    (wrote
+    "'Don''t'\n' fold'\n' \\\\n: '\n'3 Âµm'\n', 5 '\n'â\u{82}¬, '\n'Â½ ti'\n'ck''d;'\n' clef'\n': '\n'ð\u{9d}\u{84}\u{9e} '\n'ð\u{9d}\u{84}¢ '\n'''\\\\Ã©'") ∷
     spells false (AtMost 7) clefs 92
     (wrote "'Don''t f'\n'old \\n:'\n' 3 Âµm,'\n' 5 â\u{82}¬,'\n' Â½ tic'\n'k''d; cl'\n'ef: '\n'ð\u{9d}\u{84}\u{9e} '\n'ð\u{9d}\u{84}¢ ''\\'\n'Ã©'") ∷
     spells false (AtMost 16) clefs 75

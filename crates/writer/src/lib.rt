@@ -1,4 +1,4 @@
-// [01 The writer; 02 T-01] Values as literals: plain ones, whole or in parts, and E and U& ones. A value is tested, then measured, then written. How one
+// [01 The writer; 02 T-01, T-02] Values as literals: plain ones, whole or in parts, and E and U& ones. A value is tested, then measured, then written. How one
 // character is spelled is all that the three manners differ by.
 pub mod figures;
 pub mod forms;

@@ -61,7 +61,7 @@ pub(crate) fn count_later(value: &[u8], limit: usize) -> usize
 }
 
 // Writes a part behind the first, a line feed and its text, for which there is room, and says how long that is.
-// Rules out: a space for the line feed; CR LF; the line feed behind the part (must-fail: space_between_parts).
+// Rules out: a space for the line feed; CR LF; none (must-fail: space_between_parts, crlf_between_parts, no_gap_between).
 fn write_further(part: &[u8], manner: Manner, whole: bool, out: &mut [u8]) -> usize
     requires { ⌜ Fits manner whole (now part) (between ++ textBy manner (now part)) (length (now out)) ⌝ }
     ensures { λ r. ⌜ PutBytes (between ++ textBy manner (now (part .entry))) (now (out .entry)) r (now (out .exit)) ⌝ }
@@ -71,7 +71,7 @@ fn write_further(part: &[u8], manner: Manner, whole: bool, out: &mut [u8]) -> us
 }
 
 // Writes the literals of the parts, for which there is room, and says how long that is.
-// Rules out: parts without a gap; a gap behind the last one.
+// Rules out: a gap behind the last part; the first part copied as it is (must-fail: line_feed_behind_the_last_part, first_part_copied).
 pub(crate) fn write_parts(
     value: &[u8],
     limit: usize,

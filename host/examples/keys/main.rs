@@ -8,8 +8,8 @@
 //! `-- backslash off`, in any case, changes that from there on, and another line that begins with `-- backslash` is an error. Other lines that begin with `--`, and empty lines, are no rows.
 //! `--doubles` leaves out the keys themselves, and still shows the rows that are refused.
 //!
-//! The parts of a name that [`valdrabus::write_parts`] wrote stand on lines of their own, and each would be a row here. Such a name is put into a list whole ([`valdrabus::write_literal`]) or as `E'..'` or `U&'..'`
-//! ([`valdrabus::write_escape`], [`valdrabus::write_unicode`]); if it holds no line feed, its parts may also stand on one line, a space for each line feed.
+//! A name that [`valdrabus::write_parts`] wrote in parts spans lines, and each line would be taken for a row. It is put into a list as `E'..'` or `U&'..'` ([`valdrabus::write_escape`],
+//! [`valdrabus::write_unicode`]); or, if it holds no line feed, whole ([`valdrabus::write_literal`]) or in parts on one line with a space for each line feed, at the setting that it was written at.
 //!
 //! A control character of a key is shown as its number, `‹0A›`, and so is the mark itself, `‹2039›`: keys that differ look different. `--spell` shows each key as a literal that can be pasted into SQL,
 //! `E'a\nb'` or `U&'a\000Ab'`. A key with a control character from 7F to 9F hex, which E leaves as it is, is shown as U& by either. A key with a NUL, which neither can spell, is shown as without it, behind `no literal:`.
