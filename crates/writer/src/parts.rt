@@ -8,7 +8,7 @@ ghost use mathlib.Core.Path.{_≡_};
 ghost use Prim.Native.Nat.{_+_};
 ghost use lib.ListN.{length, drop};
 ghost use Rattle.meaning.specs.Bytes.{within};
-ghost use Rattle.meaning.specs.Writer.{between, literals, partsFrom};
+ghost use Rattle.meaning.specs.Writer.{literals, partsFrom};
 ghost use Rattle.writer.specs.Manners.{textBy};
 ghost use Rattle.writer.specs.Texts.{PutBytes, Fits};
 ghost use Rattle.writer.specs.Parts.{limitOf, firstPart, laterParts, Cuttable, FitsInParts};
@@ -60,18 +60,19 @@ pub(crate) fn count_later(value: &[u8], limit: usize) -> usize
     count
 }
 
-// Writes a part behind the first, a line feed and its text, for which there is room, and says how long that is.
-// Rules out: a space for the line feed; CR LF; none (must-fail: space_between_parts, crlf_between_parts, no_gap_between).
-fn write_further(part: &[u8], manner: Manner, whole: bool, out: &mut [u8]) -> usize
-    requires { ⌜ Fits manner whole (now part) (between ++ textBy manner (now part)) (length (now out)) ⌝ }
-    ensures { λ r. ⌜ PutBytes (between ++ textBy manner (now (part .entry))) (now (out .entry)) r (now (out .exit)) ⌝ }
+// Writes a part's text and what stands behind it, for which there is room, and says how long that is.
+// Rules out: the part once more for what stands behind it (must-fail: part_put_again).
+fn write_part(part: &[u8], behind: &[u8], manner: Manner, whole: bool, out: &mut [u8]) -> usize
+    requires { ⌜ Fits manner whole (now part) (textBy manner (now part) ++ now behind) (length (now out)) ⌝ }
+    ensures { λ r. ⌜ PutBytes (textBy manner (now (part .entry)) ++ now (behind .entry)) (now (out .entry)) r (now (out .exit)) ⌝ }
 {
-    let from = put_bytes(b"\n", out);
-    from + write_text(part, manner, whole, &mut out[from..])
+    let from = write_text(part, manner, whole, out);
+    from + put_bytes(behind, &mut out[from..])
 }
 
 // Writes the literals of the parts, for which there is room, and says how long that is.
-// Rules out: a gap behind the last part; the first part copied as it is (must-fail: line_feed_behind_the_last_part, first_part_copied).
+// Rules out: a space for the line feed; CR LF; none; a line feed behind the last part (must-fail: space_between_parts, crlf_between_parts,
+// no_gap_between, line_feed_behind_the_last_part).
 pub(crate) fn write_parts(
     value: &[u8],
     limit: usize,
@@ -83,12 +84,13 @@ pub(crate) fn write_parts(
     ensures { λ r. ⌜ PutBytes (literals backslash (partsFrom limit limit (now (value .entry)))) (now (out .entry)) r (now (out .exit)) ⌝ }
 {
     let manner = Manner::Plain { backslash };
+    let mut from: usize = 0;
     let mut end = part_end(value, 0, limit);
-    let mut n = write_text(&value[..end], manner, whole, out);
+    let mut n: usize = 0;
     while end < value.len() {
-        let from = end;
+        n += write_part(&value[from..end], b"\n", manner, whole, &mut out[n..]);
+        from = end;
         end = part_end(value, from, limit);
-        n += write_further(&value[from..end], manner, whole, &mut out[n..]);
     }
-    n
+    n + write_part(&value[from..end], b"", manner, whole, &mut out[n..])
 }

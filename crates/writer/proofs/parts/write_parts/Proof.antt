@@ -1,83 +1,104 @@
--- `writer::parts::write_parts` meets its contract. The loop's invariant, `Written`: the literals of the parts before the place are at the buffer's start, and
--- behind them what it held. The measure is what is left of the value. Assumes nothing.
-use Prim.Native.Nat.{_-_, _<_}
+-- `writer::parts::write_parts` meets its contract. The loop's invariant, `Writing`: the literals of the parts before the one at hand are at the buffer's start,
+-- each with the gap behind it, and behind them what it held. The measure is what is left of the value. Assumes nothing.
+use Prim.Native.Nat.{_-_}
 use native.Mathlib.Omega.{arith}
 use borrow.Author.Needs.{needs}
 use lib.ListN.{length}
 use Rattle.writer.proofs.PartWriting as writing
-use Rattle.writer.proofs.PartWriting.{Written}
+use Rattle.writer.proofs.PartWriting.{Writing}
 use Rattle.writer.proofs.parts.write_parts.Statement.{statement}
 use Rattle.writer.proofs.parts.write_parts.Tie as tie
 
 abbrev Inv-loop : tie.InvT-loop
-Inv-loop value limit backslash whole out₀ manner end₀ n₀ out end n = Written limit backslash whole value out₀ out n end
+Inv-loop value limit backslash whole out₀ manner from₀ end₀ n₀ t10 t11 out from end n = Writing limit backslash whole value out₀ out n from end
 
 abbrev μ-loop : tie.MeasureT-loop
-μ-loop value limit backslash whole out₀ manner end₀ n₀ out end n = length value - end
+μ-loop value limit backslash whole out₀ manner from₀ end₀ n₀ t10 t11 out from end n = length value - end
 
 part-end-requires : tie.Need-part-end-requires Inv-loop μ-loop
 part-end-requires c κs = c .before .before .pre .cuttable
 
-slice-aggregate-write-text : tie.Need-slice-aggregate-write-text Inv-loop μ-loop
-slice-aggregate-write-text c = search writing.first-taken
-
-write-text-requires : tie.Need-write-text-requires Inv-loop μ-loop
-write-text-requires c κs = search writing.first-fits
-
 loop-holds : tie.Need-loop-holds Inv-loop μ-loop
-loop-holds c = search writing.first-written
+loop-holds c = search writing.writing-start
 
-part-end-requires-2 : tie.Need-part-end-requires-2 Inv-loop μ-loop
-part-end-requires-2 c κs = c .before .loop .inv .cuttable
+sub-write-part : tie.Need-sub-write-part Inv-loop μ-loop
+sub-write-part c = search writing.writing-ordered
 
--- a further part has bytes
-onward : (c : tie.After-part-end2 Inv-loop μ-loop) → c .before .before .loop .end < c .part-end2 .result
-onward c = search writing.further-onward
+part-write-part-start : tie.Need-part-write-part-start Inv-loop μ-loop
+part-write-part-start c = search writing.writing-ordered
 
--- where its end is found, from behind its text
-abbrev found : tie.After-slice-known3 Inv-loop μ-loop → tie.After-part-end2 Inv-loop μ-loop
-found c = c .before .before .before .before .before
+part-write-part-end : tie.Need-part-write-part-end Inv-loop μ-loop
+part-write-part-end c = search writing.writing-inside
 
-sub-write-further : tie.Need-sub-write-further Inv-loop μ-loop
-sub-write-further c = let h = onward c in omega (arith, h)
+slice-aggregate-write-part : tie.Need-slice-aggregate-write-part Inv-loop μ-loop
+slice-aggregate-write-part c = search needs
 
-part-write-further-start : tie.Need-part-write-further-start Inv-loop μ-loop
-part-write-further-start c = let h = onward c in omega (arith, h)
+sub-write-part-2 : tie.Need-sub-write-part-2 Inv-loop μ-loop
+sub-write-part-2 c = search writing.writing-room
 
-part-write-further-end : tie.Need-part-write-further-end Inv-loop μ-loop
-part-write-further-end c = search writing.further-inside
+part-write-part-start-2 : tie.Need-part-write-part-start-2 Inv-loop μ-loop
+part-write-part-start-2 c = search writing.writing-room
 
-sub-write-further-2 : tie.Need-sub-write-further-2 Inv-loop μ-loop
-sub-write-further-2 c = search writing.further-room
+part-write-part-end-2 : tie.Need-part-write-part-end-2 Inv-loop μ-loop
+part-write-part-end-2 c = search needs
 
-part-write-further-start-2 : tie.Need-part-write-further-start-2 Inv-loop μ-loop
-part-write-further-start-2 c = search writing.further-room
+write-part-requires : tie.Need-write-part-requires Inv-loop μ-loop
+write-part-requires c κs = search writing.more-fits
 
-part-write-further-end-2 : tie.Need-part-write-further-end-2 Inv-loop μ-loop
-part-write-further-end-2 c = search needs
-
-write-further-requires : tie.Need-write-further-requires Inv-loop μ-loop
-write-further-requires c κs = search writing.further-fits
-
+-- i: behind the loop's test
 add-n : tie.Need-add-n Inv-loop μ-loop
 add-n c =
-    let i = found c in
-    let start = i .before .before .before .before .before .before .before .before .before .before .before in
-    let p = c .before .before .write-further .ensures in
-    let h = writing.further-few (i .before .before .loop .inv) (i .before .loop-test .taken) _ (i .part-end2 .ensures) _ _ p in
-    omega (arith, h, start .pre .room)
+    let i = c .before .before .before .before .before .before in
+    let h = writing.more-few (i .before .loop .inv) (i .loop-test .taken) _ _ (c .before .before .write-part .ensures) in
+    omega (arith, h)
+
+part-end-requires-2 : tie.Need-part-end-requires-2 Inv-loop μ-loop
+part-end-requires-2 c κs = search writing.writing-next
 
 loop-less : tie.Need-loop-less Inv-loop μ-loop
-loop-less c = let h = onward (found c) in omega (arith, h)
+loop-less c =
+    let i = c .before .before .before .before .before .before .before in
+    let h = writing.writing-onward (i .before .loop .inv) (i .loop-test .taken) _ (c .part-end2 .ensures) in
+    omega (arith, h)
 
 loop-again : tie.Need-loop-again Inv-loop μ-loop
-loop-again c = search writing.further-written
+loop-again c = search writing.writing-more
+
+sub-write-part-3 : tie.Need-sub-write-part-3 Inv-loop μ-loop
+sub-write-part-3 c = search writing.writing-ordered
+
+part-write-part-start-3 : tie.Need-part-write-part-start-3 Inv-loop μ-loop
+part-write-part-start-3 c = search writing.writing-ordered
+
+part-write-part-end-3 : tie.Need-part-write-part-end-3 Inv-loop μ-loop
+part-write-part-end-3 c = search writing.writing-inside
+
+slice-aggregate-write-part-2 : tie.Need-slice-aggregate-write-part-2 Inv-loop μ-loop
+slice-aggregate-write-part-2 c = search needs
+
+sub-write-part-4 : tie.Need-sub-write-part-4 Inv-loop μ-loop
+sub-write-part-4 c = search writing.writing-room
+
+part-write-part-start-4 : tie.Need-part-write-part-start-4 Inv-loop μ-loop
+part-write-part-start-4 c = search writing.writing-room
+
+part-write-part-end-4 : tie.Need-part-write-part-end-4 Inv-loop μ-loop
+part-write-part-end-4 c = search needs
+
+write-part-requires-2 : tie.Need-write-part-requires-2 Inv-loop μ-loop
+write-part-requires-2 c κs = search writing.last-fits
+
+add-result : tie.Need-add-result Inv-loop μ-loop
+add-result c =
+    let i = c .before .before .before .before .before .before in
+    let h = writing.last-few (i .before .loop .inv) (i .loop-test .left) _ _ (c .before .before .write-part2 .ensures) in
+    omega (arith, h)
 
 same-length : tie.Need-same-length Inv-loop μ-loop
-same-length c = search writing.written-same
+same-length c = search writing.last-same
 
 returns : tie.Need-returns Inv-loop μ-loop
-returns c = search writing.written-all
+returns c = search writing.all-put
 
 pub write-parts-spec : {M : Type 1} → statement M
 write-parts-spec =
@@ -86,19 +107,27 @@ write-parts-spec =
     Inv-loop
     μ-loop
     part-end-requires
-    slice-aggregate-write-text
-    write-text-requires
     loop-holds
-    part-end-requires-2
-    sub-write-further
-    part-write-further-start
-    part-write-further-end
-    sub-write-further-2
-    part-write-further-start-2
-    part-write-further-end-2
-    write-further-requires
+    sub-write-part
+    part-write-part-start
+    part-write-part-end
+    slice-aggregate-write-part
+    sub-write-part-2
+    part-write-part-start-2
+    part-write-part-end-2
+    write-part-requires
     add-n
+    part-end-requires-2
     loop-less
     loop-again
+    sub-write-part-3
+    part-write-part-start-3
+    part-write-part-end-3
+    slice-aggregate-write-part-2
+    sub-write-part-4
+    part-write-part-start-4
+    part-write-part-end-4
+    write-part-requires-2
+    add-result
     same-length
     returns)
