@@ -1,5 +1,5 @@
 #!/usr/bin/env python3
-"""Shows document 01's starred examples, as crates/laws/proofs/Starred.antt states them, in words.
+"""Shows document 01's starred examples, as crates/laws/proofs/tables/Starred.antt states them, in words.
 
     tools/examples.py
 
@@ -10,7 +10,7 @@ import os
 import re
 
 HERE = os.path.dirname(os.path.abspath(__file__))
-TABLE = os.path.join(HERE, '..', 'crates', 'laws', 'proofs', 'Starred.antt')
+TABLE = os.path.join(HERE, '..', 'crates', 'laws', 'proofs', 'tables', 'Starred.antt')
 ROW = re.compile(r'asks (\(string (?:true|false)\)|i64) \d+ "" ("(?:[^"\\]|\\.)*") "" \((.*)\) ∷')
 
 

@@ -9,7 +9,7 @@ use lib.Dec.{ltb}
 use lib.ListN.{length, getD}
 use borrow.Author.Tests.{ltb-true, ltb-false, not-true, not-false}
 use Rattle.meaning.specs.Bytes.{digit, allDigits}
-use Rattle.laws.proofs.Digits.{DigitsTo, allDigits-of, allDigits-at}
+use Rattle.laws.proofs.basics.Digits.{DigitsTo, allDigits-of, allDigits-at}
 
 -- the first i bytes are digits of base β
 pub record Asked (β : ℕ) (t : List ℕ) (i : ℕ) : Type 0 where

@@ -14,12 +14,12 @@ use Rattle.meaning.specs.Walk.{Step, keep, give, stop, after, walk, stops, valu
 use Rattle.meaning.specs.Cutting.{off, opening, segment, segmentBy, segmentStep}
 use Rattle.meaning.specs.Reading.{means, fails, each}
 use Rattle.meaning.specs.Kinds.{bitBody, firstBits, laterBits}
-use Rattle.laws.proofs.Tests.{if-suc}
-use Rattle.laws.proofs.Gaps.{gap-fits}
-use Rattle.laws.proofs.Openings.{segment-fits}
-use Rattle.laws.proofs.Joining.{fails≢means, both-means}
-use Rattle.laws.proofs.Ranges.{part-inside}
-use Rattle.laws.proofs.StepBounds.{Bounded, Steady}
+use Rattle.laws.proofs.basics.Tests.{if-suc}
+use Rattle.laws.proofs.cutting.Gaps.{gap-fits}
+use Rattle.laws.proofs.cutting.Openings.{segment-fits}
+use Rattle.laws.proofs.joining.Joining.{fails≢means, both-means}
+use Rattle.laws.proofs.questions.Ranges.{part-inside}
+use Rattle.laws.proofs.walking.StepBounds.{Bounded, Steady}
 use Rattle.cutting.proofs.Cursors.{Unit-at}
 use Rattle.bits.specs.Bodies.{bodyBy, bodyStep}
 

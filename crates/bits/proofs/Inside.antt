@@ -13,8 +13,8 @@ use Rattle.meaning.specs.Walk.{after, walk}
 use Rattle.meaning.specs.Cutting.{off, opening, segment, segmentBy, segmentStep, cut}
 use Rattle.meaning.specs.Reading.{Value, means, fails, both, asWritten}
 use Rattle.meaning.specs.Kinds.{bitBody, firstBits, borrowedAs, bitsBy, bits}
-use Rattle.laws.proofs.Openings.{segment-fits}
-use Rattle.laws.proofs.Ranges.{AnswerIn}
+use Rattle.laws.proofs.cutting.Openings.{segment-fits}
+use Rattle.laws.proofs.questions.Ranges.{AnswerIn}
 use Rattle.cutting.proofs.Cursors.{opening-own}
 use Rattle.bits.proofs.Bodies.{letter-opens}
 

@@ -14,9 +14,9 @@ use Rattle.meaning.specs.Cutting.{off, segmentStep, cut}
 use Rattle.meaning.specs.Reading.{means, fails, each}
 use Rattle.meaning.specs.Kinds.{laterBits}
 use Rattle.meaning.specs.Answers.{filled}
-use Rattle.laws.proofs.Joins as joins
-use Rattle.laws.proofs.Courses.{stops-here}
-use Rattle.laws.proofs.Passes.{Writing, writing-none, Roomy, writing-within, writing-room, writing-turn, writing-end}
+use Rattle.laws.proofs.joining.Joins as joins
+use Rattle.laws.proofs.walking.Courses.{stops-here}
+use Rattle.laws.proofs.walking.Passes.{Writing, writing-none, Roomy, writing-within, writing-room, writing-turn, writing-end}
 use Rattle.cutting.specs.Segments.{nextOf}
 use Rattle.cutting.specs.declared.cursor.Cursor.{Cursor}
 use Rattle.cutting.specs.declared.cursor.Next.{Next}

@@ -18,16 +18,16 @@ use Rattle.meaning.specs.Reading.{Answer, borrowed, written, refused, Value, me
 use Rattle.meaning.specs.Kinds.{firstBits, laterBits, borrowedAs, bitsBy, bits}
 use Rattle.meaning.specs.Answers.{filled}
 use Rattle.meaning.specs.Reads.{Reads}
-use Rattle.laws.proofs.Tests.{and-left}
-use Rattle.laws.proofs.Walks.{walk-drop}
-use Rattle.laws.proofs.Courses.{walk-at}
-use Rattle.laws.proofs.Passes.{put-part}
-use Rattle.laws.proofs.Owed.{reads-short, reads-written, reads-refused, reads-borrowed}
+use Rattle.laws.proofs.basics.Tests.{and-left}
+use Rattle.laws.proofs.walking.Walks.{walk-drop}
+use Rattle.laws.proofs.walking.Courses.{walk-at}
+use Rattle.laws.proofs.walking.Passes.{put-part}
+use Rattle.laws.proofs.questions.Owed.{reads-short, reads-written, reads-refused, reads-borrowed}
 use Rattle.cutting.specs.Segments.{nextOf}
 use Rattle.cutting.specs.declared.cursor.Cursor.{Cursor}
 use Rattle.cutting.specs.declared.cursor.Next.{Next}
 use Rattle.cutting.specs.declared.cursor.Next.the-variants as Next′
-use Rattle.laws.proofs.Lists.{part-tail}
+use Rattle.laws.proofs.basics.Lists.{part-tail}
 use Rattle.cutting.proofs.Cursors.{Unit-at, at-end, at-remainder, at-segment}
 use Rattle.bits.specs.declared.later.Later.{Later}
 use Rattle.bits.specs.declared.later.Later.the-variants as Later′

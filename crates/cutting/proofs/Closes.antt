@@ -12,9 +12,9 @@ use borrow.Author.Tests.{eq-eqb, ne-eqb, eqb-true, not-true}
 use Rattle.meaning.specs.Bytes.{if_then_else_, _!_, span, backslash, isMark}
 use Rattle.meaning.specs.Walk.{keep, give, stop, walk}
 use Rattle.meaning.specs.Steps.{closingStep, doubled}
-use Rattle.laws.proofs.Tests.{and-left, and-right}
-use Rattle.laws.proofs.Courses.{SoFar, so-far-give, Kept, kept-taken, stops-here, size-here, stops-end, stops-over}
-use Rattle.laws.proofs.Openings.{inside}
+use Rattle.laws.proofs.basics.Tests.{and-left, and-right}
+use Rattle.laws.proofs.walking.Courses.{SoFar, so-far-give, Kept, kept-taken, stops-here, size-here, stops-end, stops-over}
+use Rattle.laws.proofs.cutting.Openings.{inside}
 use Rattle.leaves.specs.declared.blocks.Stops.{Stops}
 use Rattle.leaves.specs.Blocks.{freeOf}
 use Rattle.leaves.proofs.RunSteps.{KeepsAll, run-kept}

@@ -13,9 +13,9 @@ use Rattle.meaning.specs.Bytes.{if_then_else_}
 use Rattle.meaning.specs.Walk.{give, stop}
 use Rattle.meaning.specs.Steps.{gap}
 use Rattle.meaning.specs.Cutting.{opening, segment, segmentBy, segmentStep}
-use Rattle.laws.proofs.Gaps.{gap-fits}
-use Rattle.laws.proofs.Openings.{segment-of, segment-fits}
-use Rattle.laws.proofs.Alone.{opening-back}
+use Rattle.laws.proofs.cutting.Gaps.{gap-fits}
+use Rattle.laws.proofs.cutting.Openings.{segment-of, segment-fits}
+use Rattle.laws.proofs.cutting.Alone.{opening-back}
 use Rattle.cutting.specs.Segments.{nextBy, nextOf}
 use Rattle.cutting.specs.declared.cursor.Cursor.{Cursor}
 use Rattle.cutting.specs.declared.cursor.Next.{Next}

@@ -12,10 +12,10 @@ use Rattle.meaning.specs.Bytes.{if_then_else_, _!_, isMark}
 use Rattle.meaning.specs.Walk.{Trace, walk, size, stops}
 use Rattle.meaning.specs.Steps.{closingStep}
 use Rattle.meaning.specs.Cutting.{opening, hides, closedAt, segment}
-use Rattle.laws.proofs.Tests.{true→T}
-use Rattle.laws.proofs.Lists.{part-tail}
-use Rattle.laws.proofs.Walks.{stops-inside}
-use Rattle.laws.proofs.Openings.{opening-mark, mark-inside}
+use Rattle.laws.proofs.basics.Tests.{true→T}
+use Rattle.laws.proofs.basics.Lists.{part-tail}
+use Rattle.laws.proofs.walking.Walks.{stops-inside}
+use Rattle.laws.proofs.cutting.Openings.{opening-mark, mark-inside}
 use Rattle.cutting.specs.declared.marks.Mark.{Mark}
 use Rattle.cutting.specs.declared.marks.Closing.{Closing}
 use Rattle.cutting.specs.declared.marks.Closing.the-variants.{At, Unclosed}

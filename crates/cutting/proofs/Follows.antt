@@ -8,9 +8,9 @@ use borrow.Author.Tests.{lt-ltb, le-ltb}
 use Rattle.meaning.specs.declared.Settings.{Settings}
 use Rattle.meaning.specs.Steps.{gap}
 use Rattle.meaning.specs.Cutting.{opening, segment}
-use Rattle.laws.proofs.Lists.{part-tail}
-use Rattle.laws.proofs.Gaps.{gap-fits}
-use Rattle.laws.proofs.Openings.{segment-fits}
+use Rattle.laws.proofs.basics.Lists.{part-tail}
+use Rattle.laws.proofs.cutting.Gaps.{gap-fits}
+use Rattle.laws.proofs.cutting.Openings.{segment-fits}
 use Rattle.cutting.specs.declared.cursor.Next.the-variants as Next′
 use Rattle.cutting.specs.declared.segments.Segment.{Segment}
 use Rattle.cutting.specs.declared.segments.Segment.the-variants.{Found, Nothing}

@@ -18,7 +18,7 @@ use Rattle.meaning.specs.Answers.{filled}
 use Rattle.meaning.specs.Reads.{Reads}
 use Rattle.meaning.specs.Numbers.{digitsOf}
 use Rattle.meaning.specs.Halves.{joinedHalves, textOf, negatedLow, negatedHigh}
-use Rattle.laws.proofs.Halves.{joinedHalves-negated, digitsOf-length, joinedHalves-lt}
+use Rattle.laws.proofs.basics.Halves.{joinedHalves-negated, digitsOf-length, joinedHalves-lt}
 use Rattle.decimals.proofs.Halving.{below-half}
 
 module _ (t out : List ℕ) (k : ℕ) (e : k ≡ length t) where

@@ -18,7 +18,7 @@ use Rattle.meaning.specs.Reads.{Reads}
 use Rattle.meaning.specs.Numbers.{signLength, isMinus, radixPrefix, placed, strip, Parsed, none, int}
 use Rattle.meaning.specs.Numbers.{fits, within-bits, negatedBy, printedBy, unsigned, baseOf, separated, radixValue, decimalOf}
 use Rattle.meaning.specs.Halves.{joinedHalves, bitsOf, textOf}
-use Rattle.laws.proofs.Halves.{textOf-printed}
+use Rattle.laws.proofs.basics.Halves.{textOf-printed}
 use Rattle.numbers.specs.Values.{parsedApart}
 use Rattle.decimals.specs.SignedHalves.{halvesOf}
 use Rattle.decimals.specs.Separating.{separatorsOf, plainOf}

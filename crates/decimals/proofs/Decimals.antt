@@ -12,8 +12,8 @@ use lib.Dec.{lit≤}
 use lib.ListN.{length, drop, set, length-set}
 use Rattle.meaning.specs.Numbers.{digitsOf}
 use Rattle.meaning.specs.Halves.{joinedHalves}
-use Rattle.laws.proofs.Halves.{joinedHalves-lt, small-or, digitsOf-small, digitsOf-step, digitsOf-more, digitsOf-length}
-use Rattle.laws.proofs.Lists.{drop-set-here}
+use Rattle.laws.proofs.basics.Halves.{joinedHalves-lt, small-or, digitsOf-small, digitsOf-step, digitsOf-more, digitsOf-length}
+use Rattle.laws.proofs.basics.Lists.{drop-set-here}
 use Rattle.decimals.specs.Printing.{Parts, lastOf}
 use Rattle.decimals.specs.declared.printing.Parted.{Parted}
 

@@ -16,8 +16,8 @@ use mir.Val.{Fits}
 use Rattle.meaning.specs.Bytes.{if_then_else_}
 use Rattle.meaning.specs.Numbers.{signLength, isMinus, Parsed, none, int, fits, signed, within-bits, negatedBy, unsigned}
 use Rattle.meaning.specs.Halves.{joinedHalves, bitsOf, negatedLow, negatedHigh}
-use Rattle.laws.proofs.Tests.{and-left, and-right}
-use Rattle.laws.proofs.Halves.{negated-halves, bitsOf-lt}
+use Rattle.laws.proofs.basics.Tests.{and-left, and-right}
+use Rattle.laws.proofs.basics.Halves.{negated-halves, bitsOf-lt}
 use Rattle.numbers.specs.Values.{parsedApart, digitsFrom, radixBy, halvesBy, wideOf}
 use Rattle.decimals.specs.SignedHalves.{halvesOf, negatedHalves}
 use Rattle.numbers.specs.declared.radix.Halves.{Halves}

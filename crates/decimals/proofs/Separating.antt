@@ -12,7 +12,7 @@ use lib.ListN.{length, getD, drop, set, length-drop, drop-of-length-le, List·ge
 use lib.Seq.{drop-cons, getD-drop, paste, paste-zero, paste-suc, length-paste, take-length}
 use Rattle.meaning.specs.Bytes.{if_then_else_, _!_, within, digit, has}
 use Rattle.meaning.specs.Numbers.{placed, strip}
-use Rattle.laws.proofs.Tests.{eqb-sym}
+use Rattle.laws.proofs.basics.Tests.{eqb-sym}
 use Rattle.decimals.specs.Separating.{isBetween, separatorsOf}
 use Rattle.decimals.specs.declared.separators.Separators.the-variants.{Count, Misplaced}
 

@@ -13,7 +13,7 @@ use Rattle.doubles.specs.Rows.{beforeOf, table}
 use Rattle.doubles.specs.Finding.{bucketAt, inBucket, headOf, olderOf, fits, Finds, Ready, Took}
 use Rattle.doubles.proofs.Newest.{newest-here, newest-past}
 use Rattle.doubles.proofs.Tables.{length-table, set-table-next, replicate-table, set-table}
-use Rattle.laws.proofs.Tests.{eqb-same}
+use Rattle.laws.proofs.basics.Tests.{eqb-same}
 
 -- a row is the newest of its bucket, and of no other
 head-own : (store ends : List ℕ) (k row : ℕ) → headOf store ends k (suc row) (bucketAt store ends k row) ≡ suc row

@@ -9,7 +9,7 @@ use lib.Dec.{eqb}
 use denote.Ref.{RefT, now}
 use Rattle.meaning.specs.Answers.{IsPart, partShown, partPlace}
 use Rattle.meaning.specs.Bytes.{_!_, same}
-use Rattle.laws.proofs.Tests.{and-left, and-right, eqb-same}
+use Rattle.laws.proofs.basics.Tests.{and-left, and-right, eqb-same}
 use Rattle.doubles.specs.Rows.{startOf, keyAt, keyPlace}
 
 -- CUT OUT

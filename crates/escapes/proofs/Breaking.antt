@@ -7,11 +7,11 @@ use native.Mathlib.Omega.{arith}
 use lib.ListN.{length, take, getD}
 use lib.Seq.{take-suc, take-all}
 use Rattle.meaning.specs.Chars.{Due, due, broken, push, pushes}
-use Rattle.laws.proofs.Utf8.{pushes-append}
+use Rattle.laws.proofs.utf8.Utf8.{pushes-append}
 use Rattle.utf8.specs.declared.tail.Utf8Tail.{Utf8Tail}
 use Rattle.utf8.specs.declared.tail.Utf8Tail.the-variants as Tail
 use Rattle.utf8.specs.Tails.{dueOf}
-use Rattle.laws.proofs.Passes.{Unbroken}
+use Rattle.laws.proofs.walking.Passes.{Unbroken}
 use Rattle.escapes.specs.Pieces.{BreaksAt}
 
 pub unbroken-by : (t : Utf8Tail) → (t ≡ Tail.Broken → ⊥) → Unbroken (dueOf t)

@@ -9,9 +9,9 @@ use lib.ListN.{length, take, drop, length-append}
 use lib.Seq.{take-append-seam}
 use Rattle.meaning.specs.Chars.{Due, due, broken, fresh, pushes, whole, utf8, encode, isScalar}
 use Rattle.meaning.specs.Answers.{filled}
-use Rattle.laws.proofs.Utf8.{Good, pushes-good, fresh-good}
-use Rattle.laws.proofs.Encode.{encode-utf8}
-use Rattle.laws.proofs.StepBounds.{encode-most}
+use Rattle.laws.proofs.utf8.Utf8.{Good, pushes-good, fresh-good}
+use Rattle.laws.proofs.utf8.Encode.{encode-utf8}
+use Rattle.laws.proofs.walking.StepBounds.{encode-most}
 use Rattle.leaves.specs.Puts.{Puts}
 use Rattle.scalars.specs.Scalars.{Encodes}
 

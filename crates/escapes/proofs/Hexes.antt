@@ -10,8 +10,8 @@ use lib.Dec.{eqb, ltb, leb, eqb·suc-suc}
 use lib.ListN.{length, drop, length-drop}
 use lib.Seq.{drop-drop}
 use Rattle.meaning.specs.Bytes.{if_then_else_, _!_, within, digit, digits, number}
-use Rattle.laws.proofs.Tests.{within-bounds}
-use Rattle.laws.proofs.Digits.{digits-length, number-digits-lt}
+use Rattle.laws.proofs.basics.Tests.{within-bounds}
+use Rattle.laws.proofs.basics.Digits.{digits-length, number-digits-lt}
 use Rattle.escapes.specs.declared.digits.Hexes.{Hexes}
 use Rattle.escapes.specs.Digits.{Group, hexBy}
 use Rattle.escapes.proofs.UnitLaws.{cut}

@@ -6,7 +6,7 @@ use Prim.Native.Nat.{ℕ, _+_, _≤_, _<_}
 use native.Mathlib.Omega.{arith}
 use lib.ListN.{length, drop, length-drop}
 use Rattle.meaning.specs.Bytes.{starts}
-use Rattle.laws.proofs.StepBounds.{starts-length}
+use Rattle.laws.proofs.walking.StepBounds.{starts-length}
 
 pub starts-inside : (p l : List ℕ) (at : ℕ) → at < length l → starts p (drop at l) ≡ true → at + length p ≤ length l
 starts-inside p l at h e = omega (arith, starts-length p (drop at l) e, length-drop at l)

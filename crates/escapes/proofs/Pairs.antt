@@ -12,10 +12,10 @@ use Rattle.meaning.specs.Bytes.{if_then_else_, _!_, ascii, has, span, backslash
 use Rattle.meaning.specs.Chars.{fresh}
 use Rattle.meaning.specs.Walk.{Step, keep, give, stop}
 use Rattle.meaning.specs.Steps.{byteOf, mysqlTable, doubled, standardStep}
-use Rattle.laws.proofs.Tests.{and-left, and-right}
-use Rattle.laws.proofs.Courses.{SoFar, Taken, Goes, taken, stands, isKept, kept-taken}
-use Rattle.laws.proofs.StepBounds.{Steady}
-use Rattle.laws.proofs.Passes.{unit-taken, Measuring, measuring-none, measuring-turn}
+use Rattle.laws.proofs.basics.Tests.{and-left, and-right}
+use Rattle.laws.proofs.walking.Courses.{SoFar, Taken, Goes, taken, stands, isKept, kept-taken}
+use Rattle.laws.proofs.walking.StepBounds.{Steady}
+use Rattle.laws.proofs.walking.Passes.{unit-taken, Measuring, measuring-none, measuring-turn}
 use Rattle.leaves.specs.declared.blocks.Stops.{Stops}
 use Rattle.leaves.specs.Blocks.{freeOf, passes}
 use Rattle.leaves.proofs.Scans.{passes-inside, passes-span, span-passes}

@@ -13,9 +13,9 @@ use Rattle.meaning.specs.Bytes.{if_then_else_, _!_, digit}
 use Rattle.meaning.specs.Chars.{Due, fresh}
 use Rattle.meaning.specs.Walk.{keep, give}
 use Rattle.meaning.specs.Steps.{oneByte, escaped, doubled, escapeStep}
-use Rattle.laws.proofs.Tests.{and-left, and-right}
-use Rattle.laws.proofs.Utf8.{low-lead}
-use Rattle.laws.proofs.Passes.{Measuring, measuring-turn, unit-taken}
+use Rattle.laws.proofs.basics.Tests.{and-left, and-right}
+use Rattle.laws.proofs.utf8.Utf8.{low-lead}
+use Rattle.laws.proofs.walking.Passes.{Measuring, measuring-turn, unit-taken}
 use Rattle.escapes.specs.declared.units.Family.{Family}
 use Rattle.escapes.specs.declared.units.Family.the-variants.{Escape}
 use Rattle.escapes.specs.Pieces.{letterOf}

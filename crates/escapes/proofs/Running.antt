@@ -9,7 +9,7 @@ use borrow.Author.Count.{below-more}
 use lib.ListN.{length, drop, length-drop}
 use lib.Seq.{getD-drop}
 use Rattle.meaning.specs.Bytes.{_!_, digit, number}
-use Rattle.laws.proofs.Digits.{DigitsTo, digits-is, number-suc, number-lt}
+use Rattle.laws.proofs.basics.Digits.{DigitsTo, digits-is, number-suc, number-lt}
 use Rattle.escapes.specs.Digits.{Run}
 
 -- of base β, w at the most: n digits from the place `at` of l on, and their number v

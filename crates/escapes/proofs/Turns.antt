@@ -13,10 +13,10 @@ use Rattle.meaning.specs.Bytes.{if_then_else_, _!_, span, quote, backslash}
 use Rattle.meaning.specs.Chars.{Due, broken, push, pushes}
 use Rattle.meaning.specs.Walk.{Step, keep, give, stop, walk}
 use Rattle.meaning.specs.Steps.{doubled, uescaped}
-use Rattle.laws.proofs.Tests.{and-left, and-right, eqb-sym}
-use Rattle.laws.proofs.Courses.{SoFar, taken, stands, isKept, Goes, Taken, Kept, kept-taken}
-use Rattle.laws.proofs.StepBounds.{Steady, standard-steady, escape-steady, unicode-steady}
-use Rattle.laws.proofs.Passes.{courseBy, StopsAt, EndsWith, Unbroken, unit-taken, Measuring, measuring-turn, measuring-stop, measuring-broken}
+use Rattle.laws.proofs.basics.Tests.{and-left, and-right, eqb-sym}
+use Rattle.laws.proofs.walking.Courses.{SoFar, taken, stands, isKept, Goes, Taken, Kept, kept-taken}
+use Rattle.laws.proofs.walking.StepBounds.{Steady, standard-steady, escape-steady, unicode-steady}
+use Rattle.laws.proofs.walking.Passes.{courseBy, StopsAt, EndsWith, Unbroken, unit-taken, Measuring, measuring-turn, measuring-stop, measuring-broken}
 use Rattle.leaves.specs.declared.blocks.Stops.{Stops}
 use Rattle.leaves.specs.Blocks.{freeOf}
 use Rattle.leaves.proofs.RunSteps.{KeepsAll, run-kept}

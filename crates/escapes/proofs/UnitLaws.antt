@@ -16,9 +16,9 @@ use Rattle.meaning.specs.Chars.{encode, isScalar}
 use Rattle.meaning.specs.Walk.{Step, keep, give, stop}
 use Rattle.meaning.specs.Steps.{byteOf, mysqlTable, escapeTable, doubled, mysql, oneByte, mayEscape, scalarBy, escaped, pair, lowHalf, uescaped, standardStep}
 use Rattle.meaning.specs.Steps.{escapeStep, unicodeStep}
-use Rattle.laws.proofs.Tests.{and-left, and-right, eqb-sym, within-yes, within-below, within-above, within-bounds}
-use Rattle.laws.proofs.Encode.{isScalar-yes}
-use Rattle.laws.proofs.Digits.{digits-le, digits-length, number-digits-lt}
+use Rattle.laws.proofs.basics.Tests.{and-left, and-right, eqb-sym, within-yes, within-below, within-above, within-bounds}
+use Rattle.laws.proofs.utf8.Encode.{isScalar-yes}
+use Rattle.laws.proofs.basics.Digits.{digits-le, digits-length, number-digits-lt}
 use Rattle.escapes.specs.declared.digits.Digits.{Digits}
 use Rattle.escapes.specs.declared.pieces.Piece.{Piece}
 use Rattle.escapes.specs.declared.pieces.Piece.the-variants.{Keep, Byte, Two, Scalar, Escape, Refused}

@@ -9,7 +9,7 @@ use Rattle.meaning.specs.Bytes.{if_then_else_, _!_, digit, quote, backslash}
 use Rattle.meaning.specs.Chars.{Due}
 use Rattle.meaning.specs.Walk.{keep, give}
 use Rattle.meaning.specs.Steps.{escapeStep}
-use Rattle.laws.proofs.Passes.{Measuring}
+use Rattle.laws.proofs.walking.Passes.{Measuring}
 use Rattle.escapes.specs.declared.units.Family.{Family}
 use Rattle.escapes.specs.declared.quick.Passed.{Passed}
 use Rattle.escapes.specs.Pieces.{letterOf}

@@ -16,7 +16,7 @@ ghost use lib.Dec.{eqb};
 ghost use lib.ListN.{drop};
 ghost use Rattle.meaning.specs.Chars.{fresh};
 ghost use Rattle.meaning.specs.Steps.{standardStep};
-ghost use Rattle.laws.proofs.Passes.{Measuring};
+ghost use Rattle.laws.proofs.walking.Passes.{Measuring};
 ghost use Rattle.leaves.specs.Blocks.{freeOf, passes};
 ghost use Rattle.cutting.specs.Marks.{markOf};
 ghost use Rattle.escapes.specs.Families.{stepOf, checks};

@@ -13,8 +13,8 @@ use Rattle.meaning.specs.Chars.{utf8}
 use Rattle.meaning.specs.Walk.{Trace, ended, stopped, kept, gave, size, stops, plain, value}
 use Rattle.meaning.specs.Spelling.{Spelling, unicode, encloses, argument, unicodeSpelling}
 use Rattle.meaning.specs.Helpers.{uescapeLegal, escapeValid, unicodeValid, unicodeValidAs}
-use Rattle.laws.proofs.Tests.{and-right}
-use Rattle.laws.proofs.Ranges.{Bounds, enclosed-range}
+use Rattle.laws.proofs.basics.Tests.{and-right}
+use Rattle.laws.proofs.questions.Ranges.{Bounds, enclosed-range}
 use Rattle.cutting.specs.declared.marks.Mark.the-variants.{Quote}
 use Rattle.uescape.specs.declared.Argument.{Argument}
 use Rattle.uescape.specs.declared.Argument.the-variants.{Legal, Illegal}

@@ -15,7 +15,7 @@ use Rattle.meaning.specs.Reading.{Answer, borrowed, written, refused, read}
 use Rattle.meaning.specs.Kinds as kinds
 use Rattle.meaning.specs.Kinds.{temporalToken, behind, temporal}
 use Rattle.meaning.specs.Reads.{readOf, bufferOf, Reads}
-use Rattle.laws.proofs.Ranges.{Bounds}
+use Rattle.laws.proofs.questions.Ranges.{Bounds}
 use Rattle.kinds.specs.declared.temporal.Token.{Token}
 use Rattle.kinds.specs.declared.temporal.Token.the-variants.{Found, Nothing}
 use Rattle.kinds.specs.Tokens.{tokenOf}

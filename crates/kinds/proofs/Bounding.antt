@@ -21,9 +21,9 @@ use Rattle.meaning.specs.Reading.{Answer, borrowed, written, refused, Value, me
 use Rattle.meaning.specs.Kinds.{firstOf, lastBy, pastLast, placeBy, found}
 use Rattle.meaning.specs.Kinds.{Token, token, noToken, closedToken, dollarToken, tokenStart, quoteToken, temporalToken}
 use Rattle.meaning.specs.Reads.{readOf}
-use Rattle.laws.proofs.StepBounds.{starts-length}
-use Rattle.laws.proofs.Ranges.{Bounds, AnswerIn, one-inside}
-use Rattle.laws.proofs.Short.{Bound, alone-bound}
+use Rattle.laws.proofs.walking.StepBounds.{starts-length}
+use Rattle.laws.proofs.questions.Ranges.{Bounds, AnswerIn, one-inside}
+use Rattle.laws.proofs.walking.Short.{Bound, alone-bound}
 use Rattle.spellings.proofs.Dollars.{delimiter-length}
 
 -- WHAT IS FOUND lies inside

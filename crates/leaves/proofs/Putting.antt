@@ -9,8 +9,8 @@ use borrow.Author.Tests.{le-leb, lt-leb}
 use lib.ListN.{length, drop}
 use lib.Seq.{sets, sets-eq}
 use Rattle.meaning.specs.Answers.{filled}
-use Rattle.laws.proofs.Copies.{Copying, copying-all}
-use Rattle.laws.proofs.Determined.{Same}
+use Rattle.laws.proofs.basics.Copies.{Copying, copying-all}
+use Rattle.laws.proofs.questions.Determined.{Same}
 use Rattle.leaves.specs.Puts.{Puts}
 
 module _ (v out : List ℕ) where

@@ -9,7 +9,7 @@ use lib.Seq.{drop-cons, getD-drop}
 use borrow.Author.Tests.{not-true, not-false}
 use Rattle.meaning.specs.Bytes.{if_then_else_, _!_, span, inName, inTag}
 use Rattle.meaning.specs.Walk.{Step, keep}
-use Rattle.laws.proofs.Courses.{Kept}
+use Rattle.laws.proofs.walking.Courses.{Kept}
 use Rattle.leaves.specs.declared.runs.NameClass.{NameClass}
 use Rattle.leaves.specs.declared.runs.NameClass.the-variants.{Charset, DollarTag}
 use Rattle.leaves.specs.Runs.{inClass}

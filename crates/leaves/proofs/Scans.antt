@@ -9,7 +9,7 @@ use lib.ListN.{length, drop, getD, length-drop, drop-of-length-le}
 use lib.Seq.{drop-cons, drop-drop}
 use borrow.Author.Tests.{eq-eqb, ne-eqb, eqb-true, eqb-false, not-true, not-false}
 use Rattle.meaning.specs.Bytes.{if_then_else_, has, span}
-use Rattle.laws.proofs.Tests.{and-left, and-right, eqb-sym}
+use Rattle.laws.proofs.basics.Tests.{and-left, and-right, eqb-sym}
 use Rattle.leaves.specs.Blocks.{freeOf, passes, Past}
 
 pub passes-append : (p : ℕ → Bool) (m n k : ℕ) (t : List ℕ) → k ≡ m + n → passes p k t ≡ (passes p m t && passes p n (drop m t))

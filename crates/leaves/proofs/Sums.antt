@@ -6,7 +6,7 @@ use native.Mathlib.Omega.{arith}
 use borrow.Author.Tests.{lt-ltb, le-ltb, ltb-true, ltb-false}
 use lib.Dec.{ltb}
 use Rattle.meaning.specs.Bytes.{if_then_else_, within, digit}
-use Rattle.laws.proofs.Tests.{within-bounds, within-below, within-above, within-outside}
+use Rattle.laws.proofs.basics.Tests.{within-bounds, within-below, within-above, within-outside}
 use Rattle.leaves.specs.Digits.{capped}
 
 -- `loose_digit`, up to 9 and above it

@@ -10,9 +10,9 @@ use lib.ListN.{length, take, drop, length-append, length-drop, drop-of-length-le
 use lib.Seq.{take-all, drop-drop}
 use Rattle.meaning.specs.Answers.{filled}
 use Rattle.meaning.specs.Records.{recordLine, output}
-use Rattle.laws.proofs.Lists.{part-tail}
-use Rattle.laws.proofs.Passes.{put-behind}
-use Rattle.laws.proofs.RecordOutput.{output-none, output-first}
+use Rattle.laws.proofs.basics.Lists.{part-tail}
+use Rattle.laws.proofs.walking.Passes.{put-behind}
+use Rattle.laws.proofs.questions.RecordOutput.{output-none, output-first}
 use Rattle.leaves.specs.Puts.{Puts}
 use Rattle.leaves.proofs.Putting.{puts-room}
 use Rattle.records.proofs.Lengths.{recordLine-length}

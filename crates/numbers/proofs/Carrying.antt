@@ -16,7 +16,7 @@ use lib.Pow.{pow-add, pow-pos}
 use lib.ListN.{length, getD}
 use Rattle.meaning.specs.Bytes.{digit}
 use Rattle.meaning.specs.Halves.{joinedHalves}
-use Rattle.laws.proofs.Halves.{joinedHalves-lt}
+use Rattle.laws.proofs.basics.Halves.{joinedHalves-lt}
 use Rattle.numbers.specs.Values.{Spelt, misspelt, spelt, digitsFrom, wideOf}
 use Rattle.numbers.specs.declared.radix.Halves.the-variants as H
 use Rattle.numbers.proofs.Spelled.{Above, Reading, reading-start, too-great, digit-on, ends-spelt}

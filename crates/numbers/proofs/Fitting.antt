@@ -12,7 +12,7 @@ use lib.ListN.{length, take, drop}
 use mir.Syntax.{w64}
 use mir.Val.{SFits, toZ, ofZ}
 use mir.Facts.{toZ-ofZ}
-use Rattle.laws.proofs.Digits.{DigitsTo, allDigits-at}
+use Rattle.laws.proofs.basics.Digits.{DigitsTo, allDigits-at}
 use Rattle.meaning.specs.declared.RadixPrefix.{RadixPrefix}
 use Rattle.meaning.specs.Bytes.{if_then_else_, number, allDigits}
 use Rattle.meaning.specs.Halves.{joinedHalves}

@@ -15,8 +15,8 @@ use mir.Syntax.{w64}
 use mir.Val.{Fits}
 use Rattle.meaning.specs.Bytes.{if_then_else_, _!_, within, digit, number, allDigits}
 use Rattle.meaning.specs.Numbers.{signLength, isMinus, baseBy, radixPrefix}
-use Rattle.laws.proofs.Tests.{within-bounds, if-same}
-use Rattle.laws.proofs.Digits.{DigitsTo, allDigits-of, allDigits-at, number-suc, number-lt}
+use Rattle.laws.proofs.basics.Tests.{within-bounds, if-same}
+use Rattle.laws.proofs.basics.Digits.{DigitsTo, allDigits-of, allDigits-at, number-suc, number-lt}
 use Rattle.numbers.specs.Values.{spelt, digitsFrom, shortOf}
 use Rattle.numbers.specs.declared.digits.Magnitude.the-variants as M
 

@@ -12,7 +12,7 @@ use Rattle.meaning.specs.declared.RadixPrefix.{RadixPrefix}
 use Rattle.meaning.specs.Bytes.{if_then_else_, _!_, ascii, has, within, digit}
 use Rattle.meaning.specs.Numbers.{signLength, isMinus, baseBy, radixPrefix, placed, strip, none}
 use Rattle.meaning.specs.Numbers.{parsed, within-bits, negatedBy, unsigned, baseOf, numberBody, separated, radixValue}
-use Rattle.laws.proofs.Tests.{if-same}
+use Rattle.laws.proofs.basics.Tests.{if-same}
 use Rattle.numbers.specs.Values.{parsedApart}
 use Rattle.numbers.proofs.Prefixes.{tail-part}
 

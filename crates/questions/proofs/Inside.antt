@@ -13,7 +13,7 @@ use Rattle.meaning.specs.Cutting.{off}
 use Rattle.meaning.specs.Reading.{Answer, borrowed, written, refused, read}
 use Rattle.meaning.specs.Numbers.{Parsed, none, int, baseOf, separated, strip, radixValue, printedBy, decimalOf}
 use Rattle.meaning.specs.Kinds.{money, Token, token, noToken, temporalToken, behind, readToken, temporal}
-use Rattle.laws.proofs.Ranges.{Bounds, AnswerIn, read-inside}
+use Rattle.laws.proofs.questions.Ranges.{Bounds, AnswerIn, read-inside}
 use Rattle.kinds.proofs.Bounding.{TokenIn, token-in}
 
 pub decimal-inside : (t : List ℕ) → AnswerIn (length t) (decimalOf t)

@@ -24,7 +24,7 @@ use Rattle.meaning.specs.Reads.{readOf, bufferOf, Reads}
 use Rattle.meaning.specs.Answers.{Meets}
 use Rattle.meaning.specs.Questions as Definition
 use Rattle.meaning.specs.Questions.{toldAs, told, rangeAs, ranged}
-use Rattle.laws.proofs.Ranges.{AnswerIn}
+use Rattle.laws.proofs.questions.Ranges.{AnswerIn}
 use Rattle.spans.specs.declared.tests.Tested.{Tested}
 use Rattle.spans.specs.declared.tests.Tested.the-variants.{Passes, Barred}
 use Rattle.spans.specs.Tests.{Tests}

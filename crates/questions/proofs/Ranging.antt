@@ -28,7 +28,7 @@ use Rattle.spans.specs.Tests.{Tests}
 use Rattle.questions.specs.Told.{rangeBy, InText}
 use Rattle.questions.proofs.Spanned.{span-barred, span-passes, span-start, span-inside, span-length}
 use Rattle.questions.proofs.Moved.{fits-text, ranged-is, ranged-barred}
-use Rattle.laws.proofs.AgreedParts.{charset-inside}
+use Rattle.laws.proofs.questions.AgreedParts.{charset-inside}
 use Rattle.questions.proofs.Inside.{money-inside}
 
 -- THE TEXT

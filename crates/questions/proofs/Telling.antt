@@ -21,7 +21,7 @@ use Rattle.meaning.specs.Kinds.{bits, temporal}
 use Rattle.meaning.specs.Answers.{Meets, kindCode}
 use Rattle.meaning.specs.Questions as Definition
 use Rattle.meaning.specs.Questions.{tested, stringQuestion, decimalQuestion, bitsQuestion, temporalQuestion}
-use Rattle.laws.proofs.Ranges.{read-inside}
+use Rattle.laws.proofs.questions.Ranges.{read-inside}
 use Rattle.spans.specs.declared.tests.Tested.{Tested}
 use Rattle.spans.specs.declared.tests.Tested.the-variants.{Passes, Barred}
 use Rattle.spans.specs.Tests.{Tests}

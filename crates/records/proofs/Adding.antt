@@ -8,7 +8,7 @@ use borrow.Author.Tests.{le-leb}
 use lib.ListN.{length, take, drop, set, length-append, length-drop, length-set, drop-of-length-le}
 use lib.Seq.{take-suc-set, take-at, length-take-le}
 use Rattle.meaning.specs.Answers.{filled}
-use Rattle.laws.proofs.Lists.{part-tail}
+use Rattle.laws.proofs.basics.Lists.{part-tail}
 use Rattle.leaves.specs.Puts.{Puts}
 use Rattle.leaves.proofs.Putting.{puts-room}
 use Rattle.records.specs.Adding.{Adds}

@@ -9,8 +9,8 @@ use mir.Val.{Fits}
 use lib.Dec.{lit≤}
 use lib.ListN.{length, drop, set, length-append, length-set, drop-of-length-le}
 use Rattle.meaning.specs.Numbers.{digitsOf}
-use Rattle.laws.proofs.Halves.{small-or, digitsOf-small, digitsOf-step, digitsOf-more, digitsOf-length}
-use Rattle.laws.proofs.Lists.{drop-set-here}
+use Rattle.laws.proofs.basics.Halves.{small-or, digitsOf-small, digitsOf-step, digitsOf-more, digitsOf-length}
+use Rattle.laws.proofs.basics.Lists.{drop-set-here}
 use Rattle.records.specs.Adding.{EndsIn}
 
 some : (n : ℕ) → 1 ≤ length (digitsOf n)

@@ -29,8 +29,8 @@ use Rattle.meaning.specs.Questions.{Tested, passes, barred, tested, isInteger, 
 use Rattle.meaning.specs.Questions.{moneyQuestion, temporalQuestion, charsetQuestion}
 use Rattle.meaning.specs.Records.{line, refusedLine, shownLine, textLine, rangeLine, charsetLine, integerLine, room, asked, wholeLiteral, goodRecord}
 use Rattle.meaning.specs.Records.{textIn, recordLine, hexText}
-use Rattle.laws.proofs.Buffers.{TextLeaves, stringQuestion-leaves, decimalQuestion-leaves, bitsQuestion-leaves, temporalQuestion-leaves}
-use Rattle.laws.proofs.Halves.{digitsOf-length, printed-length}
+use Rattle.laws.proofs.questions.Buffers.{TextLeaves, stringQuestion-leaves, decimalQuestion-leaves, bitsQuestion-leaves, temporalQuestion-leaves}
+use Rattle.laws.proofs.basics.Halves.{digitsOf-length, printed-length}
 use Rattle.records.proofs.Answering.{short}
 use Rattle.records.proofs.Goods.{settingIn, good-facts, text-short}
 use Rattle.records.proofs.Hexing.{hexText-length}

@@ -16,7 +16,7 @@ use mir.Val.{Fits, SFits, toZ, ofZ}
 use mir.Facts.{toZ-ofZ}
 use Rattle.meaning.specs.Numbers.{digitsOf, printed}
 use Rattle.records.specs.Adding.{EndsIn}
-use Rattle.laws.proofs.Lists.{drop-set-here}
+use Rattle.laws.proofs.basics.Lists.{drop-set-here}
 
 -- a number as the machine gives it back, and -1 less it
 abbrev given : ℤ → ℤ

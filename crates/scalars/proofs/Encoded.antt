@@ -10,8 +10,8 @@ use lib.ListN.{length}
 use lib.Seq.{sets, sets-eq}
 use Rattle.meaning.specs.Chars.{encode, isScalar, more}
 use Rattle.meaning.specs.Answers.{filled}
-use Rattle.laws.proofs.Encode.{encode-more}
-use Rattle.laws.proofs.Determined.{Same}
+use Rattle.laws.proofs.utf8.Encode.{encode-more}
+use Rattle.laws.proofs.questions.Determined.{Same}
 use Rattle.scalars.specs.Scalars.{Encodes}
 
 div-one : (c : ℕ) → c / 1 ≡ c

@@ -10,10 +10,10 @@ use lib.ListN.{length, drop, getD, drop-of-length-le}
 use lib.Seq.{drop-cons}
 use Rattle.meaning.specs.Bytes.{if_then_else_, within}
 use Rattle.meaning.specs.Chars.{Due, due, broken, lead, push, whole, gather}
-use Rattle.laws.proofs.Tests.{within-bounds}
-use Rattle.laws.proofs.Utf8.{Good, lead-good, push-good}
+use Rattle.laws.proofs.basics.Tests.{within-bounds}
+use Rattle.laws.proofs.utf8.Utf8.{Good, lead-good, push-good}
 use Rattle.scalars.specs.Scalars.{pending, leadBitsBy, leadBits, scalarFrom, scalarOf}
-use Rattle.laws.proofs.Leads.{lead-by}
+use Rattle.laws.proofs.utf8.Leads.{lead-by}
 
 abbrev gatherBy : Due → ℕ → List ℕ → ℕ
 gatherBy broken v t = 0

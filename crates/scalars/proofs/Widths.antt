@@ -2,7 +2,7 @@
 use mathlib.Core.Path.{_≡_}
 use Prim.Native.Nat.{ℕ}
 use Rattle.meaning.specs.Chars.{leads, width, widthBy}
-use Rattle.laws.proofs.Leads.{By, lead-by}
+use Rattle.laws.proofs.utf8.Leads.{By, lead-by}
 use Rattle.scalars.specs.Scalars.{leadBits, leadBitsBy}
 
 pub width-is : (n b : ℕ) → By (λ d. n ≡ widthBy d) 0 leads b → n ≡ width b

@@ -8,7 +8,7 @@ use native.Mathlib.Omega.{arith}
 use lib.ListN.{length, drop, getD}
 use Rattle.meaning.specs.Bytes.{within}
 use Rattle.meaning.specs.Chars.{spaces, inRanges, isSpace}
-use Rattle.laws.proofs.Tests.{within-yes, within-below, within-above}
+use Rattle.laws.proofs.basics.Tests.{within-yes, within-below, within-above}
 
 abbrev pub lows : List ℕ
 lows = 0x9 ∷ 0x20 ∷ 0x85 ∷ 0xA0 ∷ 0x1680 ∷ 0x2000 ∷ 0x2028 ∷ 0x202F ∷ 0x205F ∷ 0x3000 ∷ []

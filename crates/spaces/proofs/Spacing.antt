@@ -11,11 +11,11 @@ use lib.Seq.{drop-cons, drop-drop}
 use Rattle.meaning.specs.Bytes.{if_then_else_, within}
 use Rattle.meaning.specs.Chars.{Due, due, broken, lead, width, widthBy, isSpace, space, spaceAt}
 use Rattle.meaning.specs.Steps.{spaceStep, spaceBy, gap}
-use Rattle.laws.proofs.Walks.{FitsIn}
-use Rattle.laws.proofs.Tests.{within-below, within-above}
-use Rattle.laws.proofs.Utf8.{low-lead}
-use Rattle.laws.proofs.Gaps.{no-space, space-fits}
-use Rattle.laws.proofs.Courses.{SoFar, so-far-none, so-far-give, size-here, size-end}
+use Rattle.laws.proofs.walking.Walks.{FitsIn}
+use Rattle.laws.proofs.basics.Tests.{within-below, within-above}
+use Rattle.laws.proofs.utf8.Utf8.{low-lead}
+use Rattle.laws.proofs.cutting.Gaps.{no-space, space-fits}
+use Rattle.laws.proofs.walking.Courses.{SoFar, so-far-none, so-far-give, size-here, size-end}
 use Rattle.scalars.specs.Scalars.{scalarFrom, scalarOf}
 
 pub space-none : (text : List ℕ) (at : ℕ) → length text ≤ at → 0 ≡ space (drop at text)

@@ -9,7 +9,7 @@ use Rattle.meaning.specs.declared.Literal.{Literal}
 use Rattle.meaning.specs.declared.Refusal.the-variants.{WrongKind, MissingSource, InvalidSourceRange, NotUtf8}
 use Rattle.meaning.specs.Chars.{utf8}
 use Rattle.meaning.specs.Questions.{badSpan, sourceText, tested}
-use Rattle.laws.proofs.Ranges.{span-range}
+use Rattle.laws.proofs.questions.Ranges.{span-range}
 use Rattle.spans.specs.declared.tests.Tested.{Tested}
 use Rattle.spans.specs.declared.tests.Tested.the-variants.{Passes, Barred}
 use Rattle.spans.specs.Tests.{Tests}

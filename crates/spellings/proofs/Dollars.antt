@@ -10,7 +10,7 @@ use lib.Seq.{getD-drop, drop-drop}
 use borrow.Author.Tests.{eq-eqb, ne-eqb, le-leb, lt-leb}
 use Rattle.meaning.specs.Bytes.{if_then_else_, _!_, same, starts, span, startsTag, inTag}
 use Rattle.meaning.specs.Spelling.{dollar, unspelt, tagLength, delimiter, dollarBy}
-use Rattle.laws.proofs.Openings.{inside}
+use Rattle.laws.proofs.cutting.Openings.{inside}
 use Rattle.leaves.proofs.RunSteps.{span-length}
 use Rattle.spellings.specs.declared.spelling.Spelled.the-variants.{Dollar, Unspelt}
 use Rattle.spellings.specs.Spelled.{Spells}

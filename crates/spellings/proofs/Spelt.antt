@@ -16,7 +16,7 @@ use Rattle.cutting.proofs.Cuts.{opened-mark}
 use Rattle.spellings.specs.declared.spelling.Spelled.{Spelled}
 use Rattle.spellings.specs.declared.spelling.Spelled.the-variants.{Standard, Escape, Unspelt}
 use Rattle.spellings.specs.Spelled.{Spells, introducedOf, otherOf}
-use Rattle.laws.proofs.Enclosures.{enclosed-room}
+use Rattle.laws.proofs.basics.Enclosures.{enclosed-room}
 
 -- AN INTRODUCER of o bytes, with its mark
 module _ (t : List ℕ) (o : ℕ) (eo : o ≡ opening t) where

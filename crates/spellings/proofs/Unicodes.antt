@@ -13,16 +13,16 @@ use Rattle.meaning.specs.Bytes.{if_then_else_, _!_, part, ascii, has, quote}
 use Rattle.meaning.specs.Walk.{Trace, walk, stops}
 use Rattle.meaning.specs.Steps.{closingStep, gap, trim}
 use Rattle.meaning.specs.Spelling.{encloses, legalEscape, argument, chosen, unicodeBy, isUnicode, unicodeSpelling}
-use Rattle.laws.proofs.Tests.{true→T, and-right}
-use Rattle.laws.proofs.Walks.{stops-inside}
-use Rattle.laws.proofs.Openings.{inside}
-use Rattle.laws.proofs.Arguments.{argument-inner}
+use Rattle.laws.proofs.basics.Tests.{true→T, and-right}
+use Rattle.laws.proofs.walking.Walks.{stops-inside}
+use Rattle.laws.proofs.cutting.Openings.{inside}
+use Rattle.laws.proofs.cutting.Arguments.{argument-inner}
 use Rattle.cutting.specs.declared.marks.Mark.{Mark}
 use Rattle.cutting.specs.declared.marks.Mark.the-variants.{Quote, DoubleQuote}
 use Rattle.cutting.specs.declared.marks.Closing.{Closing}
 use Rattle.cutting.specs.declared.marks.Closing.the-variants.{At, Unclosed}
 use Rattle.cutting.specs.Marks.{markOf, closedOf}
-use Rattle.laws.proofs.Lists.{part-tail}
+use Rattle.laws.proofs.basics.Lists.{part-tail}
 use Rattle.cutting.proofs.Cuts.{course-at, course-unclosed}
 use Rattle.uescape.specs.declared.Clause.{Clause}
 use Rattle.uescape.specs.declared.Clause.the-variants.{Default, Chosen, Bad}

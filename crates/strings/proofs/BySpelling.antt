@@ -13,8 +13,8 @@ use Rattle.meaning.specs.declared.Read.{Read}
 use Rattle.meaning.specs.declared.Read.the-variants as Read′
 use Rattle.meaning.specs.Reads.{Reads}
 use Rattle.meaning.specs.Reading.{Answer, valueOf, answer, read-as, one, alone}
-use Rattle.laws.proofs.Joining.{fails≢means}
-use Rattle.laws.proofs.Ranges.{BodyIn, spelling-body}
+use Rattle.laws.proofs.joining.Joining.{fails≢means}
+use Rattle.laws.proofs.questions.Ranges.{BodyIn, spelling-body}
 use Rattle.cutting.specs.declared.marks.Mark.{Mark}
 use Rattle.cutting.specs.declared.marks.Mark.the-variants.{Quote}
 use Rattle.escapes.specs.declared.units.Family.the-variants as Family′

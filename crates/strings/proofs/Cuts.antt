@@ -11,8 +11,8 @@ use Rattle.meaning.specs.declared.Settings.{Settings}
 use Rattle.meaning.specs.Bytes.{_!_, isMark}
 use Rattle.meaning.specs.Steps.{gap}
 use Rattle.meaning.specs.Cutting.{opening, segment, continues}
-use Rattle.laws.proofs.Gaps.{gap-fits}
-use Rattle.laws.proofs.Openings.{segment-fits}
+use Rattle.laws.proofs.cutting.Gaps.{gap-fits}
+use Rattle.laws.proofs.cutting.Openings.{segment-fits}
 use Rattle.cutting.specs.Segments.{foundBy, segmentOf}
 use Rattle.cutting.specs.declared.segments.Segment.{Segment}
 use Rattle.cutting.specs.declared.segments.Segment.the-variants.{Found, Nothing}

@@ -12,8 +12,8 @@ use borrow.Author.Tests.{leb-true}
 use Rattle.meaning.specs.Bytes.{if_then_else_, span}
 use Rattle.meaning.specs.Walk.{Step, walk, stops, plain, value}
 use Rattle.meaning.specs.Answers.{filled}
-use Rattle.laws.proofs.Courses.{so-far-none, so-far-end, Taken}
-use Rattle.laws.proofs.Passes.{Writing, put-part}
+use Rattle.laws.proofs.walking.Courses.{so-far-none, so-far-end, Taken}
+use Rattle.laws.proofs.walking.Passes.{Writing, put-part}
 use Rattle.leaves.specs.Blocks.{freeOf}
 use Rattle.leaves.specs.Puts.{Puts}
 use Rattle.escapes.specs.declared.pieces.Piece.{Piece}

@@ -16,9 +16,9 @@ use Rattle.meaning.specs.Spelling.{isUnicode}
 use Rattle.meaning.specs.Answers.{filled}
 use Rattle.meaning.specs.Reading.{Answer, borrowed, written, refused, means, valueOf, one, alone, read}
 use Rattle.meaning.specs.Reads.{Reads, readOf, bufferOf}
-use Rattle.laws.proofs.Openings.{segment-fits}
-use Rattle.laws.proofs.WholeRefused.{refused-whole}
-use Rattle.laws.proofs.Written.{lone}
+use Rattle.laws.proofs.cutting.Openings.{segment-fits}
+use Rattle.laws.proofs.cutting.WholeRefused.{refused-whole}
+use Rattle.laws.proofs.writing.Written.{lone}
 
 one-first : (σ : Settings) (t : List ℕ) → isUnicode quote t ≡ false → (v : List ℕ) → alone σ t ≡ means v → read σ t ≡ one σ t
 unfolding read continues segment

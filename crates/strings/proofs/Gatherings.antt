@@ -16,9 +16,9 @@ use Rattle.meaning.specs.Answers.{filled}
 use Rattle.meaning.specs.Cutting.{cut}
 use Rattle.meaning.specs.Reading.{Answer, borrowed, written, refused, Value, means, valueOf, one, alone, joined, asWritten}
 use Rattle.meaning.specs.Reads.{Reads, readOf, bufferOf}
-use Rattle.laws.proofs.Joins as joins
-use Rattle.laws.proofs.Owed.{reads-short, reads-written}
-use Rattle.laws.proofs.Ranges.{AnswerIn, one-inside}
+use Rattle.laws.proofs.joining.Joins as joins
+use Rattle.laws.proofs.questions.Owed.{reads-short, reads-written}
+use Rattle.laws.proofs.questions.Ranges.{AnswerIn, one-inside}
 use Rattle.leaves.specs.Puts.{Puts}
 use Rattle.cutting.specs.Segments.{nextOf}
 use Rattle.cutting.proofs.Cursors.{at-end}

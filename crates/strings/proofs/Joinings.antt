@@ -11,10 +11,10 @@ use Rattle.meaning.specs.declared.Settings.{Settings}
 use Rattle.meaning.specs.Walk.{walk, size}
 use Rattle.meaning.specs.Cutting.{segmentStep, cut}
 use Rattle.meaning.specs.Reading.{Value, means, fails, each, alone, joined}
-use Rattle.laws.proofs.Joining.{fails≢means, both-means}
-use Rattle.laws.proofs.Joins as joins
-use Rattle.laws.proofs.Passes.{put-part}
-use Rattle.laws.proofs.Short.{Bound, alone-bound}
+use Rattle.laws.proofs.joining.Joining.{fails≢means, both-means}
+use Rattle.laws.proofs.joining.Joins as joins
+use Rattle.laws.proofs.walking.Passes.{put-part}
+use Rattle.laws.proofs.walking.Short.{Bound, alone-bound}
 use Rattle.cutting.specs.Segments.{nextOf}
 use Rattle.cutting.proofs.Cursors.{Unit-at, at-end, at-remainder, at-segment}
 use Rattle.cutting.specs.declared.cursor.Cursor.{Cursor}

@@ -10,8 +10,8 @@ use lib.ListN.{getD}
 use Rattle.meaning.specs.Bytes.{if_then_else_, ascii, has}
 use Rattle.meaning.specs.Walk.{keep, give, stop}
 use Rattle.meaning.specs.Steps.{byteOf, mysqlTable, mysql, doubled, standardStep}
-use Rattle.laws.proofs.Tests.{and-left, and-right}
-use Rattle.laws.proofs.Courses.{stands}
+use Rattle.laws.proofs.basics.Tests.{and-left, and-right}
+use Rattle.laws.proofs.walking.Courses.{stands}
 use Rattle.escapes.specs.Standard.{unitBy}
 use Rattle.strings.specs.Rooms.{twoBy}
 

@@ -11,7 +11,7 @@ use Rattle.meaning.specs.Spelling.{unicode, unicodeSpelling}
 use Rattle.meaning.specs.Reading.{refused, answer}
 use Rattle.meaning.specs.Reads.{Reads}
 use Rattle.meaning.specs.Helpers.{identAs, ident}
-use Rattle.laws.proofs.Ranges.{unicode-body}
+use Rattle.laws.proofs.questions.Ranges.{unicode-body}
 use Rattle.cutting.specs.declared.marks.Mark.the-variants.{DoubleQuote}
 use Rattle.escapes.specs.declared.units.Family.the-variants as Family′
 use Rattle.escapes.specs.Families.{courseOf}
@@ -20,7 +20,7 @@ use Rattle.spellings.specs.declared.spelling.Spelled.the-variants.{Standard, Es
 use Rattle.spellings.specs.Spelled.{spelledOf, Spells}
 use Rattle.strings.specs.Answers.{Inside}
 use Rattle.strings.proofs.Ones.{body-inside, spelled-body}
-use Rattle.laws.proofs.Owed.{reads-refused}
+use Rattle.laws.proofs.questions.Owed.{reads-refused}
 use Rattle.strings.proofs.BySpelling.{default-escape, chosen-escape}
 
 module _ (t : List ℕ) (q : ℕ) (s : Spelled) (spells : Spells t s (unicodeSpelling q t)) where

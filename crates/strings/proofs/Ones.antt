@@ -12,9 +12,9 @@ use Rattle.meaning.specs.Walk.{Trace, size, stops, plain, value}
 use Rattle.meaning.specs.Spelling.{Spelling, spelling}
 use Rattle.meaning.specs.Reading.{Answer, borrowed, written, refused, Value, means, valueOf, answer, read-as, one, alone}
 use Rattle.meaning.specs.Answers.{filled}
-use Rattle.laws.proofs.Joining.{fails≢means}
-use Rattle.laws.proofs.Ranges.{Bounds, BodyIn, AnswerIn, one-inside}
-use Rattle.laws.proofs.Short.{course-size, body-means, body-goes}
+use Rattle.laws.proofs.joining.Joining.{fails≢means}
+use Rattle.laws.proofs.questions.Ranges.{Bounds, BodyIn, AnswerIn, one-inside}
+use Rattle.laws.proofs.walking.Short.{course-size, body-means, body-goes}
 use Rattle.escapes.specs.declared.units.Family.{Family}
 use Rattle.escapes.specs.declared.measuring.Measured.{Measured}
 use Rattle.escapes.specs.declared.measuring.Measured.the-variants as Measured′

@@ -19,9 +19,9 @@ use Rattle.meaning.specs.Spelling.{encloses, spelling}
 use Rattle.meaning.specs.Reading.{Value, means, borrowed, valueOf, answer, one, alone, read}
 use Rattle.meaning.specs.Reads.{Reads}
 use Rattle.meaning.specs.Writer.{spell, spells, literal}
-use Rattle.laws.proofs.Tests.{and-left, and-right, eqb-sym}
-use Rattle.laws.proofs.Enclosed.{has-append, encloses-body, part-body}
-use Rattle.laws.proofs.Written.{literal-segment, lone}
+use Rattle.laws.proofs.basics.Tests.{and-left, and-right, eqb-sym}
+use Rattle.laws.proofs.basics.Enclosed.{has-append, encloses-body, part-body}
+use Rattle.laws.proofs.writing.Written.{literal-segment, lone}
 use Rattle.leaves.specs.declared.blocks.Stops.{Stops}
 use Rattle.leaves.specs.Blocks.{freeOf, passes}
 use Rattle.leaves.specs.Puts.{Puts}
@@ -31,8 +31,8 @@ use Rattle.cutting.specs.declared.cursor.Next.{Next}
 use Rattle.cutting.specs.declared.cursor.Next.the-variants as Next′
 use Rattle.cutting.specs.declared.segments.Segment.the-variants.{Found}
 use Rattle.cutting.specs.Segments.{foundBy, segmentOf, nextBy, nextOf}
-use Rattle.laws.proofs.Gaps.{gap-fits}
-use Rattle.laws.proofs.Openings.{inside}
+use Rattle.laws.proofs.cutting.Gaps.{gap-fits}
+use Rattle.laws.proofs.cutting.Openings.{inside}
 use Rattle.strings.specs.declared.joined.Joined.the-variants as Joined′
 use Rattle.strings.specs.Answers.{lengthOf, Holds, Put}
 use Rattle.strings.specs.Plain.{settingStops, freeBody, isPlain, Plainly, PlainAt, SaysPlain, CutAt, GoesOn}

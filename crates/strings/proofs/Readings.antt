@@ -7,7 +7,7 @@ use lib.ListN.{length, drop}
 use Rattle.meaning.specs.declared.Read.the-variants as Read′
 use Rattle.meaning.specs.Reading.{Answer, borrowed, written, refused, valueOf}
 use Rattle.meaning.specs.Reads.{Reads}
-use Rattle.laws.proofs.Owed.{reads-short, reads-written, reads-refused, reads-borrowed}
+use Rattle.laws.proofs.questions.Owed.{reads-short, reads-written, reads-refused, reads-borrowed}
 use Rattle.strings.specs.declared.one.One.{One}
 use Rattle.strings.specs.declared.one.One.the-variants as One′
 use Rattle.strings.specs.Answers.{oneOf, Holds, valueIn, Put}

@@ -15,9 +15,9 @@ use Rattle.meaning.specs.Walk.{Trace, ended, walk, stops, value}
 use Rattle.meaning.specs.Steps.{checked}
 use Rattle.meaning.specs.Reading.{Answer, written, answer}
 use Rattle.meaning.specs.Reads.{Reads}
-use Rattle.laws.proofs.Walks.{graft}
-use Rattle.laws.proofs.Courses.{graft-ended, checked-graft}
-use Rattle.laws.proofs.Owed.{reads-borrowed, reads-short, reads-written}
+use Rattle.laws.proofs.walking.Walks.{graft}
+use Rattle.laws.proofs.walking.Courses.{graft-ended, checked-graft}
+use Rattle.laws.proofs.questions.Owed.{reads-borrowed, reads-short, reads-written}
 use Rattle.leaves.specs.Puts.{Puts}
 use Rattle.escapes.specs.declared.units.Family.{Family}
 use Rattle.escapes.specs.Families.{stepOf, checks, courseOf}

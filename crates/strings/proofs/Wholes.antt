@@ -15,7 +15,7 @@ use Rattle.strings.specs.declared.joined.Joined.{Joined}
 use Rattle.strings.specs.declared.joined.Joined.the-variants as Joined′
 use Rattle.strings.specs.Answers.{lengthOf, Holds, valueIn, Put}
 use Rattle.strings.specs.Plain.{GoesOn}
-use Rattle.laws.proofs.Owed.{reads-short, reads-written, reads-refused}
+use Rattle.laws.proofs.questions.Owed.{reads-short, reads-written, reads-refused}
 use Rattle.strings.proofs.Joinings.{length-means, length-fails}
 
 -- JOINED TEXT, by what measuring it said

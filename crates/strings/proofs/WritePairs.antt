@@ -10,8 +10,8 @@ use lib.Seq.{drop-at, drop-drop}
 use Rattle.meaning.specs.Bytes.{if_then_else_, _!_, span}
 use Rattle.meaning.specs.Walk.{Step, keep, give, stop, Trace, walk, value}
 use Rattle.meaning.specs.Steps.{standardStep}
-use Rattle.laws.proofs.Courses.{Taken, stands}
-use Rattle.laws.proofs.Passes.{Writing, Roomy, writing-within, taken-room, taken-turn}
+use Rattle.laws.proofs.walking.Courses.{Taken, stands}
+use Rattle.laws.proofs.walking.Passes.{Writing, Roomy, writing-within, taken-room, taken-turn}
 use Rattle.leaves.specs.declared.blocks.Stops.{Stops}
 use Rattle.leaves.specs.Blocks.{freeOf}
 use Rattle.leaves.specs.Puts.{Puts}

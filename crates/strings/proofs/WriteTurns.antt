@@ -6,8 +6,8 @@ use native.Mathlib.Omega.{arith}
 use lib.ListN.{length, take, drop, length-take, length-drop, length-append}
 use Rattle.meaning.specs.Bytes.{span}
 use Rattle.meaning.specs.Walk.{Trace, walk, value}
-use Rattle.laws.proofs.Courses.{Taken, value-graft}
-use Rattle.laws.proofs.Passes.{course-same, Writing, Roomy, course-roomy, writing-goes, taken-room, taken-turn, writing-end}
+use Rattle.laws.proofs.walking.Courses.{Taken, value-graft}
+use Rattle.laws.proofs.walking.Passes.{course-same, Writing, Roomy, course-roomy, writing-goes, taken-room, taken-turn, writing-end}
 use Rattle.leaves.specs.Blocks.{freeOf}
 use Rattle.leaves.specs.Puts.{Puts}
 use Rattle.leaves.proofs.Putting.{puts-room}

@@ -13,7 +13,7 @@ ghost use lib.ListN.{length};
 ghost use Rattle.meaning.specs.Bytes.{if_then_else_};
 ghost use Rattle.meaning.specs.Walk.{walk};
 ghost use Rattle.meaning.specs.Steps.{standardStep};
-ghost use Rattle.laws.proofs.Passes.{Writing};
+ghost use Rattle.laws.proofs.walking.Passes.{Writing};
 ghost use Rattle.leaves.specs.Puts.{Puts};
 ghost use Rattle.cutting.specs.Marks.{markOf};
 ghost use Rattle.escapes.specs.Families.{stepOf, courseOf};

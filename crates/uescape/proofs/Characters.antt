@@ -12,8 +12,8 @@ use borrow.Author.Tests.{eq-eqb, ne-eqb, not-true, not-false}
 use Rattle.meaning.specs.Bytes.{_!_, part, within, quote, digit}
 use Rattle.meaning.specs.Chars.{Due, due, broken, lead, laters, width, widthBy, space}
 use Rattle.meaning.specs.Spelling.{encloses, isOne, legalEscape}
-use Rattle.laws.proofs.Tests.{within-yes, within-below, within-above}
-use Rattle.laws.proofs.Arguments.{argument-inner}
+use Rattle.laws.proofs.basics.Tests.{within-yes, within-below, within-above}
+use Rattle.laws.proofs.cutting.Arguments.{argument-inner}
 use Rattle.uescape.specs.declared.Argument.the-variants.{Legal, Illegal}
 use Rattle.uescape.specs.Clauses.{allLater, legalBy, argumentOf}
 

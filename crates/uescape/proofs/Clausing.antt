@@ -12,13 +12,13 @@ use borrow.Author.Tests.{not-true, not-false}
 use Rattle.meaning.specs.Bytes.{if_then_else_, ascii}
 use Rattle.meaning.specs.Steps.{gap, trim}
 use Rattle.meaning.specs.Spelling.{upper}
-use Rattle.laws.proofs.Gaps.{gap-fits}
-use Rattle.laws.proofs.Lists.{part-tail}
+use Rattle.laws.proofs.cutting.Gaps.{gap-fits}
+use Rattle.laws.proofs.basics.Lists.{part-tail}
 use Rattle.uescape.specs.declared.Argument.{Argument}
 use Rattle.uescape.specs.declared.Argument.the-variants.{Legal, Illegal}
 use Rattle.uescape.specs.declared.Clause.the-variants.{Default, Chosen, Bad}
 use Rattle.uescape.specs.Clauses.{isKeyword, argumentOf, chosenAt, clauseAt, clauseOf}
-use Rattle.laws.proofs.Alike.{alike, alike-same, alike-long, alike-past}
+use Rattle.laws.proofs.basics.Alike.{alike, alike-same, alike-long, alike-past}
 
 -- THE WORD
 keyword-alike : (u : List ℕ) → alike upper (ascii "UESCAPE") u ≡ isKeyword u

@@ -8,8 +8,8 @@ use lib.ListN.{length, drop, getD}
 use lib.Seq.{drop-cons, drop-drop}
 use borrow.Author.Tests.{ltb-true, lt-ltb}
 use Rattle.meaning.specs.Chars.{fresh, pushes}
-use Rattle.laws.proofs.Tests.{and-left, and-right}
-use Rattle.laws.proofs.Utf8.{low-lead}
+use Rattle.laws.proofs.basics.Tests.{and-left, and-right}
+use Rattle.laws.proofs.utf8.Utf8.{low-lead}
 use Rattle.leaves.specs.Blocks.{passes}
 use Rattle.leaves.proofs.Scans.{passes-append}
 use Rattle.utf8.specs.Blocks.{isAscii}

@@ -11,9 +11,9 @@ use lib.Seq.{drop-cons}
 use borrow.Author.Tests.{eq-eqb, ne-eqb}
 use Rattle.meaning.specs.Bytes.{if_then_else_, within}
 use Rattle.meaning.specs.Chars.{Due, due, broken, fresh, lead, pushes, whole}
-use Rattle.laws.proofs.Tests.{and-left, and-right, if-suc}
-use Rattle.laws.proofs.Utf8.{Good, Ranged, ranged-all, lead-good, low-lead, pushes-broken}
-use Rattle.laws.proofs.Leads.{lead-at}
+use Rattle.laws.proofs.basics.Tests.{and-left, and-right, if-suc}
+use Rattle.laws.proofs.utf8.Utf8.{Good, Ranged, ranged-all, lead-good, low-lead, pushes-broken}
+use Rattle.laws.proofs.utf8.Leads.{lead-at}
 use Rattle.utf8.specs.Blocks.{lowOf, highOf, follow, charBy, char, Leading}
 
 -- THE FIRST BYTE

@@ -14,7 +14,7 @@ use Rattle.meaning.specs.Bytes.{if_then_else_, within}
 use Rattle.meaning.specs.Chars.{Due, due, broken, fresh, push, pushes, whole, utf8}
 use Rattle.utf8.specs.declared.tail.Utf8Tail.{Utf8Tail}
 use Rattle.utf8.specs.declared.tail.Utf8Tail.the-variants.{Start, One, Two, TwoFromA0, TwoUpTo9F, Three, ThreeFrom90, ThreeUpTo8F, Broken}
-use Rattle.laws.proofs.Lists.{part-tail}
+use Rattle.laws.proofs.basics.Lists.{part-tail}
 use Rattle.leaves.specs.Blocks.{passes}
 use Rattle.leaves.proofs.Scans.{passes-inside}
 use Rattle.utf8.specs.Tails.{dueOf, dueNext}

@@ -19,18 +19,18 @@ use Rattle.meaning.specs.Answers.{Outcome, textNumber, shown}
 use Rattle.meaning.specs.Questions.{stringQuestion}
 use Rattle.meaning.specs.Writer.{writtenText, writeQuestion}
 use Rattle.meaning.specs.Forms.{formOpening, formText, formQuestion}
-use Rattle.laws.proofs.Asked.{Spans}
-use Rattle.laws.proofs.Sources.{Agree, stringQuestion-same}
-use Rattle.laws.proofs.Buffers.{TextLeaves, stringQuestion-leaves}
-use Rattle.laws.proofs.JoiningLaw.{Gap}
-use Rattle.laws.proofs.Parts.{Part, Next, all-of}
-use Rattle.laws.proofs.WriterParts.{Accepted}
-use Rattle.laws.proofs.WrittenParts.{Each, each-of, Sized, PartAccepted, CutInto, parts-accepted}
-use Rattle.laws.proofs.RoundTrip.{writer-answers, written-accepted}
-use Rattle.laws.proofs.FormText.{FormAccepted}
-use Rattle.laws.proofs.FormRoundTrip.{form-answers, form-written-accepted}
-use Rattle.laws.proofs.Calls as Calls′
-use Rattle.laws.proofs.Calls.{StringCall, WriterCall, FormCall, PartWritten, calls-chain, joining-calls, round-trip-calls, form-calls, parts-calls}
+use Rattle.laws.proofs.questions.Asked.{Spans}
+use Rattle.laws.proofs.questions.Sources.{Agree, stringQuestion-same}
+use Rattle.laws.proofs.questions.Buffers.{TextLeaves, stringQuestion-leaves}
+use Rattle.laws.proofs.joining.JoiningLaw.{Gap}
+use Rattle.laws.proofs.joining.Parts.{Part, Next, all-of}
+use Rattle.laws.proofs.writing.WriterParts.{Accepted}
+use Rattle.laws.proofs.writing.WrittenParts.{Each, each-of, Sized, PartAccepted, CutInto, parts-accepted}
+use Rattle.laws.proofs.writing.RoundTrip.{writer-answers, written-accepted}
+use Rattle.laws.proofs.writing.FormText.{FormAccepted}
+use Rattle.laws.proofs.writing.FormRoundTrip.{form-answers, form-written-accepted}
+use Rattle.laws.proofs.questions.Calls as Calls′
+use Rattle.laws.proofs.questions.Calls.{StringCall, WriterCall, FormCall, PartWritten, calls-chain, joining-calls, round-trip-calls, form-calls, parts-calls}
 use Rattle.valdrabus.specs.Literals.{literalOf, settingsOf}
 use Rattle.valdrabus.specs.Numbers.{textTold, writingTold, Tells}
 use Rattle.valdrabus.specs.Calls.{outcomeTold, stringCall, writeCall, formCall, Lengths}

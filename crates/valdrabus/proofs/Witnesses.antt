@@ -17,9 +17,9 @@ use Rattle.meaning.specs.Answers.{filled}
 use Rattle.meaning.specs.Questions.{cutsCharacter, badSpan, sourceText, tested, stringQuestion}
 use Rattle.meaning.specs.Writer.{spell, writtenText, overLimit, unwritableNul, writeQuestion}
 use Rattle.meaning.specs.Forms.{figure, isDoubled, escapeForm, unicodeFigures, formText, formQuestion}
-use Rattle.laws.proofs.Asked.{Spans}
-use Rattle.laws.proofs.Parts.{Part, Next}
-use Rattle.laws.proofs.Witnesses.{next}
+use Rattle.laws.proofs.questions.Asked.{Spans}
+use Rattle.laws.proofs.joining.Parts.{Part, Next}
+use Rattle.laws.proofs.tables.Witnesses.{next}
 use Rattle.valdrabus.specs.Literals.{literalOf}
 use Rattle.valdrabus.specs.Numbers.{Tells}
 use Rattle.valdrabus.specs.Calls.{stringCall, writeCall, formCall, Lengths}

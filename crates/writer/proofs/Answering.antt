@@ -15,10 +15,10 @@ use Rattle.meaning.specs.Bytes.{has}
 use Rattle.meaning.specs.Chars.{utf8}
 use Rattle.meaning.specs.Answers.{Meets}
 use Rattle.meaning.specs.Writer.{literals, partsFrom, partsOf, partTooSmall, overLimit, unwritableNul, writtenText, writeQuestion}
-use Rattle.laws.proofs.Writers.{Passed, writes-all, writes-none}
-use Rattle.laws.proofs.WriterParts.{concat, partsFrom-fills, partsFrom-concat, Accepted, accepted-writes, limit-length, limit-size}
-use Rattle.laws.proofs.WriterText.{costs, literal-length, literals-length, writtenText-fits}
-use Rattle.laws.proofs.PartEnds.{first-ends}
+use Rattle.laws.proofs.writing.Writers.{Passed, writes-all, writes-none}
+use Rattle.laws.proofs.writing.WriterParts.{concat, partsFrom-fills, partsFrom-concat, Accepted, accepted-writes, limit-length, limit-size}
+use Rattle.laws.proofs.writing.WriterText.{costs, literal-length, literals-length, writtenText-fits}
+use Rattle.laws.proofs.writing.PartEnds.{first-ends}
 use Rattle.writer.specs.declared.manners.Manner.the-variants.{Plain}
 use Rattle.writer.specs.declared.lengths.Measured.{Measured}
 use Rattle.writer.specs.Texts.{Spellable, PutBytes, measuredBy}

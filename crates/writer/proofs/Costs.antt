@@ -11,9 +11,9 @@ use Rattle.meaning.specs.declared.Form.the-variants as Form′
 use Rattle.meaning.specs.Bytes.{if_then_else_, within}
 use Rattle.meaning.specs.Steps.{escapeTable}
 use Rattle.meaning.specs.Forms.{letterOf, isDoubled}
-use Rattle.laws.proofs.Tests.{and-left, and-right}
-use Rattle.laws.proofs.WriterText.{cost, cost-most}
-use Rattle.laws.proofs.FormUnits.{formCost}
+use Rattle.laws.proofs.basics.Tests.{and-left, and-right}
+use Rattle.laws.proofs.writing.WriterText.{cost, cost-most}
+use Rattle.laws.proofs.writing.FormUnits.{formCost}
 use Rattle.writer.specs.declared.manners.Manner.{Manner}
 use Rattle.writer.specs.declared.manners.Manner.the-variants.{Plain, Escape, Unicode}
 use Rattle.writer.specs.Manners.{costBy}

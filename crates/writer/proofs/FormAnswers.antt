@@ -14,10 +14,10 @@ use Rattle.meaning.specs.Chars.{utf8}
 use Rattle.meaning.specs.Answers.{Meets}
 use Rattle.meaning.specs.Writer.{overLimit}
 use Rattle.meaning.specs.Forms.{formOpening, formText, formQuestion}
-use Rattle.laws.proofs.Writers.{Passed, writes-all}
-use Rattle.laws.proofs.WriterParts.{limit-length}
-use Rattle.laws.proofs.FormText.{FormAccepted}
-use Rattle.laws.proofs.FormRoundTrip.{form-accepted-writes, form-room}
+use Rattle.laws.proofs.writing.Writers.{Passed, writes-all}
+use Rattle.laws.proofs.writing.WriterParts.{limit-length}
+use Rattle.laws.proofs.writing.FormText.{FormAccepted}
+use Rattle.laws.proofs.writing.FormRoundTrip.{form-accepted-writes, form-room}
 use Rattle.writer.specs.declared.manners.Manner.{Manner}
 use Rattle.writer.specs.declared.lengths.Measured.{Measured}
 use Rattle.writer.specs.Manners.{mannerOf, openingBy, textBy}

@@ -17,11 +17,11 @@ use Rattle.meaning.specs.Walk.{Step, keep, give, stop, Trace, kept, gave, after
 use Rattle.meaning.specs.Writer.{spell, spells}
 use Rattle.meaning.specs.Forms.{formStep}
 use Rattle.leaves.specs.Blocks.{passes}
-use Rattle.laws.proofs.Tests.{and-left, and-right}
-use Rattle.laws.proofs.WriterText.{cost, costs, spells-length}
-use Rattle.laws.proofs.FormUnits.{formCost, formCosts}
-use Rattle.laws.proofs.FormSpelling.{units-of}
-use Rattle.laws.proofs.FormText as FormText′
+use Rattle.laws.proofs.basics.Tests.{and-left, and-right}
+use Rattle.laws.proofs.writing.WriterText.{cost, costs, spells-length}
+use Rattle.laws.proofs.writing.FormUnits.{formCost, formCosts}
+use Rattle.laws.proofs.writing.FormSpelling.{units-of}
+use Rattle.laws.proofs.writing.FormText as FormText′
 use Rattle.writer.specs.declared.manners.Manner.{Manner}
 use Rattle.writer.specs.declared.manners.Manner.the-variants.{Plain, Escape, Unicode}
 use Rattle.writer.specs.declared.manners.Kept.{Kept}

@@ -10,9 +10,9 @@ use Rattle.meaning.specs.Writer.{literal, between, literals, partsFrom}
 use Rattle.leaves.specs.Blocks.{passes}
 use Rattle.leaves.specs.Puts.{Puts}
 use Rattle.leaves.proofs.Scans.{passes-append}
-use Rattle.laws.proofs.Tests.{and-left, and-right}
-use Rattle.laws.proofs.Laying.{Laid, laid-none, laid-same, laid-all, laid-part, laid-lent, laid-rest, laid-more}
-use Rattle.laws.proofs.PartEnds.{partsBehind}
+use Rattle.laws.proofs.basics.Tests.{and-left, and-right}
+use Rattle.laws.proofs.basics.Laying.{Laid, laid-none, laid-same, laid-all, laid-part, laid-lent, laid-rest, laid-more}
+use Rattle.laws.proofs.writing.PartEnds.{partsBehind}
 use Rattle.writer.specs.declared.manners.Manner.{Manner}
 use Rattle.writer.specs.declared.manners.Manner.the-variants.{Plain}
 use Rattle.writer.specs.Manners.{keptBy, keeps, textBy}

@@ -11,7 +11,7 @@ use borrow.Author.Tests.{ltb-true, ltb-false}
 use Rattle.meaning.specs.Bytes.{within}
 use Rattle.meaning.specs.Chars.{utf8}
 use Rattle.meaning.specs.Writer.{partsFrom}
-use Rattle.laws.proofs.PartEnds.{partsBehind, FirstEnds, first-ends}
+use Rattle.laws.proofs.writing.PartEnds.{partsBehind, FirstEnds, first-ends}
 use Rattle.writer.specs.Parts.{first, others, firstPart, laterParts, Cuttable}
 
 -- THE PART AT A PLACE

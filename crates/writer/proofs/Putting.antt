@@ -12,8 +12,8 @@ use lib.Seq.{sets, sets-eq, take-at, drop-at, take-append-seam, drop-append-seam
 use Rattle.meaning.specs.Bytes.{if_then_else_}
 use Rattle.meaning.specs.Answers.{filled}
 use Rattle.meaning.specs.Forms.{figure, figures, unicodeFigures}
-use Rattle.laws.proofs.Figures.{figures-length}
-use Rattle.laws.proofs.Laying.{Laid}
+use Rattle.laws.proofs.writing.Figures.{figures-length}
+use Rattle.laws.proofs.basics.Laying.{Laid}
 use Rattle.leaves.specs.Puts.{Puts}
 use Rattle.writer.specs.declared.manners.Manner.{Manner}
 use Rattle.writer.specs.Manners.{openingBy}

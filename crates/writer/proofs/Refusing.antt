@@ -7,7 +7,7 @@ use borrow.Author.Tests.{not-true, not-false}
 use Rattle.meaning.specs.declared.Writing.{Writing}
 use Rattle.meaning.specs.declared.Writing.the-variants.{OverLimit, NotUtf8, HoldsNul}
 use Rattle.meaning.specs.Answers.{Outcome, Meets}
-use Rattle.laws.proofs.Writers.{tried, tried-limit, tried-utf8, tried-nul, Passed}
+use Rattle.laws.proofs.writing.Writers.{tried, tried-limit, tried-utf8, tried-nul, Passed}
 
 pub met : (o : Outcome Writing) (r : Writing) (out : List ℕ) → o ≡ record { answer = r; buffer = out } → Meets o r out
 met o r out e = rw e (record { answer = refl; buffer = refl })

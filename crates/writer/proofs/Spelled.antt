@@ -16,9 +16,9 @@ use Rattle.meaning.specs.Walk.{keep, give}
 use Rattle.meaning.specs.Steps.{escapeTable}
 use Rattle.meaning.specs.Writer.{spell}
 use Rattle.meaning.specs.Forms.{figures, letterOf, isDoubled, escapeForm, unicodeFigures, unicodeForm}
-use Rattle.laws.proofs.Tests.{or-left, or-right}
-use Rattle.laws.proofs.Utf8.{low-lead}
-use Rattle.laws.proofs.FormText.{letter-none}
+use Rattle.laws.proofs.basics.Tests.{or-left, or-right}
+use Rattle.laws.proofs.utf8.Utf8.{low-lead}
+use Rattle.laws.proofs.writing.FormText.{letter-none}
 use Rattle.scalars.specs.Scalars.{scalarFrom, scalarOf}
 use Rattle.writer.specs.declared.manners.Manner.{Manner}
 use Rattle.writer.specs.declared.manners.Manner.the-variants.{Plain, Escape, Unicode}

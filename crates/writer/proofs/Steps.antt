@@ -13,10 +13,10 @@ use Rattle.meaning.specs.Chars as chars
 use Rattle.meaning.specs.Walk.{Step, keep, give}
 use Rattle.meaning.specs.Steps.{escapeTable}
 use Rattle.meaning.specs.Forms.{figures, letterOf, isDoubled, escapeForm, unicodeFigures, unicodeForm}
-use Rattle.laws.proofs.Tests.{and-left, and-right, within-bounds}
-use Rattle.laws.proofs.Utf8.{low-lead}
-use Rattle.laws.proofs.Spellings.{twice}
-use Rattle.laws.proofs.FormText.{no-letter}
+use Rattle.laws.proofs.basics.Tests.{and-left, and-right, within-bounds}
+use Rattle.laws.proofs.utf8.Utf8.{low-lead}
+use Rattle.laws.proofs.writing.Spellings.{twice}
+use Rattle.laws.proofs.writing.FormText.{no-letter}
 use Rattle.writer.specs.declared.manners.Manner.{Manner}
 use Rattle.writer.specs.declared.manners.Manner.the-variants.{Plain, Escape, Unicode}
 use Rattle.writer.specs.Manners.{keptBy, keeps, stepBy, given, unitBy, unitWidth}

@@ -15,11 +15,11 @@ use Rattle.meaning.specs.Walk.{Step, Trace, after, walk, value}
 use Rattle.leaves.specs.Blocks.{passes}
 use Rattle.leaves.specs.Puts.{Puts}
 use Rattle.leaves.proofs.Scans.{passes-inside, span-passes}
-use Rattle.laws.proofs.Tests.{and-left, and-right}
-use Rattle.laws.proofs.Utf8.{pushes-broken, low-lead}
-use Rattle.laws.proofs.Walks.{walk-drop}
-use Rattle.laws.proofs.WriterParts.{first-fits}
-use Rattle.laws.proofs.Laying.{Laid, laid-none, laid-same, laid-all, laid-lent, laid-rest, laid-more, laid-inside, laid-byte}
+use Rattle.laws.proofs.basics.Tests.{and-left, and-right}
+use Rattle.laws.proofs.utf8.Utf8.{pushes-broken, low-lead}
+use Rattle.laws.proofs.walking.Walks.{walk-drop}
+use Rattle.laws.proofs.writing.WriterParts.{first-fits}
+use Rattle.laws.proofs.basics.Laying.{Laid, laid-none, laid-same, laid-all, laid-lent, laid-rest, laid-more, laid-inside, laid-byte}
 use Rattle.writer.specs.declared.manners.Manner.{Manner}
 use Rattle.writer.specs.declared.manners.Manner.the-variants.{Plain, Escape, Unicode}
 use Rattle.writer.specs.declared.manners.Kept.{Kept}

@@ -12,8 +12,8 @@ use Rattle.meaning.specs.Walk.{Step, keep, give, stop, walk, value}
 use Rattle.meaning.specs.Steps.{escapeTable}
 use Rattle.meaning.specs.Writer.{spell}
 use Rattle.meaning.specs.Forms.{letterOf, formStep, formOpening}
-use Rattle.laws.proofs.WriterText.{cost}
-use Rattle.laws.proofs.FormUnits.{formCost}
+use Rattle.laws.proofs.writing.WriterText.{cost}
+use Rattle.laws.proofs.writing.FormUnits.{formCost}
 use Rattle.writer.specs.declared.manners.Manner.{Manner}
 use Rattle.writer.specs.declared.manners.Manner.the-variants.{Plain, Escape, Unicode}
 use Rattle.writer.specs.declared.manners.Kept.{Kept}

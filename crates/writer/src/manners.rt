@@ -3,8 +3,8 @@ use leaves::blocks::one_if;
 use meaning::Form;
 ghost use mathlib.Core.Path.{_≡_};
 ghost use Rattle.meaning.specs.declared.Form.the-variants as Form′;
-ghost use Rattle.laws.proofs.WriterText.{cost};
-ghost use Rattle.laws.proofs.FormUnits.{formCost};
+ghost use Rattle.laws.proofs.writing.WriterText.{cost};
+ghost use Rattle.laws.proofs.writing.FormUnits.{formCost};
 ghost use Rattle.writer.specs.Manners.{mannerOf, keptBy, keeps, costBy};
 
 // Between quote marks at a setting, or by a form.

@@ -4,7 +4,7 @@ use native.Mathlib.Omega.{arith}
 use lib.ListN.{length}
 use denote.Ref.{now}
 use borrow.Author.Needs.{needs}
-use Rattle.laws.proofs.Ranges.{Bounds}
+use Rattle.laws.proofs.questions.Ranges.{Bounds}
 use Rattle.helpers.proofs.Validity.{escape-outside, escape-within, escape-body}
 use Rattle.helpers.proofs.postgres_escape_string_is_valid.Statement.{statement}
 use Rattle.helpers.proofs.postgres_escape_string_is_valid.Tie as tie

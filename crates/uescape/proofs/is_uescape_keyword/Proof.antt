@@ -4,7 +4,7 @@ use borrow.Author.Needs.{needs}
 use Prim.Native.Nat.{_-_}
 use native.Mathlib.Omega.{arith}
 use Rattle.meaning.specs.Spelling.{upper}
-use Rattle.laws.proofs.Alike.{AlikeSoFar, alike-short, alike-none, alike-more, alike-not, alike-end}
+use Rattle.laws.proofs.basics.Alike.{AlikeSoFar, alike-short, alike-none, alike-more, alike-not, alike-end}
 use Rattle.uescape.proofs.Clausing.{keyword-by, keyword-past}
 use Rattle.uescape.proofs.is_uescape_keyword.Statement.{statement}
 use Rattle.uescape.proofs.is_uescape_keyword.Tie as tie

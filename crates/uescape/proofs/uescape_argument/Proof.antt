@@ -3,7 +3,7 @@ use Prim.Native.Nat.{_<_}
 use lib.ListN.{length}
 use denote.Ref.{now}
 use native.Mathlib.Omega.{arith}
-use Rattle.laws.proofs.Enclosures.{enclosed-room}
+use Rattle.laws.proofs.basics.Enclosures.{enclosed-room}
 use Rattle.uescape.proofs.Characters.{argument-bare, argument-legal, argument-illegal}
 use borrow.Author.Needs.{needs}
 use Rattle.uescape.proofs.uescape_argument.Statement.{statement}

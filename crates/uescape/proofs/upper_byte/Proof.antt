@@ -2,7 +2,7 @@
 use native.Mathlib.Omega.{arith}
 use Rattle.meaning.specs.Bytes.{within}
 use Rattle.meaning.specs.Spelling.{upper}
-use Rattle.laws.proofs.Tests.{within-bounds}
+use Rattle.laws.proofs.basics.Tests.{within-bounds}
 use Rattle.uescape.proofs.upper_byte.Statement.{statement}
 use Rattle.uescape.proofs.upper_byte.Tie as tie
 

@@ -4,7 +4,7 @@ use borrow.Author.Needs.{needs}
 use native.Mathlib.Omega.{arith}
 use Prim.Native.Nat.{_-_}
 use lib.ListN.{length}
-use Rattle.laws.proofs.Passes.{Writing}
+use Rattle.laws.proofs.walking.Passes.{Writing}
 use Rattle.bits.specs.Bodies.{bodyStep}
 use Rattle.bits.proofs.Turns.{body-opens, segment-some, body-ordered, body-inside, cursor-less}
 use Rattle.bits.proofs.Turns.{put-start, put-end, put-remainder, put-within, put-fits, put-turn}

@@ -5,7 +5,7 @@ use Prim.Native.Nat.{_-_}
 use native.Mathlib.Omega.{arith}
 use lib.ListN.{length}
 use Rattle.meaning.specs.Steps.{closingStep}
-use Rattle.laws.proofs.Courses.{SoFar, so-far-none}
+use Rattle.laws.proofs.walking.Courses.{SoFar, so-far-none}
 use Rattle.cutting.proofs.Closes.{run-fits, turn-hidden, turn-doubled, turn-other, out-hidden, out-lone, out-end}
 use Rattle.cutting.proofs.marks.closing_mark.Statement.{statement}
 use Rattle.cutting.proofs.marks.closing_mark.Tie as tie

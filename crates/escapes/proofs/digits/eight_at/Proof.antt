@@ -6,7 +6,7 @@ use native.Mathlib.Omega.{arith}
 use borrow.Author.Tests.{leb-true, not-true, not-false}
 use denote.Ref.{now}
 use lib.ListN.{length, drop}
-use Rattle.laws.proofs.Tests.{and-left, and-right}
+use Rattle.laws.proofs.basics.Tests.{and-left, and-right}
 use Rattle.escapes.specs.Digits.{Group}
 use Rattle.escapes.proofs.Hexes.{group-small, group-beside, hex-short, hex-whole, hex-none}
 use borrow.Author.Needs.{needs}

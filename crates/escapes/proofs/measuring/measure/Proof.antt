@@ -11,7 +11,7 @@ use denote.Ref.{now}
 use lib.ListN.{length, take, drop, length-take}
 use types.Run.{miss}
 use Rattle.meaning.specs.Bytes.{span}
-use Rattle.laws.proofs.Passes.{Measuring, measuring-unfinished, measuring-end}
+use Rattle.laws.proofs.walking.Passes.{Measuring, measuring-unfinished, measuring-end}
 use Rattle.leaves.specs.Blocks.{freeOf}
 use Rattle.utf8.specs.declared.tail.Utf8Tail.the-variants.{Broken}
 use Rattle.utf8.specs.Tails.{dueOf}

@@ -9,7 +9,7 @@ use denote.Ref.{now}
 use lib.Dec.{eqb, ltb}
 use lib.ListN.{length}
 use Rattle.meaning.specs.Chars.{fresh}
-use Rattle.laws.proofs.Tests.{and-left, and-right}
+use Rattle.laws.proofs.basics.Tests.{and-left, and-right}
 use Rattle.escapes.specs.declared.units.Family.the-variants.{Escape}
 use Rattle.escapes.specs.Quick.{Passes}
 use Rattle.escapes.proofs.QuickLaws.{passes-none, passes-turn}

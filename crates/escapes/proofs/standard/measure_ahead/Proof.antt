@@ -9,7 +9,7 @@ use denote.Ref.{now}
 use lib.ListN.{length}
 use Rattle.meaning.specs.Chars.{fresh}
 use Rattle.meaning.specs.Steps.{standardStep}
-use Rattle.laws.proofs.Passes.{Measuring, measuring-none}
+use Rattle.laws.proofs.walking.Passes.{Measuring, measuring-none}
 use Rattle.escapes.proofs.Pairs.{pair-measured, run-measured, run-some, here-free}
 use Rattle.escapes.proofs.standard.measure_ahead.Statement.{statement}
 use Rattle.escapes.proofs.standard.measure_ahead.Tie as tie

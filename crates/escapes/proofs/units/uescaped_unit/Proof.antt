@@ -6,7 +6,7 @@ use borrow.Author.Tests.{leb-true}
 use denote.Ref.{now}
 use lib.Dec.{leb}
 use lib.ListN.{length}
-use Rattle.laws.proofs.Tests.{and-left, and-right}
+use Rattle.laws.proofs.basics.Tests.{and-left, and-right}
 use Rattle.escapes.proofs.UnitLaws.{hex-there, uescaped-again, uescaped-plus, uescaped-no-plus, uescaped-high, uescaped-four, uescaped-none}
 use borrow.Author.Needs.{needs}
 use Rattle.escapes.proofs.units.uescaped_unit.Statement.{statement}

@@ -5,7 +5,7 @@ use Prim.Native.Nat.{_+_, _≤_}
 use denote.Ref.{now}
 use lib.ListN.{length}
 use borrow.Author.Needs.{needs}
-use Rattle.laws.proofs.Ranges.{Bounds}
+use Rattle.laws.proofs.questions.Ranges.{Bounds}
 use Rattle.kinds.proofs.Behind.{token-ordered, token-inside, borrowed-inside, refused-inside}
 use Rattle.kinds.proofs.Behind.{temporal-borrowed, temporal-written, temporal-refused, temporal-short, temporal-nothing}
 use Rattle.kinds.proofs.temporal.read_temporal.Statement.{statement}

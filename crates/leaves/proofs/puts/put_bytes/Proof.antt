@@ -3,7 +3,7 @@
 use Prim.Native.Nat.{_-_}
 use native.Mathlib.Omega.{arith}
 use lib.ListN.{length}
-use Rattle.laws.proofs.Copies.{Copying, copying-none, copying-turn}
+use Rattle.laws.proofs.basics.Copies.{Copying, copying-none, copying-turn}
 use Rattle.leaves.proofs.Putting.{puts-none, copying-end}
 use Rattle.leaves.proofs.puts.put_bytes.Statement.{statement}
 use Rattle.leaves.proofs.puts.put_bytes.Tie as tie

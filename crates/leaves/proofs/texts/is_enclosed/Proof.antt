@@ -1,5 +1,5 @@
 -- `leaves::texts::is_enclosed` meets its contract. Where there is room for two marks, the code asks what the definition asks. Assumes nothing.
-use Rattle.laws.proofs.Enclosures.{encloses-past, encloses-short, encloses-by}
+use Rattle.laws.proofs.basics.Enclosures.{encloses-past, encloses-short, encloses-by}
 use borrow.Author.Needs.{needs}
 use Rattle.leaves.proofs.texts.is_enclosed.Statement.{statement}
 use Rattle.leaves.proofs.texts.is_enclosed.Tie as tie

@@ -4,7 +4,7 @@ use Prim.Native.Nat.{_-_}
 use mathlib.Core.Path.{refl}
 use native.Mathlib.Omega.{arith}
 use lib.ListN.{length}
-use Rattle.laws.proofs.Alike.{AlikeSoFar, starts-by, starts-empty, alike-past, alike-short, alike-none, alike-more, alike-not, alike-end}
+use Rattle.laws.proofs.basics.Alike.{AlikeSoFar, starts-by, starts-empty, alike-past, alike-short, alike-none, alike-more, alike-not, alike-end}
 use Rattle.leaves.proofs.texts.starts_at.Statement.{statement}
 use Rattle.leaves.proofs.texts.starts_at.Tie as tie
 

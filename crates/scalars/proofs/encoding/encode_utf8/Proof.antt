@@ -9,7 +9,7 @@ use native.Mathlib.Omega.{arith}
 use denote.Ref.{now}
 use lib.ListN.{length, length-set}
 use Rattle.meaning.specs.Chars.{encode, isScalar}
-use Rattle.laws.proofs.Encode.{isScalar-bounds}
+use Rattle.laws.proofs.utf8.Encode.{isScalar-bounds}
 use Rattle.scalars.proofs.Encoded.{one-byte, two-bytes, three-bytes, four-bytes, no-scalar, no-room, put}
 use Rattle.scalars.proofs.encoding.encode_utf8.Statement.{statement}
 use Rattle.scalars.proofs.encoding.encode_utf8.Tie as tie

@@ -1,7 +1,7 @@
 -- `scalars::encoding::utf8_len` meets its contract. An encoding has one byte more than `more` says, which asks what the code asks. Assumes nothing.
 use borrow.Author.Tests.{lt-ltb, le-ltb}
 use Rattle.meaning.specs.Chars.{more}
-use Rattle.laws.proofs.Encode.{encode-length}
+use Rattle.laws.proofs.utf8.Encode.{encode-length}
 use Rattle.scalars.proofs.encoding.utf8_len.Statement.{statement}
 use Rattle.scalars.proofs.encoding.utf8_len.Tie as tie
 

@@ -1,5 +1,5 @@
 -- `strings::plain::is_plain` meets its contract. Two marks leave room for a body, and the scan of the body decides. Assumes nothing.
-use Rattle.laws.proofs.Enclosures.{enclosed-room}
+use Rattle.laws.proofs.basics.Enclosures.{enclosed-room}
 use Rattle.strings.proofs.Plains.{plain-not, plain-by}
 use borrow.Author.Needs.{needs}
 use native.Mathlib.Omega.{arith}

@@ -7,7 +7,7 @@ use native.Mathlib.Omega.{arith}
 use denote.Ref.{now}
 use lib.ListN.{length}
 use Rattle.meaning.specs.Steps.{standardStep}
-use Rattle.laws.proofs.Passes.{Writing, writing-none}
+use Rattle.laws.proofs.walking.Passes.{Writing, writing-none}
 use Rattle.escapes.proofs.Pairs.{run-some, here-free}
 use Rattle.strings.proofs.WritePairs.{Goes, narrow, within, run-inside, pair-written, run-written}
 use Rattle.strings.proofs.standard.write_ahead.Statement.{statement}

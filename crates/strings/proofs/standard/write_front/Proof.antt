@@ -1,5 +1,5 @@
 -- `strings::standard::write_front` meets its contract. Assumes nothing.
-use Rattle.laws.proofs.Passes.{writing-none}
+use Rattle.laws.proofs.walking.Passes.{writing-none}
 use Rattle.strings.proofs.WritePairs.{front-standard, front-room}
 use borrow.Author.Needs.{needs}
 use Rattle.strings.proofs.standard.write_front.Statement.{statement}

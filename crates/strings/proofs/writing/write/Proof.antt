@@ -7,7 +7,7 @@ use native.Mathlib.Omega.{arith}
 use denote.Ref.{now}
 use lib.ListN.{length, take, drop}
 use Rattle.meaning.specs.Bytes.{span}
-use Rattle.laws.proofs.Passes.{Writing}
+use Rattle.laws.proofs.walking.Passes.{Writing}
 use Rattle.leaves.specs.Blocks.{freeOf}
 use Rattle.escapes.specs.Pieces.{moreBy, bytesOf}
 use Rattle.escapes.specs.Families.{stepOf, stopsOf, courseOf}

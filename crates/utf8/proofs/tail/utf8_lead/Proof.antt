@@ -1,6 +1,6 @@
 -- `utf8::tail::utf8_lead` meets its contract. Each return's tests bound the byte, and `lead-at` reads its row; 9 is none. Assumes nothing.
 use native.Mathlib.Omega.{arith}
-use Rattle.laws.proofs.Leads.{lead-at}
+use Rattle.laws.proofs.utf8.Leads.{lead-at}
 use Rattle.utf8.proofs.tail.utf8_lead.Statement.{statement}
 use Rattle.utf8.proofs.tail.utf8_lead.Tie as tie
 

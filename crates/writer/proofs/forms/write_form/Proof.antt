@@ -2,7 +2,7 @@
 use denote.Ref.{now}
 use borrow.Author.Needs.{needs}
 use Rattle.meaning.specs.Forms.{formQuestion}
-use Rattle.laws.proofs.FormText.{FormAccepted}
+use Rattle.laws.proofs.writing.FormText.{FormAccepted}
 use Rattle.writer.proofs.Refusing.{over-limit, not-utf8, holds-nul, all-passed}
 use Rattle.writer.proofs.FormAnswers.{form-accepted, spellable, no-room, text-fits, text-written}
 use Rattle.writer.proofs.forms.write_form.Statement.{statement}

@@ -3,7 +3,7 @@ use Prim.Native.Nat.{_+_, _*_, _≤_}
 use native.Mathlib.Omega.{arith}
 use borrow.Author.Needs.{needs}
 use denote.Ref.{now}
-use Rattle.laws.proofs.WriterParts.{Accepted}
+use Rattle.laws.proofs.writing.WriterParts.{Accepted}
 use Rattle.meaning.specs.Writer.{writeQuestion}
 use Rattle.writer.proofs.Refusing.{over-limit, not-utf8, holds-nul, all-passed}
 use Rattle.writer.proofs.Answering.{accepted, spellable, cuttable, needed-small, no-room, text-fits, text-written}

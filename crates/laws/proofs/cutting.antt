@@ -1,0 +1,15 @@
+-- Cutting: white space, openings, segments, and where a search for the closing mark stops.
+pub mod Arguments
+pub mod Gaps
+pub mod Openings
+pub mod Alone
+pub mod BodyStops
+pub mod EscapeStops
+pub mod WholeRefused
+pub mod UnicodeOff
+pub mod UnicodePassed
+pub mod UnicodeOn
+pub mod ClauseStops
+pub mod ClauseFacts
+pub mod ClauseRefused
+pub mod Cuts

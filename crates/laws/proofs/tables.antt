@@ -1,0 +1,5 @@
+-- Tables: the starred examples, the programs that are shut out, and inputs that meet the hypotheses.
+pub mod Controls
+pub mod ControlsOfAll
+pub mod Witnesses
+pub mod Starred

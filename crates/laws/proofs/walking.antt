@@ -1,0 +1,6 @@
+-- Walks: what holds of every step, where a loop stands that walks, and what a step can take.
+pub mod Walks
+pub mod StepBounds
+pub mod Courses
+pub mod Passes
+pub mod Short

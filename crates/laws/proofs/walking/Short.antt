@@ -1,0 +1,201 @@
+-- A segment's value is never longer than the segment, and the place of a refusal lies inside it: so no number that a pass counts exceeds the text's
+-- length. And what a body that reads to its end means, borrowed or written. Assumes nothing.
+use mathlib.Core.Path.{_≡_, refl, ap, sym, _∙_}
+use mathlib.Core.Bool.{Bool, true, false, _&&_}
+use mathlib.Core.List.{List, [], _∷_}
+use Prim.Native.Nat.{ℕ, zero, suc, _+_, _-_, _≤_, _<_}
+use Prim.Native.Char.{code}
+use native.Mathlib.Omega.{arith}
+use lib.Dec.{eqb, leb, ltb}
+use lib.ListN.{length, take, drop, length-append, length-take, length-drop}
+use borrow.Author.Tests.{ltb-true}
+use Rattle.meaning.specs.declared.Settings.{Settings}
+use Rattle.meaning.specs.Bytes.{if_then_else_, _!_, part, ascii, has, same, quote, dquote}
+use Rattle.meaning.specs.Chars.{Due, due, broken, fresh, push, pushes, whole}
+use Rattle.meaning.specs.Walk.{Step, keep, give, stop, Trace, ended, stopped, kept, gave, after, walk, size, stops, plain, value}
+use Rattle.meaning.specs.Steps.{standardStep, escapeStep, unicodeStep, checked, unlessBroken, closingStep, trim}
+use Rattle.meaning.specs.Cutting.{opening}
+use Rattle.meaning.specs.Spelling.{Spelling, standard, escape, unicode, dollar, unspelt, encloses, isUnicode, unicodeSpelling, unicodeBy, chosen, closedUnicode}
+use Rattle.meaning.specs.Spelling.{delimiter, dollarBy, spelling}
+use Rattle.meaning.specs.Reading.{borrowed, written, refused, Value, means, fails, valueOf, answer, read-as, one, alone}
+use Rattle.laws.proofs.basics.Tests.{true→T, and-left, and-right}
+use Rattle.laws.proofs.walking.Walks.{walk-plain, FitsIn, fits-size}
+use Rattle.laws.proofs.cutting.Openings.{opening-mark, apart-of-mark, mark-0}
+use Rattle.laws.proofs.cutting.BodyStops.{stops-fails}
+use Rattle.laws.proofs.questions.Ranges.{Bounds, BodyIn, spelling-body}
+use Rattle.laws.proofs.walking.StepBounds.{Bounded, Steady, standard-steady, escape-steady, unicode-steady}
+use Rattle.laws.proofs.walking.Passes.{courseBy, course-same}
+
+-- a walk's value is no longer than what it walked
+walk-short : (step : List ℕ → Step) → Steady step → (k : ℕ) (t : List ℕ) → k ≤ length t → k + length (value (walk step k t)) ≤ length t
+walk-short step ok zero [] h = omega arith
+walk-short step ok (suc k) [] h = absurd (omega arith)
+walk-short step ok (suc k) (b ∷ t) h = let r = walk-short step ok k t (omega arith) in omega arith
+walk-short step ok zero (b ∷ t) h = go (step (b ∷ t)) (ok b t) (λ n. walk-short step ok n t)
+  where
+    go : (s : Step) → Bounded s (length t) → ((n : ℕ) → n ≤ length t → n + length (value (walk step n t)) ≤ length t)
+        → 0 + length (value (after s b (λ n. walk step n t))) ≤ suc (length t)
+    go keep g ih = let r = ih 0 (omega arith) in omega arith
+    go (give n out) g ih = let r = ih n (g .0) in omega (arith, length-append out (value (walk step n t)))
+    go stop g ih = omega arith
+
+-- nor does it stop behind its end, checked or not
+walk-size : (step : List ℕ → Step) → Steady step → (k : ℕ) (t : List ℕ) → k ≤ length t → k + size (walk step k t) ≤ length t
+walk-size step ok k t h = fits-size step (λ b u. fit (step (b ∷ u)) (length u) (ok b u)) k t h
+  where
+    fit : (s : Step) (n : ℕ) → Bounded s n → FitsIn s n
+    fit keep n g = tt
+    fit (give k out) n g = g .0
+    fit stop n g = tt
+
+checked-size : (d : Due) (r : Trace) → size (checked d r) ≤ size r
+checked-size d ended = go (whole d)
+  where
+    go : (x : Bool) → size (if x then ended else stopped) ≤ 0
+    go true = omega arith
+    go false = omega arith
+checked-size d stopped = omega arith
+checked-size d (kept b r) = go (push d b) (λ e. checked-size e r)
+  where
+    go : (e : Due) → ((e : Due) → size (checked e r) ≤ size r) → size (unlessBroken e (λ e′. kept b (checked e′ r))) ≤ suc (size r)
+    go broken ih = omega arith
+    go (due n lo hi) ih = omega (arith, ih (due n lo hi))
+checked-size d (gave k out r) = go (pushes d out) (λ e. checked-size e r)
+  where
+    go : (e : Due) → ((e : Due) → size (checked e r) ≤ size r) → size (unlessBroken e (λ e′. gave k out (checked e′ r))) ≤ suc (k + size r)
+    go broken ih = omega arith
+    go (due n lo hi) ih = omega (arith, ih (due n lo hi))
+
+pub course-size : (x : Bool) (step : List ℕ → Step) → Steady step → (t : List ℕ) → size (courseBy x (walk step 0 t)) ≤ length t
+course-size false step ok t = omega (arith, walk-size step ok 0 t (omega arith))
+course-size true step ok t = omega (arith, walk-size step ok 0 t (omega arith), checked-size fresh (walk step 0 t))
+
+-- of a value in a text of n bytes
+abbrev pub Bound : Value → ℕ → Type 0
+Bound (means v) n = length v ≤ n
+Bound (fails p) n = p ≤ n
+
+-- A BODY that reads to its end means its course's value
+module _ (x : Bool) (step : List ℕ → Step) (t : List ℕ) (f u : ℕ) where
+  abbrev course : Trace
+  course = courseBy x (walk step 0 (part f u t))
+
+  pub body-means : stops course ≡ false → valueOf t (answer f u course) ≡ means (value course)
+  unfolding answer
+  body-means h = go (plain course) refl
+    where
+      same : course ≡ walk step 0 (part f u t)
+      same = course-same x (walk step 0 (part f u t)) h
+
+      go : (y : Bool) → plain course ≡ y → valueOf t (answer f u course) ≡ means (value course)
+      go true p =
+          rw p (ap means (sym (ap value same ∙ walk-plain step (part f u t) (true→T (plain (walk step 0 (part f u t))) (sym (ap plain same) ∙ p)))))
+      go false p = rw (p, h)
+
+  -- and what means something reads to its end
+  pub body-goes : (v : List ℕ) → valueOf t (answer f u course) ≡ means v → stops course ≡ false
+  body-goes v e = go (stops course) refl
+    where
+      go : (y : Bool) → stops course ≡ y → y ≡ false
+      go true h = absurd (stops-fails t f u course v (true→T (stops course) h) e)
+      go false h = refl
+
+  -- its numbers lie inside the text
+  body-bound : Steady step → Bounds (length t) f u → Bound (valueOf t (answer f u course)) (length t)
+  unfolding answer
+  body-bound ok b = go (plain course) (stops course) refl
+    where
+      room : length (part f u t) + f ≤ length t
+      room = omega (arith, length-take (u - f) (drop f t), length-drop f t, b .ordered, b .inside)
+
+      go : (y z : Bool) → stops course ≡ z → Bound (valueOf t (if y then borrowed f u else if z then refused (f + size course) else written (value course)))
+          (length t)
+      go true z h = omega (arith, room)
+      go false true h = omega (arith, room, course-size x step ok (part f u t))
+      go false false h =
+          omega (
+            arith,
+            room,
+            walk-short step ok 0 (part f u t) (omega arith),
+            ap (λ (r : Trace). length (value r)) (course-same x (walk step 0 (part f u t)) h),
+          )
+
+-- THE MARK of a standard spelling is no zero
+abbrev MarkIn : Spelling → Type 0
+MarkIn (standard q f u) = eqb 0 q ≡ false
+MarkIn (escape f u) = Unit {0}
+MarkIn (unicode e f u) = Unit {0}
+MarkIn (dollar f u) = Unit {0}
+MarkIn unspelt = Unit {0}
+
+pick : (x : Bool) (a b : Spelling) → (x ≡ true → MarkIn a) → MarkIn b → MarkIn (if x then a else b)
+pick true a b f g = f refl
+pick false a b f g = g
+
+opened-mark : (t : List ℕ) → ltb 0 (opening t) ≡ true → eqb 0 (t ! (opening t - 1)) ≡ false
+opened-mark t h = go (opening t) refl (ltb-true 0 (opening t) h)
+  where
+    go : (n : ℕ) → opening t ≡ n → 0 < n → eqb 0 (t ! (n - 1)) ≡ false
+    go zero e l = absurd (omega arith)
+    go (suc n) e l =
+        let j : suc n - 1 ≡ n = omega arith in
+        rw j (apart-of-mark (t ! n) 0 (opening-mark t n e) mark-0)
+
+unicodeBy-mark : (e : List ℕ) (n : ℕ) → MarkIn (unicodeBy e n)
+unicodeBy-mark [] n = tt
+unicodeBy-mark (b ∷ e) n = tt
+
+unicode-mark : (q : ℕ) (t : List ℕ) → MarkIn (unicodeSpelling q t)
+unfolding unicodeSpelling
+unicode-mark q t =
+    pick (isUnicode q t) (closedUnicode t r) unspelt
+    (λ i. pick (stops r) (unicodeBy (chosen (trim (drop (4 + size r) t))) (3 + size r)) unspelt
+    (λ h. unicodeBy-mark (chosen (trim (drop (4 + size r) t))) (3 + size r)) tt) tt
+  where
+    r : Trace
+    r = walk (closingStep false q) 0 (drop 3 t)
+
+dollar-mark : (t : List ℕ) (n : ℕ) → MarkIn (dollarBy t n)
+dollar-mark t zero = tt
+dollar-mark t (suc n) =
+    pick (leb (suc n + suc n) (length t) && same (take (suc n) t) (drop (length t - suc n) t)) (dollar (suc n) (length t - suc n)) unspelt (λ h. tt) tt
+
+spelling-mark : (t : List ℕ) → MarkIn (spelling t)
+unfolding spelling
+spelling-mark t =
+    go (encloses 0 quote t) (encloses 0 dquote t) (has (t ! 0) (ascii "Ee") && encloses 1 quote t) (has (t ! 0) (ascii "Nn") && encloses 1 quote t)
+    (eqb (t ! 0) (code "_") && ltb 0 (opening t) && encloses (opening t - 1) (t ! (opening t - 1)) t) (isUnicode quote t) refl
+  where
+    go : (v w x y z i : Bool) → (eqb (t ! 0) (code "_") && ltb 0 (opening t) && encloses (opening t - 1) (t ! (opening t - 1)) t) ≡ z
+        → MarkIn
+        (if v then standard quote 1 (length t - 1)
+        else if w then standard dquote 1 (length t - 1)
+        else if x then escape 2 (length t - 1)
+        else if y then standard quote 2 (length t - 1)
+        else if z then standard (t ! (opening t - 1)) (opening t) (length t - 1)
+        else if i then unicodeSpelling quote t
+        else dollarBy t (delimiter t))
+    go true w x y z i h = refl
+    go false true x y z i h = refl
+    go false false true y z i h = tt
+    go false false false true z i h = refl
+    go false false false false true i h =
+        opened-mark t (and-right (eqb (t ! 0) (code "_")) (ltb 0 (opening t))
+        (and-left (eqb (t ! 0) (code "_") && ltb 0 (opening t)) (encloses (opening t - 1) (t ! (opening t - 1)) t) h))
+    go false false false false false true h = unicode-mark quote t
+    go false false false false false false h = dollar-mark t (delimiter t)
+
+as-bound : (σ : Settings) (t : List ℕ) (s : Spelling) → BodyIn (length t) s → MarkIn s → Bound (valueOf t (read-as σ t s)) (length t)
+as-bound σ t (standard q f u) b m = body-bound false (standardStep (σ .backslash) q) t f u (standard-steady (σ .backslash) q m) b
+as-bound σ t (escape f u) b m = body-bound true escapeStep t f u escape-steady b
+as-bound σ t (unicode e f u) b m = body-bound false (unicodeStep e quote) t f u (unicode-steady e quote refl) b
+as-bound σ t (dollar f u) b m = omega (arith, length-take (u - f) (drop f t), length-drop f t, b .ordered, b .inside)
+as-bound σ t unspelt b m = omega arith
+
+pub alone-bound : (σ : Settings) (t : List ℕ) → Bound (alone σ t) (length t)
+unfolding one
+alone-bound σ t = go (has 0 t)
+  where
+    go : (x : Bool) → Bound (valueOf t (if x then refused 0 else read-as σ t (spelling t))) (length t)
+    go true = omega arith
+    go false = as-bound σ t (spelling t) (spelling-body t) (spelling-mark t)
