@@ -20,9 +20,9 @@ use Rattle.meaning.specs.Questions.{tested, integerAs, i64Question}
 use Rattle.numbers.specs.declared.int64.Int64.{Int64}
 use Rattle.numbers.specs.declared.int64.Int64.the-variants as Int64′
 use Rattle.numbers.specs.Values.{int64Of}
-use Rattle.spans.specs.declared.tests.Tested.{Tested}
-use Rattle.spans.specs.declared.tests.Tested.the-variants.{Passes, Barred}
-use Rattle.spans.specs.Tests.{Tests}
+use Rattle.admitting.specs.declared.tests.Tested.{Tested}
+use Rattle.admitting.specs.declared.tests.Tested.the-variants.{Passes, Barred}
+use Rattle.admitting.specs.Tests.{Tests}
 use Rattle.questions.proofs.Spanned.{span-barred, span-passes}
 
 abbrev integerOf : Refusal → Int64 → Integer

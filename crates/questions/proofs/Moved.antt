@@ -25,9 +25,9 @@ use Rattle.meaning.specs.Answers.{Meets}
 use Rattle.meaning.specs.Questions as Definition
 use Rattle.meaning.specs.Questions.{toldAs, told, rangeAs, ranged}
 use Rattle.laws.proofs.questions.Ranges.{AnswerIn}
-use Rattle.spans.specs.declared.tests.Tested.{Tested}
-use Rattle.spans.specs.declared.tests.Tested.the-variants.{Passes, Barred}
-use Rattle.spans.specs.Tests.{Tests}
+use Rattle.admitting.specs.declared.tests.Tested.{Tested}
+use Rattle.admitting.specs.declared.tests.Tested.the-variants.{Passes, Barred}
+use Rattle.admitting.specs.Tests.{Tests}
 use Rattle.questions.specs.Told.{toldBy, rangeBy, InText}
 use Rattle.questions.proofs.Spanned.{span-barred, span-passes, span-start, span-inside, span-length}
 

@@ -22,9 +22,9 @@ use Rattle.meaning.specs.Kinds.{money, charsetEnd}
 use Rattle.meaning.specs.Answers.{kindCode}
 use Rattle.meaning.specs.Questions as Definition
 use Rattle.meaning.specs.Questions.{sourceText, tested, sourceQuestion, moneyQuestion, namedAs, charsetQuestion}
-use Rattle.spans.specs.declared.tests.Tested.{Tested}
-use Rattle.spans.specs.declared.tests.Tested.the-variants.{Passes, Barred}
-use Rattle.spans.specs.Tests.{Tests}
+use Rattle.admitting.specs.declared.tests.Tested.{Tested}
+use Rattle.admitting.specs.declared.tests.Tested.the-variants.{Passes, Barred}
+use Rattle.admitting.specs.Tests.{Tests}
 use Rattle.questions.specs.Told.{rangeBy, InText}
 use Rattle.questions.proofs.Spanned.{span-barred, span-passes, span-start, span-inside, span-length}
 use Rattle.questions.proofs.Moved.{fits-text, ranged-is, ranged-barred}

@@ -9,9 +9,9 @@ use Rattle.meaning.specs.declared.Refusal.{Refusal}
 use Rattle.meaning.specs.Bytes.{part}
 use Rattle.meaning.specs.Questions.{passes, barred}
 use Rattle.meaning.specs.Questions as Definition
-use Rattle.spans.specs.declared.tests.Tested.{Tested}
-use Rattle.spans.specs.declared.tests.Tested.the-variants.{Passes, Barred}
-use Rattle.spans.specs.Tests.{Tests, SpanInside, testedOf}
+use Rattle.admitting.specs.declared.tests.Tested.{Tested}
+use Rattle.admitting.specs.declared.tests.Tested.the-variants.{Passes, Barred}
+use Rattle.admitting.specs.Tests.{Tests, SpanInside, testedOf}
 
 module _ {l : Literal} {S : List ℕ} {r : Tested} {x : Definition.Tested} (v : Tests l S r x) where
   pub span-barred : (w : Refusal) → r ≡ Barred w → x ≡ barred w

@@ -22,9 +22,9 @@ use Rattle.meaning.specs.Answers.{Meets, kindCode}
 use Rattle.meaning.specs.Questions as Definition
 use Rattle.meaning.specs.Questions.{tested, stringQuestion, decimalQuestion, bitsQuestion, temporalQuestion}
 use Rattle.laws.proofs.questions.Ranges.{read-inside}
-use Rattle.spans.specs.declared.tests.Tested.{Tested}
-use Rattle.spans.specs.declared.tests.Tested.the-variants.{Passes, Barred}
-use Rattle.spans.specs.Tests.{Tests}
+use Rattle.admitting.specs.declared.tests.Tested.{Tested}
+use Rattle.admitting.specs.declared.tests.Tested.the-variants.{Passes, Barred}
+use Rattle.admitting.specs.Tests.{Tests}
 use Rattle.questions.specs.Told.{toldBy, InText, bitBaseBy}
 use Rattle.questions.proofs.Moved.{fits-text, told-meets, told-barred}
 use Rattle.bits.proofs.Inside.{bits-inside}

@@ -7,9 +7,9 @@ use meaning::Refusal;
 use meaning::Truth;
 use numbers::int64::Int64;
 use numbers::int64::read_i64;
-use spans::kinds::kind_code;
-use spans::tests::Tested;
-use spans::tests::test;
+use admitting::kinds::kind_code;
+use admitting::tests::Tested;
+use admitting::tests::test;
 ghost use mathlib.Core.Path.{_≡_};
 ghost use Rattle.meaning.specs.Questions.{i64Question, boolQuestion, nullQuestion, isNull};
 

@@ -15,7 +15,7 @@ use questions::texts::as_decimal_text;
 use questions::texts::as_str_in;
 use questions::texts::as_temporal_text;
 use questions::values::as_i64;
-use spans::kinds::kind_of;
+use admitting::kinds::kind_of;
 ghost use mathlib.Core.Path.{_≡_};
 ghost use Prim.Native.Nat.{_≤_};
 ghost use lib.ListN.{length};

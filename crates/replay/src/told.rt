@@ -11,7 +11,7 @@ use meaning::Text;
 use meaning::Truth;
 use meaning::Writing;
 use questions::refusals::refusal_number;
-use spans::kinds::kind_code;
+use admitting::kinds::kind_code;
 
 pub(crate) struct Told {
     pub number: u32,

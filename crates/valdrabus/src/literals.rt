@@ -2,7 +2,7 @@
 use meaning::Literal;
 use meaning::Settings;
 use meaning::Span;
-use spans::kinds::kind_of;
+use admitting::kinds::kind_of;
 ghost use mathlib.Core.Path.{_≡_};
 ghost use Rattle.valdrabus.specs.Literals.{isKnown, literalOf, settingsOf};
 

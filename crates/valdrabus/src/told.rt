@@ -9,7 +9,7 @@ use meaning::Span;
 use meaning::Text;
 use meaning::Truth;
 use meaning::Writing;
-use spans::kinds::kind_code;
+use admitting::kinds::kind_code;
 ghost use mathlib.Core.Path.{_≡_};
 ghost use Rattle.meaning.specs.Answers.{expectedCode};
 ghost use Rattle.valdrabus.specs.Numbers.{numberTold, borrowedTold, writtenTold, roomTold, spanTold, refusalTold, Says};

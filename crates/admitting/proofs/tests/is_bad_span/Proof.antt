@@ -1,8 +1,8 @@
--- `spans::tests::is_bad_span` meets its contract: the code is the definition, by what the callee ensures. Assumes nothing.
+-- `admitting::tests::is_bad_span` meets its contract: the code is the definition, by what the callee ensures. Assumes nothing.
 use Rattle.meaning.specs.Questions.{badSpan}
 use borrow.Author.Needs.{needs}
-use Rattle.spans.proofs.tests.is_bad_span.Statement.{statement}
-use Rattle.spans.proofs.tests.is_bad_span.Tie as tie
+use Rattle.admitting.proofs.tests.is_bad_span.Statement.{statement}
+use Rattle.admitting.proofs.tests.is_bad_span.Tie as tie
 
 cast-start : tie.Need-cast-start
 cast-start c = search needs

@@ -1,8 +1,8 @@
--- `spans::tests::test_source` meets its contract: each test has its way out, and the span is a range of the source. Assumes nothing.
-use Rattle.spans.proofs.Passing.{missing, misplaced, ordered, inside, passed, undecoded}
+-- `admitting::tests::test_source` meets its contract: each test has its way out, and the span is a range of the source. Assumes nothing.
+use Rattle.admitting.proofs.Passing.{missing, misplaced, ordered, inside, passed, undecoded}
 use borrow.Author.Needs.{needs}
-use Rattle.spans.proofs.tests.test_source.Statement.{statement}
-use Rattle.spans.proofs.tests.test_source.Tie as tie
+use Rattle.admitting.proofs.tests.test_source.Statement.{statement}
+use Rattle.admitting.proofs.tests.test_source.Tie as tie
 
 returns : tie.Need-returns
 returns c = search missing

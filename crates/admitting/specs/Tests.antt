@@ -7,8 +7,8 @@ use Rattle.meaning.specs.declared.Literal.{Literal}
 use Rattle.meaning.specs.Bytes.{part}
 use Rattle.meaning.specs.Questions.{passes, barred}
 use Rattle.meaning.specs.Questions as Definition
-use Rattle.spans.specs.declared.tests.Tested.{Tested}
-use Rattle.spans.specs.declared.tests.Tested.the-variants.{Passes, Barred}
+use Rattle.admitting.specs.declared.tests.Tested.{Tested}
+use Rattle.admitting.specs.declared.tests.Tested.the-variants.{Passes, Barred}
 
 -- the text in a source that a range stands for
 abbrev pub testedOf : List ℕ → Tested → Definition.Tested

@@ -1,9 +1,9 @@
--- `spans::tests::cuts_character` meets its contract: the code is the definition, by what the callee ensures. Assumes nothing.
+-- `admitting::tests::cuts_character` meets its contract: the code is the definition, by what the callee ensures. Assumes nothing.
 use Rattle.meaning.specs.Bytes.{within}
 use Rattle.meaning.specs.Questions.{cutsCharacter}
 use borrow.Author.Needs.{needs}
-use Rattle.spans.proofs.tests.cuts_character.Statement.{statement}
-use Rattle.spans.proofs.tests.cuts_character.Tie as tie
+use Rattle.admitting.proofs.tests.cuts_character.Statement.{statement}
+use Rattle.admitting.proofs.tests.cuts_character.Tie as tie
 
 byte-at-requires : tie.Need-byte-at-requires
 byte-at-requires c κs = search needs

@@ -1,8 +1,8 @@
--- `spans::tests::test` meets its contract, by whether the kind fits. Assumes nothing.
-use Rattle.spans.proofs.Passing.{fitting, unfitting}
+-- `admitting::tests::test` meets its contract, by whether the kind fits. Assumes nothing.
+use Rattle.admitting.proofs.Passing.{fitting, unfitting}
 use borrow.Author.Needs.{needs}
-use Rattle.spans.proofs.tests.test.Statement.{statement}
-use Rattle.spans.proofs.tests.test.Tie as tie
+use Rattle.admitting.proofs.tests.test.Statement.{statement}
+use Rattle.admitting.proofs.tests.test.Tie as tie
 
 test-source-requires : tie.Need-test-source-requires
 test-source-requires c κs = search needs

@@ -1,11 +1,11 @@
--- `spans::kinds::kind_of` meets its contract: each code is looked up. Assumes nothing.
+-- `admitting::kinds::kind_of` meets its contract: each code is looked up. Assumes nothing.
 use mathlib.Core.Path.{_≡_, sym, ap}
 use Prim.Native.Nat.{ℕ, suc, _+_, _-_, _≤_}
 use native.Mathlib.Omega.{arith}
 use Rattle.meaning.specs.declared.LiteralKind.the-variants.{Null}
 use Rattle.meaning.specs.Records.{kindOf, kindBy, kinds}
-use Rattle.spans.proofs.kinds.kind_of.Statement.{statement}
-use Rattle.spans.proofs.kinds.kind_of.Tie as tie
+use Rattle.admitting.proofs.kinds.kind_of.Statement.{statement}
+use Rattle.admitting.proofs.kinds.kind_of.Tie as tie
 
 past : (k n : ℕ) → k ≤ n → (n ≡ k → ⊥) → k + 1 ≤ n
 past k n h ne = omega arith

@@ -7,7 +7,7 @@ use meaning::Span;
 use utf8::check::is_utf8;
 ghost use mathlib.Core.Path.{_≡_};
 ghost use Rattle.meaning.specs.Questions.{cutsCharacter, badSpan, sourceText, tested};
-ghost use Rattle.spans.specs.Tests.{Tests};
+ghost use Rattle.admitting.specs.Tests.{Tests};
 
 // The text of a literal, from a place of the source up to another; or why there is none.
 pub enum Tested {

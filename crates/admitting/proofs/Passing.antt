@@ -10,9 +10,9 @@ use Rattle.meaning.specs.declared.Refusal.the-variants.{WrongKind, MissingSourc
 use Rattle.meaning.specs.Chars.{utf8}
 use Rattle.meaning.specs.Questions.{badSpan, sourceText, tested}
 use Rattle.laws.proofs.questions.Ranges.{span-range}
-use Rattle.spans.specs.declared.tests.Tested.{Tested}
-use Rattle.spans.specs.declared.tests.Tested.the-variants.{Passes, Barred}
-use Rattle.spans.specs.Tests.{Tests}
+use Rattle.admitting.specs.declared.tests.Tested.{Tested}
+use Rattle.admitting.specs.declared.tests.Tested.the-variants.{Passes, Barred}
+use Rattle.admitting.specs.Tests.{Tests}
 
 module _ (l : Literal) (S : List ℕ) where
   pub missing : l .synthetic ≡ true → Tests l S (Barred (MissingSource (l .span))) (sourceText l S)

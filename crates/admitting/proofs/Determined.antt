@@ -7,9 +7,9 @@ use Rattle.meaning.specs.declared.Literal.{Literal}
 use Rattle.meaning.specs.declared.Refusal.{Refusal}
 use Rattle.meaning.specs.Questions as Definition
 use Rattle.meaning.specs.Questions.{passes, barred}
-use Rattle.spans.specs.declared.tests.Tested.{Tested}
-use Rattle.spans.specs.declared.tests.Tested.the-variants.{Passes, Barred}
-use Rattle.spans.specs.Tests.{Tests}
+use Rattle.admitting.specs.declared.tests.Tested.{Tested}
+use Rattle.admitting.specs.declared.tests.Tested.the-variants.{Passes, Barred}
+use Rattle.admitting.specs.Tests.{Tests}
 
 two : {a b c d : ℕ} → a ≡ c → b ≡ d → Passes a b ≡ Passes c d
 two {a} {b} {c} {d} p q = ap (λ (x : ℕ). Passes x b) p ∙ ap (λ (x : ℕ). Passes c x) q
