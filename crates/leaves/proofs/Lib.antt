@@ -3,3 +3,4 @@ pub mod RunSteps
 pub mod Shown
 pub mod Putting
 pub mod Sums
+pub mod WordFlags

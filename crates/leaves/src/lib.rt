@@ -1,5 +1,5 @@
-// The leaves of reading: scans by blocks, bytes, digits, name and tag bytes and their runs, whole texts, parts and views. Every public function answers for
-// every input.
+// The leaves of reading: scans by blocks and by words, bytes, digits, name and tag bytes and their runs, whole texts, parts and views. Every public
+// function answers for every input.
 pub mod blocks;
 pub mod bytes;
 pub mod digits;
@@ -8,3 +8,4 @@ pub mod puts;
 pub mod runs;
 pub mod texts;
 pub mod views;
+pub mod words;
