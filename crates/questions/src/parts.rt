@@ -1,6 +1,10 @@
 // Questions whose answer is a part of the source: the literal's text, money, a charset's name. Each has a sister that gives the part itself.
 use crate::shown::charset_shown;
 use crate::shown::range_shown;
+use admitting::kinds::kind_code;
+use admitting::tests::Tested;
+use admitting::tests::test;
+use admitting::tests::test_source;
 use cutting::openings::opening_len;
 use kinds::money::read_money;
 use leaves::bytes::byte_at;
@@ -10,10 +14,6 @@ use meaning::LiteralExpected;
 use meaning::Range;
 use meaning::Read;
 use meaning::Refusal;
-use admitting::kinds::kind_code;
-use admitting::tests::Tested;
-use admitting::tests::test;
-use admitting::tests::test_source;
 ghost use mathlib.Core.Path.{_≡_};
 ghost use Rattle.meaning.specs.Questions.{sourceQuestion, moneyQuestion, charsetQuestion};
 ghost use Rattle.meaning.specs.Kinds.{charsetEnd};

@@ -1,4 +1,7 @@
 // Questions whose answer is a text, a part of the source or written into the buffer: string, decimal, bits, temporal.
+use admitting::kinds::kind_code;
+use admitting::tests::Tested;
+use admitting::tests::test;
 use bits::reading::read_bits;
 use decimals::decimal::read_decimal;
 use kinds::temporal::read_temporal;
@@ -8,9 +11,6 @@ use meaning::Read;
 use meaning::Refusal;
 use meaning::Settings;
 use meaning::Text;
-use admitting::kinds::kind_code;
-use admitting::tests::Tested;
-use admitting::tests::test;
 use strings::joined::read_string;
 ghost use mathlib.Core.Path.{_≡_};
 ghost use Rattle.meaning.specs.Answers.{Meets};

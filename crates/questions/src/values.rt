@@ -1,4 +1,7 @@
 // Questions whose answer is a value: integer, boolean, NULL.
+use admitting::kinds::kind_code;
+use admitting::tests::Tested;
+use admitting::tests::test;
 use meaning::Integer;
 use meaning::Literal;
 use meaning::LiteralExpected;
@@ -7,9 +10,6 @@ use meaning::Refusal;
 use meaning::Truth;
 use numbers::int64::Int64;
 use numbers::int64::read_i64;
-use admitting::kinds::kind_code;
-use admitting::tests::Tested;
-use admitting::tests::test;
 ghost use mathlib.Core.Path.{_≡_};
 ghost use Rattle.meaning.specs.Questions.{i64Question, boolQuestion, nullQuestion, isNull};
 

@@ -1,4 +1,5 @@
 // What any answer tells: its number, a letter for its case, and two values.
+use admitting::kinds::kind_code;
 use meaning::Charset;
 use meaning::Identifier;
 use meaning::Integer;
@@ -11,7 +12,6 @@ use meaning::Text;
 use meaning::Truth;
 use meaning::Writing;
 use questions::refusals::refusal_number;
-use admitting::kinds::kind_code;
 
 pub(crate) struct Told {
     pub number: u32,

@@ -1,8 +1,8 @@
 // A literal and a setting by their numbers.
+use admitting::kinds::kind_of;
 use meaning::Literal;
 use meaning::Settings;
 use meaning::Span;
-use admitting::kinds::kind_of;
 ghost use mathlib.Core.Path.{_≡_};
 ghost use Rattle.valdrabus.specs.Literals.{isKnown, literalOf, settingsOf};
 

@@ -1,4 +1,5 @@
 // An answer in four numbers: 0 or the refusal's number; how a text is answered; and two numbers more, a range, a span, or what a refusal returns.
+use admitting::kinds::kind_code;
 use meaning::Charset;
 use meaning::Identifier;
 use meaning::LiteralExpected;
@@ -9,7 +10,6 @@ use meaning::Span;
 use meaning::Text;
 use meaning::Truth;
 use meaning::Writing;
-use admitting::kinds::kind_code;
 ghost use mathlib.Core.Path.{_≡_};
 ghost use Rattle.meaning.specs.Answers.{expectedCode};
 ghost use Rattle.valdrabus.specs.Numbers.{numberTold, borrowedTold, writtenTold, roomTold, spanTold, refusalTold, Says};
