@@ -12,11 +12,12 @@ use lib.Dec.{eqb, ltb, leb, leb→le}
 use borrow.Author.Tests.{eqb-true}
 use lib.ListN.{length, take, drop, length-drop, take-append-drop, drop-of-length-le}
 use lib.Seq.{split-at, drop-append-add, getD-drop}
+use Rattle.meaning.specs.declared.Settings.{Settings}
 use Rattle.meaning.specs.Bytes.{if_then_else_, _!_, has, same, ascii, isMark, isLetter, isDecimal, within, quote, dquote, backslash, inName, digit, part}
 use Rattle.meaning.specs.Chars.{Due, due, broken, lead, gather, base, laters, isSpace, space}
 use Rattle.meaning.specs.Walk.{Trace, stopped, walk, size, stops, value}
 use Rattle.meaning.specs.Steps.{closingStep, doubled, standardStep, gap, trim}
-use Rattle.meaning.specs.Cutting.{complete, cut, opening, named, segmentAt, segment, segmentStep, on}
+use Rattle.meaning.specs.Cutting.{complete, cut, opening, named, segmentAt, segment, segmentStep}
 use Rattle.meaning.specs.Spelling.{legalEscape, isOne, upper, encloses, argument, argumentBy}
 use Rattle.meaning.specs.Reading.{meaning, means, read, written}
 use Rattle.laws.proofs.basics.Tests.{true→T, eqb-sym, and-left, and-right, or-right}
@@ -214,14 +215,14 @@ module _ (i : ℕ) (t : List ℕ) (f : Legal i t) where
       rw (f .leads, gather-more (f .n) (f .lo) (f .hi) (i - base (f .n)) t (f .later)) (rw (f .leads) at (f .tight)) in
       rw s
 
-  arg-none : segment on (i ∷ (t ++ (quote ∷ []))) ≡ 0
+  arg-none : (σ : Settings) → segment σ (i ∷ (t ++ (quote ∷ []))) ≡ 0
   unfolding segment named inName isLetter isDecimal within isMark
-  arg-none = at t quiet-t
+  arg-none σ = at t quiet-t
     where
-      at : (s : List ℕ) → AllQ s → segment on (i ∷ (s ++ (quote ∷ []))) ≡ 0
+      at : (s : List ℕ) → AllQ s → segment σ (i ∷ (s ++ (quote ∷ []))) ≡ 0
       at [] a = rw (f .plain) (go (has i (ascii "EeNnBbXx")) (has i (ascii "Uu")) (eqb i (code "_")))
         where
-          go : (x y z : Bool) → segmentAt on (i ∷ (quote ∷ [])) (if x then 2 else if y then 0 else if z then 0 else 0) ≡ 0
+          go : (x y z : Bool) → segmentAt σ (i ∷ (quote ∷ [])) (if x then 2 else if y then 0 else if z then 0 else 0) ≡ 0
           go true y z = refl
           go false true z = refl
           go false false true = refl
@@ -230,7 +231,7 @@ module _ (i : ℕ) (t : List ℕ) (f : Legal i t) where
           rw (f .plain, apart-of-mark quote b is-quote (a .0 .0 .1), a .0 .1 .2, a .0 .1 .1)
           (go (has i (ascii "EeNnBbXx")) (has i (ascii "Uu")) (eqb i (code "_")))
         where
-          go : (x y z : Bool) → segmentAt on (i ∷ (b ∷ (s ++ (quote ∷ [])))) (if x then 0 else if y then 0 else if z then 0 else 0) ≡ 0
+          go : (x y z : Bool) → segmentAt σ (i ∷ (b ∷ (s ++ (quote ∷ [])))) (if x then 0 else if y then 0 else if z then 0 else 0) ≡ 0
           go true y z = refl
           go false true z = refl
           go false false true = refl
@@ -329,9 +330,9 @@ module _ (K W : List ℕ) (ck : AllC K) (cw : AllC W) (i : ℕ) (t : List ℕ) (
       let e : suc (length K + length W) ≡ length K + (length W + 1) = omega arith in
       rw (e, drop-append-add K (W ++ tail-of) (length W + 1)) (drop-append-add W tail-of 1)
 
-pub clause-refused : ClauseRefused
+pub clause-refused : (σ : Settings) → σ .backslash ≡ true → ClauseRefused σ
 unfolding cut tail-of
-clause-refused b t u full st y z d c e ch =
+clause-refused σ on b t u full st y z d c e ch =
     let p = if-list (same (map upper (take 7 (y ∷ z))) (ascii "UESCAPE")) (argument (trim (drop 7 (y ∷ z)))) c e ch in
     let hy = and-left (eqb (upper y) 85) (same (map upper (take 6 z)) (ascii "ESCAPE")) (p .0) in
     let hz = and-right (eqb (upper y) 85) (same (map upper (take 6 z)) (ascii "ESCAPE")) (p .0) in
@@ -383,13 +384,14 @@ clause-refused b t u full st y z d c e ch =
         → (stops (walk (closingStep true quote) 0 (y ∷ z)) ≡ true) × (size (walk (closingStep true quote) 0 (y ∷ z)) ≡ k)
         → stops (walk (closingStep true dquote) 0 (y ∷ z)) ≡ false → drop (suc k) (y ∷ z) ≡ i ∷ (t′ ++ (quote ∷ [])) → ⊥
     finish f o k i t′ g s1 s2 rest =
-        let v = never y z (f .0) (f .1) (f .2) (f .3) o k s1 s2 i (t′ ++ (quote ∷ [])) rest (arg-tight i t′ g) (arg-none i t′ g) 0 Y last-Y (omega arith) in
-        true→T false (sym full ∙ ap (λ (x : List ℕ). stops (walk (segmentStep on) 0 x)) (sym covers) ∙ v)
+        let v =
+        never σ on y z (f .0) (f .1) (f .2) (f .3) o k s1 s2 i (t′ ++ (quote ∷ [])) rest (arg-tight i t′ g) (arg-none i t′ g σ) 0 Y last-Y (omega arith) in
+        true→T false (sym full ∙ ap (λ (x : List ℕ). stops (walk (segmentStep σ) 0 x)) (sym covers) ∙ v)
 
 -- THE JOINING LAW with the setting on, whole
-pub joining-on-whole : (A G B v w : List ℕ)
-    → complete on A ≡ true → meaning on A ≡ means v
-    → complete on B ≡ true → meaning on B ≡ means w → isMark (B ! 0) ≡ true
+pub joining-on-whole : (σ : Settings) → σ .backslash ≡ true → (A G B v w : List ℕ)
+    → complete σ A ≡ true → meaning σ A ≡ means v
+    → complete σ B ≡ true → meaning σ B ≡ means w → isMark (B ! 0) ≡ true
     → White G → 0 < length G
-    → read on (A ++ (G ++ B)) ≡ written (v ++ w)
-joining-on-whole = joining-on clause-refused
+    → read σ (A ++ (G ++ B)) ≡ written (v ++ w)
+joining-on-whole σ on = joining-on σ on (clause-refused σ on)

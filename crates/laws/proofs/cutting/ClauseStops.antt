@@ -11,11 +11,12 @@ use lib.Dec.{eqb, ltb, leb}
 use borrow.Author.Tests.{eqb-true}
 use lib.ListN.{length, drop, length-drop}
 use lib.Seq.{drop-append-le, drop-append-add}
+use Rattle.meaning.specs.declared.Settings.{Settings}
 use Rattle.meaning.specs.Bytes.{if_then_else_, _!_, has, ascii, isMark, isLetter, isDecimal, within, quote, dquote, backslash, inName, span}
 use Rattle.meaning.specs.Chars.{Due, due, broken, lead, gather, base, isSpace}
 use Rattle.meaning.specs.Walk.{after, walk, size, stops}
 use Rattle.meaning.specs.Steps.{closingStep, doubled, spaceStep, spaceBy, gap}
-use Rattle.meaning.specs.Cutting.{opening, named, segment, segmentStep, on}
+use Rattle.meaning.specs.Cutting.{opening, named, hides, segment, segmentStep}
 use Rattle.laws.proofs.basics.Tests.{true→T, if-suc, and-left, and-right}
 use Rattle.laws.proofs.walking.Walks.{walk-append, walk-drop, walk-extend, size-graft, stops-graft, stops-inside}
 use Rattle.laws.proofs.cutting.Gaps.{below-due, lead-low, Solid, has-all, no-space}
@@ -159,25 +160,29 @@ module _ (y : ℕ) (z : List ℕ) (solid : Solid y) (low : leb 0x80 y ≡ false)
 
 -- The clause y ∷ z: no segment opens with it; the search for ' stops at place k of it, and the search for " nowhere; and what
 -- follows place k begins with no white space and with no segment
-module _ (y : ℕ) (z : List ℕ) (solid : Solid y) (low : leb 0x80 y ≡ false) (nomark : isMark y ≡ false) (noamp : eqb y (code "&") ≡ false)
+module _ (σ : Settings) (on : σ .backslash ≡ true)
+    (y : ℕ) (z : List ℕ) (solid : Solid y) (low : leb 0x80 y ≡ false) (nomark : isMark y ≡ false) (noamp : eqb y (code "&") ≡ false)
     (shut : opening (y ∷ z) ≡ 0) (k : ℕ)
     (single : (stops (walk (closingStep true quote) 0 (y ∷ z)) ≡ true) × (size (walk (closingStep true quote) 0 (y ∷ z)) ≡ k))
     (double : stops (walk (closingStep true dquote) 0 (y ∷ z)) ≡ false)
-    (c : ℕ) (x : List ℕ) (rest : drop (suc k) (y ∷ z) ≡ c ∷ x) (tight : gap (c ∷ x) ≡ 0) (none : segment on (c ∷ x) ≡ 0) where
+    (c : ℕ) (x : List ℕ) (rest : drop (suc k) (y ∷ z) ≡ c ∷ x) (tight : gap (c ∷ x) ≡ 0) (none : segment σ (c ∷ x) ≡ 0) where
   by-mark : (q : ℕ) → isMark q ≡ true → stops (walk (closingStep true q) 0 (y ∷ z)) ≡ true → size (walk (closingStep true q) 0 (y ∷ z)) ≡ k
   unfolding isMark
   by-mark q m =
       has-all (λ p. stops (walk (closingStep true p) 0 (y ∷ z)) ≡ true → size (walk (closingStep true p) 0 (y ∷ z)) ≡ k) q (quote ∷ dquote ∷ [])
       ((λ s. single .1), ((λ s. absurd (true→T false (sym double ∙ s))), tt)) m
 
-  bound : (d : ℕ) (Y : List ℕ) → Last (d ∷ Y) → (e : ℕ) → segment on (d ∷ (Y ++ (y ∷ z))) ≡ suc e
+  hidden : (t : List ℕ) → hides σ t ≡ true
+  hidden t = rw on
+
+  bound : (d : ℕ) (Y : List ℕ) → Last (d ∷ Y) → (e : ℕ) → segment σ (d ∷ (Y ++ (y ∷ z))) ≡ suc e
       → (e + gap (drop e (Y ++ (y ∷ z))) ≤ length Y) ⊎ (e ≡ length Y + suc k)
   bound d Y l e seg =
-      let s = segment-of on (d ∷ (Y ++ (y ∷ z))) e seg in
+      let s = segment-of σ (d ∷ (Y ++ (y ∷ z))) e seg in
       let n : ℕ = s .0 in
       let i = opening-before y z solid low nomark noamp d Y l n (s .1) in
-      go n ((d ∷ (Y ++ (y ∷ z))) ! n) (opening-mark (d ∷ (Y ++ (y ∷ z))) n (s .1)) i (rw (drop-append-le n Y (y ∷ z) i) at (s .2))
-      (rw (drop-append-le n Y (y ∷ z) i) at (s .3))
+      go n ((d ∷ (Y ++ (y ∷ z))) ! n) (opening-mark (d ∷ (Y ++ (y ∷ z))) n (s .1)) i (rw (hidden (d ∷ (Y ++ (y ∷ z))), drop-append-le n Y (y ∷ z) i) at (s .2))
+      (rw (hidden (d ∷ (Y ++ (y ∷ z))), drop-append-le n Y (y ∷ z) i) at (s .3))
     where
       go : (n q : ℕ) → isMark q ≡ true → n ≤ length Y → stops (walk (closingStep true q) 0 (drop n Y ++ (y ∷ z))) ≡ true
           → suc n + size (walk (closingStep true q) 0 (drop n Y ++ (y ∷ z))) + 1 ≡ suc e
@@ -201,24 +206,24 @@ module _ (y : ℕ) (z : List ℕ) (solid : Solid y) (low : leb 0x80 y ≡ false)
               let g = size-graft (walk (closingStep true q) 0 (drop n Y)) (walk (closingStep true q) 0 (y ∷ z)) b in
               inr (omega (arith, ap size w, g, by-mark q m t, length-drop n Y))
 
-  pub never : (j : ℕ) (Y : List ℕ) → Last Y → j ≤ length Y → stops (walk (segmentStep on) j (Y ++ (y ∷ z))) ≡ true
+  pub never : (j : ℕ) (Y : List ℕ) → Last Y → j ≤ length Y → stops (walk (segmentStep σ) j (Y ++ (y ∷ z))) ≡ true
   unfolding segmentStep segment
   never zero [] l i = rw shut
   never (suc j) [] l i = absurd (omega arith)
   never (suc j) (d ∷ Y) l i = never j Y (last-tail d Y l) (omega arith)
-  never zero (d ∷ Y) l i = go (segment on (d ∷ (Y ++ (y ∷ z)))) refl (λ j. never j Y (last-tail d Y l))
+  never zero (d ∷ Y) l i = go (segment σ (d ∷ (Y ++ (y ∷ z)))) refl (λ j. never j Y (last-tail d Y l))
     where
-      stays : stops (walk (segmentStep on) 0 (c ∷ x)) ≡ true
+      stays : stops (walk (segmentStep σ) 0 (c ∷ x)) ≡ true
       stays = rw none
 
-      go : (s : ℕ) → segment on (d ∷ (Y ++ (y ∷ z))) ≡ s → ((j : ℕ) → j ≤ length Y → stops (walk (segmentStep on) j (Y ++ (y ∷ z))) ≡ true)
-          → stops (walk (segmentStep on) 0 (d ∷ (Y ++ (y ∷ z)))) ≡ true
+      go : (s : ℕ) → segment σ (d ∷ (Y ++ (y ∷ z))) ≡ s → ((j : ℕ) → j ≤ length Y → stops (walk (segmentStep σ) j (Y ++ (y ∷ z))) ≡ true)
+          → stops (walk (segmentStep σ) 0 (d ∷ (Y ++ (y ∷ z)))) ≡ true
       go zero s ih = rw s
       go (suc e) s ih = rw s (past (bound d Y l e s))
         where
           past : (e + gap (drop e (Y ++ (y ∷ z))) ≤ length Y) ⊎ (e ≡ length Y + suc k)
-              → stops (walk (segmentStep on) (e + gap (drop e (Y ++ (y ∷ z)))) (Y ++ (y ∷ z))) ≡ true
+              → stops (walk (segmentStep σ) (e + gap (drop e (Y ++ (y ∷ z)))) (Y ++ (y ∷ z))) ≡ true
           past (inl h) = ih (e + gap (drop e (Y ++ (y ∷ z)))) h
           past (inr h) =
               let p : drop e (Y ++ (y ∷ z)) ≡ c ∷ x = ap (λ (m : ℕ). drop m (Y ++ (y ∷ z))) h ∙ drop-append-add Y (y ∷ z) (suc k) ∙ rest in
-              rw (p, tight, add-zero e, walk-drop (segmentStep on) e (Y ++ (y ∷ z)), p) stays
+              rw (p, tight, add-zero e, walk-drop (segmentStep σ) e (Y ++ (y ∷ z)), p) stays

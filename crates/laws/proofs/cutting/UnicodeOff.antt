@@ -13,7 +13,7 @@ use Rattle.meaning.specs.declared.Settings.{Settings}
 use Rattle.meaning.specs.Bytes.{if_then_else_, _!_, has, same, ascii, isMark, quote, backslash, within}
 use Rattle.meaning.specs.Walk.{walk, size, stops}
 use Rattle.meaning.specs.Steps.{closingStep, trim}
-use Rattle.meaning.specs.Cutting.{opening, named, hides, segment, off}
+use Rattle.meaning.specs.Cutting.{opening, named, hides, segment}
 use Rattle.meaning.specs.Spelling.{isUnicode, unicodeSpelling, unicodeBy, chosen, upper}
 use Rattle.meaning.specs.Reading.{means, valueOf, read-as}
 use Rattle.laws.proofs.basics.Tests.{true→T, if-suc, and-left, and-right}
@@ -86,13 +86,14 @@ module _ (σ : Settings) (b : ℕ) (t : List ℕ) (u : isUnicode quote (b ∷ t)
       (st″ .0, (let z = st″ .1 in omega arith))
 
 -- with the setting off both searches are one, and no clause follows
-pub unicode-off : (b : ℕ) (t : List ℕ) (e : ℕ) → segment off (b ∷ t) ≡ suc e → (c : ℕ) (x : List ℕ) → trim (drop (suc e) (b ∷ t)) ≡ c ∷ x
+pub unicode-off : (σ : Settings) → σ .backslash ≡ false
+    → (b : ℕ) (t : List ℕ) (e : ℕ) → segment σ (b ∷ t) ≡ suc e → (c : ℕ) (x : List ℕ) → trim (drop (suc e) (b ∷ t)) ≡ c ∷ x
     → (m : ℕ) → opening (c ∷ x) ≡ suc m → isMark c ≡ false → (v : List ℕ)
-    → isUnicode quote (b ∷ t) ≡ true → valueOf (b ∷ t) (read-as off (b ∷ t) (unicodeSpelling quote (b ∷ t))) ≡ means v → ⊥
+    → isUnicode quote (b ∷ t) ≡ true → valueOf (b ∷ t) (read-as σ (b ∷ t) (unicodeSpelling quote (b ∷ t))) ≡ means v → ⊥
 unfolding unicodeSpelling
-unicode-off b t e seg c x d m o k v u h =
-    let s = closes-u off b t u e seg in
-    let z : valueOf (b ∷ t) (read-as off (b ∷ t)
+unicode-off σ off b t e seg c x d m o k v u h =
+    let s = rw off at (closes-u σ b t u e seg) in
+    let z : valueOf (b ∷ t) (read-as σ (b ∷ t)
     (unicodeBy (chosen (trim (drop (4 + size (walk (closingStep false quote) 0 (drop 2 t))) (b ∷ t))))
     (3 + size (walk (closingStep false quote) 0 (drop 2 t))))) ≡ means v = rw (u, s .0) at h in
     fails≢means 0 v (rw (s .1, d, no-clause c x m o k) at z)

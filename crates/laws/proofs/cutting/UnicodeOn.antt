@@ -8,10 +8,11 @@ use native.Mathlib.Omega.{arith}
 use lib.Dec.{eqb}
 use borrow.Author.Tests.{eqb-true}
 use lib.ListN.{length, take, drop, length-take, take-append-drop}
+use Rattle.meaning.specs.declared.Settings.{Settings}
 use Rattle.meaning.specs.Bytes.{if_then_else_, _!_, isMark, quote, backslash, part}
 use Rattle.meaning.specs.Walk.{Step, keep, give, stop, Trace, ended, stopped, after, walk, size, stops}
 use Rattle.meaning.specs.Steps.{closingStep, doubled, unicodeStep, trim}
-use Rattle.meaning.specs.Cutting.{complete, cut, on}
+use Rattle.meaning.specs.Cutting.{complete, cut}
 use Rattle.meaning.specs.Spelling.{isUnicode, unicodeSpelling, closedUnicode, unicodeBy, chosen}
 use Rattle.meaning.specs.Reading.{read, written, meaning, means, valueOf, answer, read-as}
 use Rattle.laws.proofs.basics.Tests.{true→T}
@@ -24,8 +25,8 @@ use Rattle.laws.proofs.joining.Joining.{fails≢means}
 use Rattle.laws.proofs.joining.Ready.{UnicodeRefused, joining}
 
 -- WHAT IS LEFT: a text with a UESCAPE clause, read as one with the setting on, does not cut completely
-abbrev pub ClauseRefused : Type 0
-ClauseRefused = (b : ℕ) (t : List ℕ) → isUnicode quote (b ∷ t) ≡ true → stops (cut on (b ∷ t)) ≡ false
+abbrev pub ClauseRefused : Settings → Type 0
+ClauseRefused σ = (b : ℕ) (t : List ℕ) → isUnicode quote (b ∷ t) ≡ true → stops (cut σ (b ∷ t)) ≡ false
     → stops (walk (closingStep false quote) 0 (drop 2 t)) ≡ true
     → (y : ℕ) (z : List ℕ) → trim (drop (4 + size (walk (closingStep false quote) 0 (drop 2 t))) (b ∷ t)) ≡ y ∷ z
     → (c : ℕ) (e : List ℕ) → chosen (y ∷ z) ≡ c ∷ e → ⊥
@@ -68,9 +69,9 @@ same-close u st rd =
 part-take : (b : ℕ) (t : List ℕ) (m : ℕ) → part 3 (3 + m) (b ∷ t) ≡ take m (drop 2 t)
 part-take b t m = let e : 3 + m - 3 ≡ m = omega arith in rw e
 
-pub refused-on : ClauseRefused → UnicodeRefused on
+pub refused-on : (σ : Settings) → σ .backslash ≡ true → ClauseRefused σ → UnicodeRefused σ
 unfolding unicodeSpelling
-refused-on clause b t e seg full c x d m o k v u h = go (stops (walk (closingStep false quote) 0 (drop 2 t))) refl (rw u at h)
+refused-on σ on clause b t e seg full c x d m o k v u h = go (stops (walk (closingStep false quote) 0 (drop 2 t))) refl (rw u at h)
   where
     n : ℕ
     n = size (walk (closingStep false quote) 0 (drop 2 t))
@@ -81,29 +82,29 @@ refused-on clause b t e seg full c x d m o k v u h = go (stops (walk (closingSte
     by-default st z true q g = stops-fails (b ∷ t) 3 (3 + n) (walk (unicodeStep (backslash ∷ []) quote) 0 (part 3 (3 + n) (b ∷ t))) v (true→T _ q) g
     by-default st z false q g =
         let s = same-close (drop 2 t) st (rw (part-take b t n) at q) in
-        let p = closes-u on b t u e seg .1 in
+        let p = (rw on at (closes-u σ b t u e seg)) .1 in
         let i : 4 + n ≡ suc e = omega arith in
         let f : [] ≡ c ∷ x = sym z ∙ ap (λ (j : ℕ). trim (drop j (b ∷ t))) i ∙ d in
         let j : _≡_ {A = ℕ} 0 1 = cc in omega arith
 
     clauses : stops (walk (closingStep false quote) 0 (drop 2 t)) ≡ true → (y : List ℕ) → trim (drop (4 + n) (b ∷ t)) ≡ y
-        → (a : List ℕ) → chosen y ≡ a → valueOf (b ∷ t) (read-as on (b ∷ t) (unicodeBy a (3 + n))) ≡ means v → ⊥
+        → (a : List ℕ) → chosen y ≡ a → valueOf (b ∷ t) (read-as σ (b ∷ t) (unicodeBy a (3 + n))) ≡ means v → ⊥
     clauses st [] z a q g =
         by-default st z (stops (walk (unicodeStep (backslash ∷ []) quote) 0 (part 3 (3 + n) (b ∷ t)))) refl
-        (subst (λ (a : List ℕ). valueOf (b ∷ t) (read-as on (b ∷ t) (unicodeBy a (3 + n))) ≡ means v) (sym q) g)
+        (subst (λ (a : List ℕ). valueOf (b ∷ t) (read-as σ (b ∷ t) (unicodeBy a (3 + n))) ≡ means v) (sym q) g)
     clauses st (y ∷ z) w [] q g = fails≢means 0 v g
     clauses st (y ∷ z) w (a ∷ as′) q g = clause b t u full st y z w a as′ q
 
     go : (y : Bool) → stops (walk (closingStep false quote) 0 (drop 2 t)) ≡ y
-        → valueOf (b ∷ t) (read-as on (b ∷ t) (closedUnicode (b ∷ t) (walk (closingStep false quote) 0 (drop 2 t)))) ≡ means v → ⊥
+        → valueOf (b ∷ t) (read-as σ (b ∷ t) (closedUnicode (b ∷ t) (walk (closingStep false quote) 0 (drop 2 t)))) ≡ means v → ⊥
     go false st g = fails≢means 0 v (rw st at g)
     go true st g =
         clauses st (trim (drop (4 + n) (b ∷ t))) refl (chosen (trim (drop (4 + n) (b ∷ t)))) refl (rw st at g)
 
 -- THE LAW with the setting on, given what is left
-pub joining-on : ClauseRefused → (A G B v w : List ℕ)
-    → complete on A ≡ true → meaning on A ≡ means v
-    → complete on B ≡ true → meaning on B ≡ means w → isMark (B ! 0) ≡ true
+pub joining-on : (σ : Settings) → σ .backslash ≡ true → ClauseRefused σ → (A G B v w : List ℕ)
+    → complete σ A ≡ true → meaning σ A ≡ means v
+    → complete σ B ≡ true → meaning σ B ≡ means w → isMark (B ! 0) ≡ true
     → Rattle.laws.proofs.joining.Joining.White G → 0 < length G
-    → read on (A ++ (G ++ B)) ≡ written (v ++ w)
-joining-on left = joining on (refused-on left)
+    → read σ (A ++ (G ++ B)) ≡ written (v ++ w)
+joining-on σ on left = joining σ (refused-on σ on left)

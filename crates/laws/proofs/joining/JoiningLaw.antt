@@ -1,7 +1,7 @@
 -- Demand 3 of the order: "Take accepted string texts A and B, at one backslash setting, each cutting completely into segments, B beginning with a
 -- quote mark, at least one white-space character between. If the whole fits a span and the buffer has room, it is accepted and means A's
 -- value followed by B's." Assumes nothing.
-use mathlib.Core.Path.{_≡_}
+use mathlib.Core.Path.{_≡_, refl}
 use mathlib.Core.Bool.{Bool, true, false}
 use mathlib.Core.List.{List, _++_}
 use Prim.Native.Nat.{ℕ, _≤_, _<_}
@@ -39,15 +39,14 @@ pub record Gap (g : List ℕ) : Type 0 where
   pub white : White g
   pub some : 0 < length g
 
-join-by : (bs : Bool) (A G B v w : List ℕ) → Complete (record { backslash = bs }) A v → Gap G → Complete (record { backslash = bs }) B w
-    → isMark (B ! 0) ≡ true → read (record { backslash = bs }) (A ++ (G ++ B)) ≡ written (v ++ w)
-join-by false A G B v w a g b m = joining-off A G B v w (a .whole) (a .accepts .value) (b .whole) (b .accepts .value) m (g .white) (g .some)
-join-by true A G B v w a g b m = joining-on-whole A G B v w (a .whole) (a .accepts .value) (b .whole) (b .accepts .value) m (g .white) (g .some)
-
 -- what is read, at every setting
 pub join-read : (σ : Settings) (A G B v w : List ℕ) → Complete σ A v → Gap G → Complete σ B w → isMark (B ! 0) ≡ true
     → read σ (A ++ (G ++ B)) ≡ written (v ++ w)
-join-read σ = join-by (σ .backslash)
+join-read σ A G B v w a g b m = go (σ .backslash) refl
+  where
+    go : (s : Bool) → σ .backslash ≡ s → read σ (A ++ (G ++ B)) ≡ written (v ++ w)
+    go false off = joining-off σ off A G B v w (a .whole) (a .accepts .value) (b .whole) (b .accepts .value) m (g .white) (g .some)
+    go true on = joining-on-whole σ on A G B v w (a .whole) (a .accepts .value) (b .whole) (b .accepts .value) m (g .white) (g .some)
 
 -- a text of which a value is written, where there is room
 pub told-written : (l : Literal) (S t v : List ℕ) (σ : Settings) (out : List ℕ) → isString (l .kind) ≡ true → Spans l S t → utf8 t ≡ true

@@ -14,7 +14,7 @@ use Rattle.meaning.specs.declared.Settings.{Settings}
 use Rattle.meaning.specs.Bytes.{_!_, same, isMark, quote}
 use Rattle.meaning.specs.Walk.{Trace, ended, stopped, kept, gave, after, walk, stops}
 use Rattle.meaning.specs.Steps.{gap, trim}
-use Rattle.meaning.specs.Cutting.{continues, opening, segment, segmentStep, segmentBy, cut, complete, covers, off}
+use Rattle.meaning.specs.Cutting.{continues, opening, segment, segmentStep, segmentBy, cut, complete, covers}
 use Rattle.meaning.specs.Spelling.{isUnicode, unicodeSpelling}
 use Rattle.meaning.specs.Reading.{meaning, written, means, valueOf, read, read-as}
 use Rattle.laws.proofs.basics.Tests.{T→true, true→T, and-left, and-right}
@@ -30,8 +30,8 @@ UnicodeRefused σ = (b : ℕ) (t : List ℕ) (e : ℕ) → segment σ (b ∷ t) 
     → (c : ℕ) (x : List ℕ) → trim (drop (suc e) (b ∷ t)) ≡ c ∷ x → (m : ℕ) → opening (c ∷ x) ≡ suc m → isMark c ≡ false
     → (v : List ℕ) → isUnicode quote (b ∷ t) ≡ true → valueOf (b ∷ t) (read-as σ (b ∷ t) (unicodeSpelling quote (b ∷ t))) ≡ means v → ⊥
 
-pub refused-off : UnicodeRefused off
-refused-off b t e seg full c x d m o k v u h = unicode-off b t e seg c x d m o k v u h
+pub refused-off : (σ : Settings) → σ .backslash ≡ false → UnicodeRefused σ
+refused-off σ off b t e seg full c x d m o k v u h = unicode-off σ off b t e seg c x d m o k v u h
 
 same-eq : (s t : List ℕ) → same s t ≡ true → s ≡ t
 same-eq [] [] h = refl
@@ -104,9 +104,9 @@ joining σ uni (a ∷ A) (c ∷ G) (q ∷ B) v w ca ea cb eb m g z =
     join σ c G g q B m a A v w (ready σ uni a A v ea ca) ea (ready σ uni q B w eb cb) eb
 
 -- at the setting off it is whole
-pub joining-off : (A G B v w : List ℕ)
-    → complete off A ≡ true → meaning off A ≡ means v
-    → complete off B ≡ true → meaning off B ≡ means w → isMark (B ! 0) ≡ true
+pub joining-off : (σ : Settings) → σ .backslash ≡ false → (A G B v w : List ℕ)
+    → complete σ A ≡ true → meaning σ A ≡ means v
+    → complete σ B ≡ true → meaning σ B ≡ means w → isMark (B ! 0) ≡ true
     → White G → 0 < length G
-    → read off (A ++ (G ++ B)) ≡ written (v ++ w)
-joining-off = joining off refused-off
+    → read σ (A ++ (G ++ B)) ≡ written (v ++ w)
+joining-off σ off = joining σ (refused-off σ off)

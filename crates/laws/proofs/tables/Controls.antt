@@ -1,7 +1,7 @@
 -- [01 What the contracts owe] "Shut out": each wrong program of document 01's list, refuted once for every question that is lent a buffer, by a closed input
 -- that the question writes text for; and such an input of the string question. `ControlsOfAll` has the other questions'. Assumes nothing.
 use mathlib.Core.Path.{_≡_, refl, ap, sym, _∙_}
-use mathlib.Core.Bool.{false}
+use mathlib.Core.Bool.{Bool, true, false}
 use mathlib.Core.List.{List, [], _∷_, _++_}
 use Prim.Native.Nat.{ℕ, suc, _<_}
 use native.Mathlib.Omega.{arith}
@@ -14,7 +14,7 @@ use Rattle.meaning.specs.declared.Text.{Text}
 use Rattle.meaning.specs.Bytes.{_!_, ascii, within, isMark}
 use Rattle.meaning.specs.Chars.{lead, utf8, isSpace}
 use Rattle.meaning.specs.Steps.{doubled}
-use Rattle.meaning.specs.Cutting.{off, named, segment, segmentStep, cut, continues}
+use Rattle.meaning.specs.Cutting.{off, on, named, segment, segmentStep, cut, continues}
 use Rattle.meaning.specs.Spelling.{encloses, spelling}
 use Rattle.meaning.specs.Reading.{answer, one, read}
 use Rattle.meaning.specs.Answers.{Outcome, Meets, textNumber, textValues, partShown, shown, filled}
@@ -120,6 +120,11 @@ all-as k t = record { kind = k; synthetic = false; span = record { start = 0; en
 
 abbrev pub all-of-it : List ℕ → Literal
 all-of-it t = all-as Kind.String t
+
+-- either setting
+abbrev pub set : Bool → Settings
+set true = on
+set false = off
 
 -- of a question that answers a text: the view shows the source's part or the buffer's
 abbrev pub textTelling : {X : Type 0} → (X → List ℕ) → Telling X Text

@@ -35,7 +35,7 @@ use Rattle.meaning.specs.Questions.{cutsCharacter, badSpan, sourceText, tested,
 use Rattle.meaning.specs.Questions.{identifierQuestion}
 use Rattle.meaning.specs.Writer.{spell, writtenText, overLimit, unwritableNul, writeQuestion}
 use Rattle.meaning.specs.Forms.{figure, isDoubled, escapeForm, unicodeFigures, formText, formQuestion}
-use Rattle.laws.proofs.tables.Controls.{Program, Right, Telling, room, WritesAt, shows-only, ShutOut, shut-out, all-as, all-of-it, textTelling, two}
+use Rattle.laws.proofs.tables.Controls.{Program, Right, Telling, room, WritesAt, shows-only, ShutOut, shut-out, all-as, all-of-it, set, textTelling, two}
 use Rattle.laws.proofs.writing.WriterParts.{Every}
 
 -- questions on a literal and its source
@@ -138,7 +138,7 @@ abbrev pub onWriter : Program (Settings × PartSize × List ℕ) Writing
 onWriter x out = writeQuestion (x .0) (x .1) (x .2) out
 
 abbrev pub inParts : Bool → Settings × PartSize × List ℕ
-inParts b = (record { backslash = b }, AtMost 4, ascii "'abcd")
+inParts b = (set b, AtMost 4, ascii "'abcd")
 
 abbrev pub twoParts : List ℕ
 twoParts = ascii "'''abc'\n'd'"

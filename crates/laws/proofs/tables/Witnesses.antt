@@ -7,7 +7,6 @@ use mathlib.Core.List.{List, [], _∷_, _++_, flatten}
 use Prim.Native.Nat.{ℕ}
 use native.Mathlib.Omega.{arith}
 use lib.ListN.{length, replicate}
-use Rattle.meaning.specs.declared.Settings.{Settings}
 use Rattle.meaning.specs.declared.PartSize.the-variants.{Whole, AtMost}
 use Rattle.meaning.specs.declared.Form.the-variants.{Escape, Unicode}
 use Rattle.meaning.specs.declared.Text.the-variants.{Written}
@@ -22,7 +21,7 @@ use Rattle.meaning.specs.Forms.{figure, isDoubled, escapeForm, unicodeFigures, 
 use Rattle.meaning.specs.Answers.{textNumber, filled}
 use Rattle.meaning.specs.Questions.{cutsCharacter, badSpan, sourceText, tested, stringQuestion}
 use Rattle.laws.proofs.questions.Asked.{Spans}
-use Rattle.laws.proofs.tables.Controls.{all-of-it}
+use Rattle.laws.proofs.tables.Controls.{all-of-it, set}
 use Rattle.laws.proofs.joining.Joining.{fails≢means}
 use Rattle.laws.proofs.joining.JoiningLaw.{Complete, Gap, joining-law}
 use Rattle.laws.proofs.joining.Parts.{Part, Next, chain}
@@ -35,9 +34,6 @@ use Rattle.laws.proofs.joining.Strung.{Further, segments-question}
 use Rattle.laws.proofs.writing.WriterParts.{Accepted}
 use Rattle.laws.proofs.writing.WriterText.{between-white}
 use Rattle.laws.proofs.writing.WrittenParts.{CutInto, between-cuts, parts-law}
-
-abbrev pub set : Bool → Settings
-set b = record { backslash = b }
 
 -- a literal that is all of its source
 all-of : (t : List ℕ) → badSpan (all-of-it t .span) t ≡ false → part 0 (length t) t ≡ t → Spans (all-of-it t) t t
