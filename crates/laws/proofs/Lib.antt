@@ -1,4 +1,5 @@
--- Theorems over the definitions of `meaning`, by subject.
+-- Theorems over the definitions of `meaning`: `Theorems` states what is promised and names the law that proves it; the laws stand by subject.
+pub mod Theorems
 pub mod basics
 pub mod utf8
 pub mod walking

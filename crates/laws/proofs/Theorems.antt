@@ -1,0 +1,421 @@
+-- What is promised, and what proves it: begin here. Each theorem is a sentence of the order or of document 01, in their order. Its type says the sentence over
+-- the definitions of `meaning`, and its body names the law that proves it, with the file that holds it. Where code carries a sentence, a comment names the
+-- crate: its contracts cite the same definitions. Assumes nothing.
+use mathlib.Core.Logic.{_⊎_, _↔_}
+use mathlib.Core.Path.{_≡_}
+use mathlib.Core.Bool.{Bool, true, false}
+use mathlib.Core.List.{List, [], _∷_, _++_, flatten}
+use Prim.Native.Nat.{ℕ, suc, _+_, _*_, _^_, _≤_, _<_}
+use lib.Dec.{T}
+use lib.IntN.{ℤ, negℤ}
+use lib.ListN.{length, take, drop}
+use denote.Ref.{RefT, now}
+use Rattle.meaning.specs.declared.Settings.{Settings}
+use Rattle.meaning.specs.declared.PartSize.{PartSize}
+use Rattle.meaning.specs.declared.Form.{Form}
+use Rattle.meaning.specs.declared.LiteralKind.{LiteralKind}
+use Rattle.meaning.specs.declared.Span.{Span}
+use Rattle.meaning.specs.declared.Literal.{Literal}
+use Rattle.meaning.specs.declared.Refusal.the-variants.{NotUtf8}
+use Rattle.meaning.specs.declared.Text.the-variants as Text
+use Rattle.meaning.specs.declared.Writing.the-variants as Writing
+use Rattle.meaning.specs.declared.Read.{Read}
+use Rattle.meaning.specs.Bytes.{_!_, part, within, isMark, quote, digits, digit, number, has}
+use Rattle.meaning.specs.Chars.{Due, pushes, whole, utf8, isScalar, space}
+use Rattle.meaning.specs.Walk.{Step, Trace, walk, stops, plain, value}
+use Rattle.meaning.specs.Steps.{standardStep, checked, gap}
+use Rattle.meaning.specs.Cutting.{opening, segment, cut, complete, continues}
+use Rattle.meaning.specs.Reading.{Answer, means, meaning}
+use Rattle.meaning.specs.Numbers.{fits, printed}
+use Rattle.meaning.specs.Halves.{joinedHalves, negatedHigh, negatedLow, bitsOf, textOf}
+use Rattle.meaning.specs.Helpers.{uescapeLegal, escapeValid, unicodeValid}
+use Rattle.meaning.specs.Answers.{Outcome, Meets, IsPart, textNumber, truthNumber, nullnessNumber, kindCode, partShown, partPlace, shown}
+use Rattle.meaning.specs.Reads.{Reads}
+use Rattle.meaning.specs.Questions.{badSpan, isString, stringQuestion, decimalQuestion, bitsQuestion, temporalQuestion, i64Question, moneyQuestion}
+use Rattle.meaning.specs.Questions.{charsetQuestion, sourceQuestion, boolQuestion, nullQuestion, identifierQuestion}
+use Rattle.meaning.specs.Writer.{spells, between, partsFrom, partsOf, overLimit, partTooSmall, writtenText, writeQuestion}
+use Rattle.meaning.specs.Forms.{formOpening, formText, formQuestion}
+use Rattle.meaning.specs.Records.{recordLine, output}
+use Rattle.meaning.proofs.Rows.{all}
+use Rattle.laws.proofs.basics.Digits as Digits
+use Rattle.laws.proofs.basics.Digits.{DigitsTo}
+use Rattle.laws.proofs.basics.Halves as Halves
+use Rattle.laws.proofs.utf8.Utf8 as Utf8
+use Rattle.laws.proofs.utf8.Encode as Encode
+use Rattle.laws.proofs.utf8.Encode.{Decodes}
+use Rattle.laws.proofs.utf8.Sequences as Sequences
+use Rattle.laws.proofs.utf8.Sequences.{encodes, AllScalar}
+use Rattle.laws.proofs.utf8.WhiteUtf8 as WhiteUtf8
+use Rattle.laws.proofs.utf8.HelpersUtf8 as HelpersUtf8
+use Rattle.laws.proofs.walking.Walks as Walks
+use Rattle.laws.proofs.walking.Courses as Courses
+use Rattle.laws.proofs.cutting.Gaps as Gaps
+use Rattle.laws.proofs.cutting.Openings as Openings
+use Rattle.laws.proofs.cutting.Cuts as Cuts
+use Rattle.laws.proofs.cutting.Cuts.{segmentsOf, covered, Values}
+use Rattle.laws.proofs.joining.Joining.{White}
+use Rattle.laws.proofs.joining.JoiningLaw as JoiningLaw
+use Rattle.laws.proofs.joining.JoiningLaw.{Accepts, Complete, Gap}
+use Rattle.laws.proofs.joining.Segments as Segments
+use Rattle.laws.proofs.joining.Segments.{Whole, AllAccepted, Several}
+use Rattle.laws.proofs.joining.Strung as Strung
+use Rattle.laws.proofs.joining.Strung.{Further, strung, segments}
+use Rattle.laws.proofs.joining.Parts.{Part, Next, chain, all-of}
+use Rattle.laws.proofs.writing.Written as Written
+use Rattle.laws.proofs.writing.WriterParts as WriterParts
+use Rattle.laws.proofs.writing.WriterParts.{Accepted, Portioned}
+use Rattle.laws.proofs.writing.WriterText as WriterText
+use Rattle.laws.proofs.writing.WriterText.{costs}
+use Rattle.laws.proofs.writing.WrittenParts as WrittenParts
+use Rattle.laws.proofs.writing.WrittenParts.{Sized, CutInto}
+use Rattle.laws.proofs.writing.RoundTrip as RoundTrip
+use Rattle.laws.proofs.writing.FormText.{FormAccepted}
+use Rattle.laws.proofs.writing.FormRoundTrip as FormRoundTrip
+use Rattle.laws.proofs.questions.Asked as Asked
+use Rattle.laws.proofs.questions.Asked.{Spans}
+use Rattle.laws.proofs.questions.Determined as Determined
+use Rattle.laws.proofs.questions.Determined.{Same, SamePart}
+use Rattle.laws.proofs.questions.Views as Views
+use Rattle.laws.proofs.questions.OnlyKinds as OnlyKinds
+use Rattle.laws.proofs.questions.OnlyKinds.{ZeroOrOne}
+use Rattle.laws.proofs.questions.Sources as Sources
+use Rattle.laws.proofs.questions.Sources.{Agree}
+use Rattle.laws.proofs.questions.Buffers as Buffers
+use Rattle.laws.proofs.questions.Buffers.{TextLeaves, IdentifierLeaves, WritingLeaves}
+use Rattle.laws.proofs.questions.Ranges as Ranges
+use Rattle.laws.proofs.questions.Ranges.{Bounds, Answered}
+use Rattle.laws.proofs.questions.Answered as Accepting
+use Rattle.laws.proofs.questions.Calls as Calls
+use Rattle.laws.proofs.questions.Calls.{StringCall, WriterCall, Shows, PartWritten, calls-chain}
+use Rattle.laws.proofs.questions.RecordOutput as RecordOutput
+use Rattle.laws.proofs.tables.Starred as Starred
+use Rattle.laws.proofs.tables.Controls as Controls
+use Rattle.laws.proofs.tables.Controls.{Program, Telling, WritesAt, ShutOut}
+
+-- THE ORDER, DEMAND 1
+-- "Every question ends for every kind, span, source and buffer, with an answer or a numbered refusal from document 01, and asks no caller to have checked":
+-- the contracts of `questions`, `helpers`, `writer` and `valdrabus`, proved of each function without a `requires`; the numbers are `meaning`, `Answers`.
+
+-- "A refusal leaves the output buffer byte for byte as lent." `TextLeaves` and its like: as lent, unless text is written, which fills the buffer's start
+module _ (l : Literal) (S out : List ℕ) where
+  pub string-leaves : (σ : Settings) → TextLeaves out (stringQuestion l S σ out .answer) (stringQuestion l S σ out .buffer)
+  string-leaves = Buffers.stringQuestion-leaves l S out
+
+  pub decimal-leaves : TextLeaves out (decimalQuestion l S out .answer) (decimalQuestion l S out .buffer)
+  decimal-leaves = Buffers.decimalQuestion-leaves l S out
+
+  pub bits-leaves : TextLeaves out (bitsQuestion l S out .answer) (bitsQuestion l S out .buffer)
+  bits-leaves = Buffers.bitsQuestion-leaves l S out
+
+  pub temporal-leaves : TextLeaves out (temporalQuestion l S out .answer) (temporalQuestion l S out .buffer)
+  temporal-leaves = Buffers.temporalQuestion-leaves l S out
+
+pub identifier-leaves : (t out : List ℕ) → IdentifierLeaves out (identifierQuestion t out .answer) (identifierQuestion t out .buffer)
+identifier-leaves = Buffers.identifier-leaves
+
+pub writer-leaves : (σ : Settings) (size : PartSize) (v out : List ℕ)
+    → WritingLeaves out (writeQuestion σ size v out .answer) (writeQuestion σ size v out .buffer)
+writer-leaves = Buffers.writing-leaves
+
+-- THE ORDER, DEMAND 2
+-- "On valid UTF-8 the answer equals the Rust's": run beside the Rust (host/compare), not proved. "Escapes, quoting and UTF-8 are proved against definitions":
+-- the contracts, from `leaves` to `valdrabus`, by `Meets`, `Reads` and `IsPart`.
+
+-- "UTF-8 [..] RFC 3629": UTF-8 texts are the encodings of scalar values, each in one way
+pub utf8-of-scalars : (cs : List ℕ) → AllScalar cs → utf8 (encodes cs) ≡ true
+utf8-of-scalars = Sequences.utf8-of-scalars
+
+pub scalars-of-utf8 : (t : List ℕ) → utf8 t ≡ true → (cs : List ℕ) × AllScalar cs × (t ≡ encodes cs)
+scalars-of-utf8 = Sequences.scalars-of-utf8
+
+pub encodes-unique : (cs ds : List ℕ) → encodes cs ≡ encodes ds → AllScalar cs → AllScalar ds → cs ≡ ds
+encodes-unique = Sequences.encodes-unique
+
+-- "What our writer writes reads back as its value at the same setting." In a span of any source; a text of but two bytes more than the value needs no room
+pub writer-round-trip : (σ : Settings) (size : PartSize) (v out : List ℕ) (n : ℕ) → writeQuestion σ size v out .answer ≡ Writing.Written n
+    → (l : Literal) (S d : List ℕ) → isString (l .kind) ≡ true → Spans l S (take n (writeQuestion σ size v out .buffer))
+    → (length v + 2 < n → length v ≤ length d) → Answered S v (stringQuestion l S σ d)
+writer-round-trip = RoundTrip.writer-round-trip
+
+-- the same of what calls return, whatever their contracts permit; of the C exports: `valdrabus`, `Demands`
+pub round-trip-calls : (σ : Settings) (size : PartSize) (v : List ℕ) (w : WriterCall σ size v) (n : ℕ) → w .result ≡ Writing.Written n
+    → (c : StringCall σ (take n (w .after))) → (length v + 2 < n → length v ≤ length (c .lent)) → Shows c v
+round-trip-calls = Calls.round-trip-calls
+
+-- THE ORDER, DEMAND 3
+-- "Take accepted string texts A and B, at one backslash setting, each cutting completely into segments, B beginning with a quote mark, at least one white-space
+-- character between. If the whole fits a span and the buffer has room, it is accepted and means A's value followed by B's."
+pub joining-law : (σ : Settings) (A G B v w : List ℕ) → Complete σ A v → Gap G → Complete σ B w → isMark (B ! 0) ≡ true
+    → (l : Literal) (S out : List ℕ) → isString (l .kind) ≡ true → Spans l S (A ++ (G ++ B)) → length (v ++ w) ≤ length out
+    → stringQuestion l S σ out ≡ record { answer = Text.Written (length (v ++ w)); buffer = (v ++ w) ++ drop (length (v ++ w)) out }
+joining-law = JoiningLaw.joining-law
+
+pub joining-calls : (σ : Settings) (A G B v w : List ℕ) (a : StringCall σ A) (b : StringCall σ B) → Shows a v → Shows b w → complete σ A ≡ true
+    → complete σ B ≡ true → Gap G → isMark (B ! 0) ≡ true → (c : StringCall σ (A ++ (G ++ B))) → length (v ++ w) ≤ length (c .lent) → Shows c (v ++ w)
+joining-calls = Calls.joining-calls
+
+-- "A value our writer accepts, cut between any characters, each part written and the parts joined so at that setting, reads back whole under the same
+-- condition." Of calls, too, and such calls are to be had
+pub parts-law : (σ : Settings) (size : PartSize) (v : List ℕ) (p : Part) (xs : List Next) → Accepted σ size v → CutInto v p xs → WrittenParts.Each Sized p xs
+    → (l : Literal) (S out : List ℕ) → isString (l .kind) ≡ true → Spans l S (chain σ p xs)
+    → (length v + 2 < length (chain σ p xs) → length v ≤ length out) → Answered S v (stringQuestion l S σ out)
+parts-law = WrittenParts.parts-law
+
+pub parts-calls : (σ : Settings) (v : List ℕ) (p : Part) (xs : List Next) → all-of p xs ≡ v
+    → (w : WrittenParts.Each (PartWritten σ) p xs) (c : StringCall σ (calls-chain σ p xs w))
+    → (length v + 2 < length (calls-chain σ p xs w) → length v ≤ length (c .lent)) → Shows c v
+parts-calls = Calls.parts-calls
+
+pub parts-calls-write : (σ : Settings) (size : PartSize) (v : List ℕ) (p : Part) (xs : List Next) → Accepted σ size v → CutInto v p xs
+    → WrittenParts.Each Sized p xs → WrittenParts.Each (Calls.Writes σ) p xs
+parts-calls-write = Calls.parts-calls-write
+
+-- DOCUMENT 01, WHAT IS CARRIED OVER
+-- "Text is bytes here."
+pub utf8-bytes : (t : List ℕ) → utf8 t ≡ true → (i : ℕ) → t ! i < 256
+utf8-bytes = Utf8.utf8-bytes
+
+-- "`source_text`, money and charset names are handed back as a part of the caller's own source", "proved to be that range": contracts of `questions`, `parts`
+module _ (f u : ℕ) (lent r : RefT (List ℕ)) (h : IsPart (partShown f u (now lent)) (partPlace f u lent) r) where
+  pub shown-fits : f ≤ u → u ≤ length (now lent) → IsPart (part f u (now lent)) (lent .ptr .0, lent .ptr .1 + f) r
+  shown-fits = Views.shown-fits f u lent r h
+
+  -- "a range that doesn't fit its slice [..] shows an empty part"
+  pub shown-none : (u < f) ⊎ (length (now lent) < u) → IsPart [] (lent .ptr) r
+  shown-none = Views.shown-none f u lent r h
+
+-- "ours says borrowed (start, end) or written (length), with one view": what is shown is what the text means, and what it means is shown
+pub string-answered : (l : Literal) (S t v : List ℕ) (σ : Settings) (out : List ℕ) → isString (l .kind) ≡ true → Spans l S t → Accepts σ t v
+    → length v ≤ length out → Answered S v (stringQuestion l S σ out)
+string-answered = Ranges.string-answered
+
+pub answered-accepts : (l : Literal) (S t : List ℕ) (σ : Settings) (out : List ℕ) → isString (l .kind) ≡ true → Spans l S t
+    → textNumber (stringQuestion l S σ out .answer) ≡ 0 → Accepts σ t (shown S (stringQuestion l S σ out .buffer) (stringQuestion l S σ out .answer))
+answered-accepts = Accepting.answered-accepts
+
+-- DOCUMENT 01, NUMBERS AN ANSWER CAN CARRY
+-- "3: start > end, end > source length, or either cuts a character"
+pub span-range : (s : Span) (S : List ℕ) → badSpan s S ≡ false → Bounds (length S) (s .start) (s .end)
+span-range = Ranges.span-range
+
+-- "A place cuts a character when [..] its byte is 80 to BF hex": where it is not, both sides are UTF-8; and back
+pub utf8-cut : (i : ℕ) (t : List ℕ) → utf8 t ≡ true → within 0x80 0xBF (t ! i) ≡ false → (utf8 (take i t) ≡ true) × (utf8 (drop i t) ≡ true)
+utf8-cut = Sequences.utf8-cut
+
+pub utf8-uncut : (i : ℕ) (t : List ℕ) → utf8 (take i t) ≡ true → utf8 (drop i t) ≡ true → (utf8 t ≡ true) × (within 0x80 0xBF (t ! i) ≡ false)
+utf8-uncut = Sequences.utf8-uncut
+
+-- "4: text [..] not UTF-8"
+pub string-not-utf8 : (l : Literal) (S t : List ℕ) (σ : Settings) (out : List ℕ) → isString (l .kind) ≡ true → Spans l S t → utf8 t ≡ false
+    → stringQuestion l S σ out .answer ≡ Text.Refused (NotUtf8 (l .span))
+string-not-utf8 = Asked.stringQuestion-not-utf8
+
+-- "12: value over 268,435,456 bytes, or part size below 4"
+pub limit-length : (size : PartSize) (v : List ℕ) → overLimit size v ≡ false → length v ≤ 268435456
+limit-length = WriterParts.limit-length
+
+pub limit-size : (size : PartSize) (v : List ℕ) → overLimit size v ≡ false → partTooSmall size ≡ false
+limit-size = WriterParts.limit-size
+
+-- "`as_bool` and `as_null` read no source and give only 0 or 1."
+pub bool-number : (k : LiteralKind) → ZeroOrOne ((kindCode k ≡ 5) ⊎ (kindCode k ≡ 6)) (truthNumber (boolQuestion k))
+bool-number = OnlyKinds.bool-number
+
+pub null-number : (k : LiteralKind) → ZeroOrOne (kindCode k ≡ 7) (nullnessNumber (nullQuestion k))
+null-number = OnlyKinds.null-number
+
+-- "the two validators and `uescape_argument_is_legal` answer no on text that isn't UTF-8"
+pub escapeValid-utf8 : (t : List ℕ) → escapeValid t ≡ true → utf8 t ≡ true
+escapeValid-utf8 = HelpersUtf8.escapeValid-utf8
+
+pub unicodeValid-utf8 : (t : List ℕ) → unicodeValid t ≡ true → utf8 t ≡ true
+unicodeValid-utf8 = HelpersUtf8.unicodeValid-utf8
+
+pub uescapeLegal-utf8 : (t : List ℕ) → uescapeLegal t ≡ true → utf8 t ≡ true
+uescapeLegal-utf8 = HelpersUtf8.uescapeLegal-utf8
+
+-- "Two sources in neither of which a span gives 3, agreeing inside it, get the same answers with the same buffer." Of calls: `Agreements`; of returned
+-- slices: `AgreedParts`
+module _ (l : Literal) (S S′ : List ℕ) (a : Agree l S S′) where
+  pub string-same : (σ : Settings) (out : List ℕ) → stringQuestion l S σ out ≡ stringQuestion l S′ σ out
+  string-same = Sources.stringQuestion-same l S S′ a
+
+  pub decimal-same : (out : List ℕ) → decimalQuestion l S out ≡ decimalQuestion l S′ out
+  decimal-same = Sources.decimalQuestion-same l S S′ a
+
+  pub bits-same : (out : List ℕ) → bitsQuestion l S out ≡ bitsQuestion l S′ out
+  bits-same = Sources.bitsQuestion-same l S S′ a
+
+  pub temporal-same : (out : List ℕ) → temporalQuestion l S out ≡ temporalQuestion l S′ out
+  temporal-same = Sources.temporalQuestion-same l S S′ a
+
+  pub source-same : sourceQuestion l S ≡ sourceQuestion l S′
+  source-same = Sources.sourceQuestion-same l S S′ a
+
+  pub money-same : moneyQuestion l S ≡ moneyQuestion l S′
+  money-same = Sources.moneyQuestion-same l S S′ a
+
+  pub charset-same : charsetQuestion l S ≡ charsetQuestion l S′
+  charset-same = Sources.charsetQuestion-same l S S′ a
+
+  pub i64-same : i64Question l S ≡ i64Question l S′
+  i64-same = Sources.i64Question-same l S S′ a
+
+-- DOCUMENT 01, CUTTING INTO SEGMENTS
+-- "A segment opens with a quote mark [..], or with E, N, B, X or U& [..] before `'`, or with `_`, [..] then either mark." Its last byte is the mark
+pub opening-mark : (t : List ℕ) (n : ℕ) → opening t ≡ suc n → isMark (t ! n) ≡ true
+opening-mark = Openings.opening-mark
+
+-- "It closes at the next mark of its own that isn't doubled": what stands behind it changes nothing, unless it begins with a mark
+pub segment-extend : (σ : Settings) (t r : List ℕ) (e : ℕ) → isMark (r ! 0) ≡ false → segment σ t ≡ suc e → segment σ (t ++ r) ≡ suc e
+segment-extend = Openings.segment-extend
+
+-- "If what follows, past white space, begins with `'` or `\"`, cut to the end, [..] each segment is read alone [..]. A remainder that is no segment refuses."
+pub cut-means : (σ : Settings) (t v : List ℕ) → continues σ t ≡ true
+    → (meaning σ t ≡ means v)
+    ↔ ((covered (cut σ t) ≡ true) × (vs : List (List ℕ)) × Values (meaning σ) (segmentsOf (cut σ t)) vs × (flatten vs ≡ v))
+cut-means = Segments.cut-means
+
+pub second-continues : (σ : Settings) (t s u : List ℕ) (ss : List (List ℕ)) → segmentsOf (cut σ t) ≡ s ∷ (u ∷ ss) → isMark (u ! 0) ≡ true
+    → continues σ t ≡ true
+second-continues = Cuts.second-continues
+
+-- "White space is Unicode White_Space", "skipped after every segment": it is UTF-8, and a byte that begins none ends it
+pub white-utf8 : (g : List ℕ) → White g → utf8 g ≡ true
+white-utf8 = WhiteUtf8.white-utf8
+
+pub gap-append : (g : List ℕ) → White g → (c : ℕ) (t : List ℕ) → space (c ∷ t) ≡ 0 → gap (g ++ (c ∷ t)) ≡ length g
+gap-append = Gaps.gap-append
+
+-- "A text *cuts completely* if [..] segments, with or without white space between and after, cover it"
+pub complete-covered : (σ : Settings) (t : List ℕ) → 2 ≤ length (segmentsOf (cut σ t)) → complete σ t ≡ covered (cut σ t)
+complete-covered = Cuts.complete-covered
+
+-- "For two or more complete segments, the second beginning with a quote mark, white space between each two and room in the buffer for all their values
+-- together, the text is accepted exactly when each segment is accepted alone." Of any text that cuts so, and of given segments
+pub complete-question : (σ : Settings) (t : List ℕ) → Several σ t → (l : Literal) (S out : List ℕ) → isString (l .kind) ≡ true → Spans l S t
+    → (textNumber (stringQuestion l S σ out .answer) ≡ 0) ↔ AllAccepted σ (segmentsOf (cut σ t)) (length out)
+complete-question = Segments.complete-question
+
+pub segments-question : (σ : Settings) (s : List ℕ) (p : Further σ) (ps : List (Further σ)) (tail : List ℕ)
+    → Whole σ s → White tail → isMark (p .text ! 0) ≡ true
+    → (l : Literal) (S out : List ℕ) → isString (l .kind) ≡ true → Spans l S (strung s (p ∷ ps) tail)
+    → (textNumber (stringQuestion l S σ out .answer) ≡ 0) ↔ AllAccepted σ (segments s (p ∷ ps)) (length out)
+segments-question = Strung.segments-question
+
+-- DOCUMENT 01, ONE SEGMENT
+-- The spellings and escapes are definitions, `Steps` and `Spelling`, that tables of answers are tested by: docs/DEFINITIONS names them row by row.
+-- "The expansion must be UTF-8 (RFC 3629).": where it is, nothing is refused for it
+pub checked-whole : (d : Due) (r : Trace) → stops r ≡ false → whole (pushes d (value r)) ≡ true → checked d r ≡ r
+checked-whole = Courses.checked-whole
+
+-- "Written exactly where [..] the body holds its mark or an active escape": a body that is borrowed stands for itself
+pub walk-plain : (step : List ℕ → Step) (t : List ℕ) → T (plain (walk step 0 t)) → value (walk step 0 t) ≡ t
+walk-plain = Walks.walk-plain
+
+-- DOCUMENT 01, NUMBERS AND THE OTHER KINDS
+-- "two 64-bit halves whose negation wraps, printed in at most 40 bytes"
+pub negated-halves : (z : ℤ) (hi lo : ℕ) → fits 127 z ≡ true → hi < 2 ^ 64 → lo < 2 ^ 64 → joinedHalves hi lo ≡ bitsOf z
+    → joinedHalves (negatedHigh hi lo) (negatedLow lo) ≡ bitsOf (negℤ z)
+negated-halves = Halves.negated-halves
+
+pub textOf-printed : (z : ℤ) → fits 127 z ≡ true → textOf (bitsOf z) ≡ printed z
+textOf-printed = Halves.textOf-printed
+
+pub printed-length : (z : ℤ) → fits 127 z ≡ true → length (printed z) ≤ 40
+printed-length = Halves.printed-length
+
+-- DOCUMENT 01, THE WRITER
+-- "Doubles `'`. Setting on: doubles backslash, NUL becomes `\0`." The body that it writes has the value
+pub spells-value : (bs : Bool) (v : List ℕ) → value (walk (standardStep bs quote) 0 (spells bs v)) ≡ v
+spells-value = Written.spells-value
+
+-- "With a part size it fills each part with as many whole characters as fit that many value bytes"
+pub partsFrom-portions : (w : ℕ) (v : List ℕ) → 4 ≤ w → utf8 v ≡ true → Portioned w v (partsFrom w w v)
+partsFrom-portions = WriterParts.partsFrom-portions
+
+-- and how long the text is: two marks a part, a byte between each two, and one byte or two for each of the value
+pub writtenText-length : (σ : Settings) (size : PartSize) (v : List ℕ)
+    → length (writtenText σ size v) + 1 ≡ costs (σ .backslash) v + 3 * length (partsOf size v)
+writtenText-length = WriterText.writtenText-length
+
+-- what it accepts it writes, where there is room, and nothing else
+pub writer-answers : (σ : Settings) (size : PartSize) (v out : List ℕ) → Accepted σ size v → length (writtenText σ size v) ≤ length out
+    → writeQuestion σ size v out .answer ≡ Writing.Written (length (writtenText σ size v))
+writer-answers = RoundTrip.writer-answers
+
+pub written-accepted : (σ : Settings) (size : PartSize) (v out : List ℕ) (n : ℕ) → writeQuestion σ size v out .answer ≡ Writing.Written n → Accepted σ size v
+written-accepted = RoundTrip.written-accepted
+
+-- DOCUMENT 01, RECORD PROGRAM
+-- "Empty input prints nothing." "One line a record." "the next record is still read": the contract of `litrec`, by these
+pub output-none : output [] ≡ []
+output-none = RecordOutput.output-none
+
+pub output-first : (t : List ℕ) → 0 < length t → output t ≡ recordLine (take 64 t) ++ output (drop 64 t)
+output-first = RecordOutput.output-first
+
+pub output-append : (k : ℕ) (a b : List ℕ) → length a ≡ 64 * k → output (a ++ b) ≡ output a ++ output b
+output-append = RecordOutput.output-append
+
+-- DOCUMENT 01, EXAMPLES, AND WHAT THE CONTRACTS OWE
+-- "The starred examples are one table, proved by a single statement"
+pub starred-hold : T (all Starred.starred)
+starred-hold = Starred.starred-hold
+
+-- "Each public function's contract determines its result and the final buffer on all inputs, [..] and two results it permits are proved equal": of a question,
+-- of a reader of bare text, and of a slice that is returned; `valdrabus`, `Determined`, of the exports; `doubles`, `Theorems`, of the rows of a list
+pub meets-unique : {A : Type 0} (o : Outcome A) (r r′ : A) (d d′ : List ℕ) → Meets o r d → Meets o r′ d′ → Same r r′ d d′
+meets-unique = Determined.meets-unique
+
+pub reads-unique : (a : Answer) (out : List ℕ) (r r′ : Read) (d d′ : List ℕ) → Reads a out r d → Reads a out r′ d′ → Same r r′ d d′
+reads-unique = Determined.reads-unique
+
+pub part-unique : (v : List ℕ) (place : ℕ × ℕ) (r r′ : RefT (List ℕ)) → IsPart v place r → IsPart v place r′ → SamePart r r′
+part-unique = Determined.part-unique
+
+-- "Shut out": the five wrong programs, of every question that writes at some input; `ControlsOfAll` has such an input of each question
+pub shut-out : {X A : Type 0} {question : Program X A} {told : Telling X A} {x : X} {v : List ℕ} → WritesAt question told x v → ShutOut question told x v
+shut-out = Controls.shut-out
+
+-- "UTF-8 facts are proved once over sequence length"
+pub encode-decodes : (c : ℕ) → isScalar c ≡ true → Decodes c
+encode-decodes = Encode.encode-decodes
+
+-- "hex reading once over width", and over the base
+pub digits-is : (β w : ℕ) (t : List ℕ) (n : ℕ) → n ≤ w → n ≤ length t → DigitsTo β n t → (n < w → n < length t → β ≤ digit (t ! n)) → digits β w t ≡ n
+digits-is = Digits.digits-is
+
+pub number-lt : (β n : ℕ) (t : List ℕ) → n ≤ length t → DigitsTo β n t → number β n 0 t < β ^ n
+number-lt = Digits.number-lt
+
+-- DOCUMENT 02, T-01
+-- "What either writes reads back as the value, proved once over the two": E and U& literals, at every setting
+pub form-round-trip : (f : Form) (v out : List ℕ) (n : ℕ) → formQuestion f v out .answer ≡ Writing.Written n → (σ : Settings) (l : Literal) (S d : List ℕ)
+    → isString (l .kind) ≡ true → Spans l S (take n (formQuestion f v out .buffer)) → (length v + suc (length (formOpening f)) < n → length v ≤ length d)
+    → Answered S v (stringQuestion l S σ d)
+form-round-trip = FormRoundTrip.form-round-trip
+
+-- "Refusals: 12, 4, 11 (any NUL, at either setting), 9, in that order.": each whatever the later ones would say
+module _ (f : Form) (v out : List ℕ) where
+  pub form-limit : 268435456 < length v → formQuestion f v out ≡ record { answer = Writing.OverLimit; buffer = out }
+  form-limit = FormRoundTrip.form-limit f v out
+
+  pub form-utf8 : length v ≤ 268435456 → utf8 v ≡ false → formQuestion f v out ≡ record { answer = Writing.NotUtf8; buffer = out }
+  form-utf8 = FormRoundTrip.form-utf8 f v out
+
+  pub form-nul : length v ≤ 268435456 → utf8 v ≡ true → has 0 v ≡ true → formQuestion f v out ≡ record { answer = Writing.HoldsNul; buffer = out }
+  form-nul = FormRoundTrip.form-nul f v out
+
+  pub form-room : FormAccepted v → length out < length (formText f v)
+      → formQuestion f v out ≡ record { answer = Writing.NoRoom (length (formText f v)); buffer = out }
+  form-room = FormRoundTrip.form-room f v out
+
+  pub form-leaves : WritingLeaves out (formQuestion f v out .answer) (formQuestion f v out .buffer)
+  form-leaves = Buffers.form-leaves f v out
+
+-- DOCUMENT 02, T-02
+-- "The writer now puts one LF. Reading and the joining law stay, LF being white space." (`ControlsOfAll.no-other-gap`: no writer that meets the contract puts
+-- a space, CR LF, nothing, or an LF elsewhere)
+pub between-white : White between
+between-white = WriterText.between-white
