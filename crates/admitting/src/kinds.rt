@@ -9,7 +9,7 @@ ghost use Rattle.meaning.specs.Answers.{kindCode};
 ghost use Rattle.meaning.specs.Records.{kindOf};
 
 // The code of a kind, 1 to 14; what the kind holds besides is not in it.
-// Rules out: true and false by one code; both radices by one (must-fail: text_left_out, wrong_reason).
+// Rules out: both radices by one code; true and false by one code (must-fail: radices_as_one, two_told_as_one).
 pub fn kind_code(kind: LiteralKind) -> u32
     ensures { λ r. ⌜ r ≡ kindCode kind ⌝ }
 {
@@ -35,7 +35,7 @@ pub fn kind_code(kind: LiteralKind) -> u32
 }
 
 // The kind of a code: time zones are unspecified, interval data absent. A code outside 1 to 14 is no kind, and its callers ask for none.
-// Rules out: floats and decimals by one kind; times and timestamps by one (must-fail: text_left_out, wrong_reason).
+// Rules out: times and timestamps by one kind; floats and decimals by one kind (must-fail: times_as_timestamps, two_told_as_one).
 pub fn kind_of(code: u32) -> LiteralKind
     ensures { λ r. ⌜ r ≡ kindOf code ⌝ }
 {

@@ -36,7 +36,7 @@ fn is_bad_span(span: Span, source: &[u8]) -> bool
 }
 
 // The tests 2, 3 and 4: the literal stands in a source, its span is one of the source, and its text is UTF-8.
-// Rules out: one reason given for another; a part of the text given (must-fail: text_left_out, wrong_reason).
+// Rules out: the text's end given for its start; another reason for a literal that stands in no source (must-fail: end_for_start, two_told_as_one).
 pub fn test_source(literal: Literal, source: &[u8]) -> Tested
     ensures { λ r. ⌜ Tests literal (now (source .entry)) r (sourceText literal (now (source .entry))) ⌝ }
 {

@@ -14,7 +14,7 @@ pub enum Mark {
 }
 
 // A mark's byte.
-// Rules out: one mark taken for the other; ` taken for a mark (must-fail: first_of_each, second_of_each).
+// Rules out: one mark taken for the other; ` taken for a mark (must-fail: other_mark, another_byte_taken).
 pub fn mark_byte(mark: Mark) -> u8
     ensures { λ r. ⌜ r ≡ markOf mark ⌝ }
 {

@@ -37,7 +37,7 @@ fn introducer_len(text: &[u8], at: usize) -> usize
 }
 
 // The bytes of the opening at a text's front, with its mark; 0 if no segment opens there.
-// Rules out: a prefix before "; a name of no byte; Y taken for a prefix; U without & (must-fail: first_of_each, second_of_each).
+// Rules out: a prefix before "; U without & (must-fail: other_mark, another_byte_taken).
 pub fn opening_len(text: &[u8]) -> usize
     ensures { λ r. ⌜ r ≡ opening (now (text .entry)) ⌝ }
 {

@@ -16,8 +16,7 @@ use numbers::radix::Halves;
 
 // Decimal text in base ten: the text less `_`, borrowed if it has none. Refused at place 0: a misplaced `_`. Refused, borrowed and without room the
 // buffer is as it was lent.
-// Rules out: a text with `_` borrowed; a made-up length; a place that is not the definition's (must-fail: halves_greatest_refused,
-// halves_least_refused).
+// Rules out: a text with _ borrowed; a made-up length (must-fail: separated_text_borrowed, length_made_up).
 fn read_plain(text: &[u8], out: &mut [u8]) -> Read
     ensures { λ r. ⌜ Reads (plainOf (now (text .entry))) (now (out .entry)) r (now (out .exit)) ⌝ }
 {

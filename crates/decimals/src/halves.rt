@@ -29,8 +29,8 @@ pub(crate) fn negated_high(hi: u64, lo: u64) -> u64
 }
 
 // The 128 bits of the number with this sign and this magnitude, if it is a signed number of 128 bits.
-// Rules out: limits off by one, on each side (must-fail: halves_above_greatest_accepted, halves_below_least_accepted, halves_greatest_refused,
-// halves_least_refused).
+// Rules out: 2^127 accepted; -2^127 - 1 accepted; 2^127 - 1 refused; -2^127 refused (must-fail: limit_or_place_mistaken, halves_below_least_accepted,
+// halves_greatest_refused, halves_least_refused).
 fn signed_halves(minus: bool, hi: u64, lo: u64) -> Halves
     ensures { λ r. ⌜ r ≡ halvesOf (within-bits 127 (int (signed minus (joinedHalves hi lo)))) ⌝ }
 {
@@ -56,7 +56,7 @@ fn signed_halves(minus: bool, hi: u64, lo: u64) -> Halves
 }
 
 // The halves of the negation; -2^127 is refused before it.
-// Rules out: -2^127 behind a minus accepted (must-fail: halves_least_refused).
+// Rules out: a minus before -2^127 accepted (must-fail: halves_below_least_accepted).
 fn negated_halves(hi: u64, lo: u64) -> Halves
     ensures { λ r. ⌜ r ≡ negatedHalves hi lo ⌝ }
 {

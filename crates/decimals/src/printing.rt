@@ -109,7 +109,7 @@ fn print_plus(hi: u64, lo: u64, out: &mut [u8]) -> Read
 }
 
 // Prints a number of 128 bits behind a minus. Without room the buffer is as it was lent.
-// Rules out: another byte than a minus; the minus over the first digit (must-fail: halves_above_greatest_accepted).
+// Rules out: the minus over a digit (must-fail: limit_or_place_mistaken).
 fn print_minus(hi: u64, lo: u64, out: &mut [u8]) -> Read
     ensures { λ r. ⌜ Reads (written (45 ∷ digitsOf (joinedHalves hi lo))) (now (out .entry)) r (now (out .exit)) ⌝ }
 {

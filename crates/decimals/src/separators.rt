@@ -13,7 +13,7 @@ pub(crate) enum Separators {
 }
 
 // Whether the bytes on both sides of a place are decimal digits.
-// Rules out: a separator beside the point, on either side; beside a letter (must-fail: halves_above_greatest_accepted, halves_below_least_accepted).
+// Rules out: a separator before the point accepted; a separator behind the point accepted (must-fail: limit_or_place_mistaken, separator_behind_the_point).
 fn is_between(text: &[u8], at: usize) -> bool
     requires { ⌜ at < length (now text) ⌝ }
     ensures { λ r. ⌜ r ≡ isBetween (now (text .entry)) at ⌝ }

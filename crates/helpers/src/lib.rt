@@ -24,7 +24,7 @@ ghost use Rattle.meaning.specs.Walk.{stops};
 ghost use Rattle.escapes.specs.Families.{courseOf};
 
 // Whether a quoted argument holds a legal UESCAPE character, and nothing else.
-// Rules out: an illegal character taken; bytes that aren't UTF-8 taken for a character (must-fail: bytes_pass, wrong_texts).
+// Rules out: bytes that aren't UTF-8 taken for a character; an illegal character taken (must-fail: bytes_pass, too_much_accepted).
 pub fn uescape_argument_is_legal(text: &[u8]) -> bool
     ensures { λ r. ⌜ r ≡ uescapeLegal (now (text .entry)) ⌝ }
 {
@@ -47,7 +47,7 @@ fn is_readable(body: &[u8], family: Family, escape: &[u8]) -> bool
 
 // Whether an E string's body, from the first quote mark to the last, has only good escapes and no lone mark. Yes for text outside this spelling. It can
 // differ from reading.
-// Rules out: " taken for its mark; a body whose expansion alone is UTF-8 (must-fail: bytes_pass, wrong_texts).
+// Rules out: a body passed whose expansion alone is UTF-8; " taken for the mark of an E string (must-fail: bytes_pass, other_mark).
 pub fn postgres_escape_string_is_valid(text: &[u8]) -> bool
     ensures { λ r. ⌜ r ≡ escapeValid (now (text .entry)) ⌝ }
 {
@@ -61,7 +61,7 @@ pub fn postgres_escape_string_is_valid(text: &[u8]) -> bool
 }
 
 // Whether a U& string's body has only good escapes by its escape character. Yes for text outside this spelling, a bad UESCAPE clause included.
-// Rules out: an identifier judged for a string; bytes that aren't UTF-8 passed (must-fail: bytes_pass, wrong_texts).
+// Rules out: bytes that aren't UTF-8 passed; an identifier judged for a string (must-fail: bytes_pass, other_mark).
 pub fn unicode_escape_string_is_valid(text: &[u8]) -> bool
     ensures { λ r. ⌜ r ≡ unicodeValid (now (text .entry)) ⌝ }
 {
@@ -85,7 +85,7 @@ pub fn unicode_escape_string_is_valid(text: &[u8]) -> bool
 }
 
 // Whether a text begins as a U& identifier: three bytes decide, UTF-8 or not.
-// Rules out: a U& string taken for an identifier; UTF-8 asked for (must-fail: bytes_pass, wrong_texts).
+// Rules out: UTF-8 asked for; a string taken for an identifier (must-fail: bytes_pass, other_mark).
 pub fn is_unicode_ident(text: &[u8]) -> bool
     ensures { λ r. ⌜ r ≡ isUnicodeIdent (now (text .entry)) ⌝ }
 {
@@ -93,7 +93,7 @@ pub fn is_unicode_ident(text: &[u8]) -> bool
 }
 
 // Reads an identifier's text: a part of it, or so many bytes at the buffer's start. Not UTF-8 comes before all else that refuses.
-// Rules out: bytes that aren't UTF-8 told as a bad string; a length told where nothing is written (must-fail: bytes_pass, wrong_texts).
+// Rules out: bytes that aren't UTF-8 told as a bad string; a length told where nothing is written (must-fail: bytes_pass, too_much_accepted).
 pub fn materialize_unicode_ident(text: &[u8], out: &mut [u8]) -> Identifier
     ensures { λ r. ⌜ Meets (identifierQuestion (now (text .entry)) (now (out .entry))) r (now (out .exit)) ⌝ }
 {

@@ -6,7 +6,7 @@ ghost use Rattle.meaning.specs.Kinds.{money};
 ghost use Rattle.meaning.specs.Reads.{readOf};
 
 // Reads a money text: the part behind its $, unchecked; refused where no $ begins it.
-// Rules out: another sign taken for $; the $ handed back with the amount (must-fail: keyword_lends_its_e, opening_closes_itself).
+// Rules out: the $ handed back with the amount; another sign taken for $ (must-fail: byte_before_taken_in, one_for_another).
 pub fn read_money(text: &[u8]) -> Read
     ensures { λ r. ⌜ r ≡ readOf 0 (money (now (text .entry))) ⌝ }
 {

@@ -34,7 +34,7 @@ fn first_of(text: &[u8], byte: u8) -> usize
 }
 
 // One past the place of the last such byte, sought from the end; 0 if there is none.
-// Rules out: the first such byte taken for the last (must-fail: opening_closes_itself).
+// Rules out: the first mark taken for the last (must-fail: one_for_another).
 fn past_last(text: &[u8], byte: u8) -> usize
     ensures { λ r. ⌜ r ≡ pastLast byte (now (text .entry)) ⌝ }
 {
@@ -64,7 +64,7 @@ fn found_from(text: &[u8], at: usize, wanted: &[u8]) -> usize
 }
 
 // The dollar token at a place, to its first close.
-// Rules out: the opening delimiter taken for the close; a token to its last close (must-fail: opening_closes_itself).
+// Rules out: the opening of a dollar token taken for its close (must-fail: one_for_another).
 fn dollar_token(text: &[u8], at: usize) -> Token
     ensures { λ r. ⌜ r ≡ tokenOf (dollarToken at (drop at (now (text .entry))) (delimiter (drop at (now (text .entry))))) ⌝ }
 {
@@ -84,7 +84,7 @@ fn dollar_token(text: &[u8], at: usize) -> Token
 }
 
 // Where a token begins whose first quote mark is given: at an E before the mark, unless a tag byte stands before the E.
-// Rules out: DATE'..' read as an E string (must-fail: keyword_lends_its_e).
+// Rules out: DATE'..' read as an E string (must-fail: byte_before_taken_in).
 fn token_start(text: &[u8], quote: usize) -> usize
     ensures { λ r. ⌜ r ≡ tokenStart quote (now (text .entry)) ⌝ }
 {

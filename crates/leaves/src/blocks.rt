@@ -21,7 +21,7 @@ fn is_other(byte: u8, stops: Stops) -> bool
 }
 
 // 1 for yes, 0 for no: what is counted.
-// Rules out: the answers exchanged; 0 for both (must-fail: no_digit_in_tag, only_digits_in_tag).
+// Rules out: the answers exchanged; 0 for both (must-fail: one_for_another, none_for_both).
 pub fn one_if(test: bool) -> u8
     ensures { λ r. ⌜ r ≡ (if test then 1 else 0) ⌝ }
 {
@@ -61,7 +61,7 @@ fn is_free_by(text: &[u8], n: usize, stops: Stops) -> bool
 }
 
 // Whether none of the three is in a text.
-// Rules out: bytes behind the first block not looked at; short texts not looked at (must-fail: tag_from_81, tag_starts_with_dollar).
+// Rules out: short texts not looked at; bytes behind the first block not looked at (must-fail: short_texts_not_looked_at, some_left_out).
 pub fn is_free(text: &[u8], stops: Stops) -> bool
     ensures { λ r. ⌜ r ≡ passes (freeOf stops) (length (now (text .entry))) (now (text .entry)) ⌝ }
 {
@@ -82,7 +82,7 @@ pub fn is_free(text: &[u8], stops: Stops) -> bool
 }
 
 // Whether eight bytes from a place on are there, and none of them is one of the three.
-// Rules out: the block at the text's start asked; the last eight bytes not looked at (must-fail: first_of_each, second_of_each).
+// Rules out: the block at the text's start asked; the last eight bytes not looked at (must-fail: other_bytes, rest_not_looked_at).
 pub fn is_free_eight(text: &[u8], at: usize, stops: Stops) -> bool
     ensures { λ r. ⌜ r ≡ passes (freeOf stops) 8 (drop at (now (text .entry))) ⌝ }
 {
@@ -108,7 +108,7 @@ fn past_eights(text: &[u8], at: usize, stops: Stops) -> usize
 }
 
 // How many bytes at a place are none of the three. Between escapes the run is often empty, so the first byte is looked at alone.
-// Rules out: the place told for the number; every other byte passed over (must-fail: tag_from_81, tag_starts_with_dollar).
+// Rules out: every other byte passed over; the place told for the number (must-fail: bytes_passed_over, other_place).
 pub fn free_run(text: &[u8], at: usize, stops: Stops) -> usize
     ensures { λ r. ⌜ r ≡ span (freeOf stops) (drop at (now (text .entry))) ⌝ }
 {
@@ -149,7 +149,7 @@ fn past_plain(text: &[u8], at: usize) -> usize
 }
 
 // How many bytes at a place are no ', no backslash and no NUL.
-// Rules out: the place told for the number; every other byte passed over (must-fail: tag_from_81, tag_starts_with_dollar).
+// Rules out: every other byte passed over; the place told for the number (must-fail: bytes_passed_over, other_place).
 pub fn plain_run(text: &[u8], at: usize) -> usize
     ensures { λ r. ⌜ r ≡ span (freeOf plainStops) (drop at (now (text .entry))) ⌝ }
 {

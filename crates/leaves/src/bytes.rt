@@ -3,7 +3,7 @@ ghost use mathlib.Core.Path.{_≡_};
 ghost use lib.ListN.{getD};
 
 // The byte at a place of a text; 0 past its end.
-// Rules out: a byte read past the end; another byte given there (must-fail: first_of_each, second_of_each).
+// Rules out: another byte given past the end; a byte read past the end (must-fail: other_bytes, past_the_end).
 pub fn byte_at(text: &[u8], at: usize) -> u8
     ensures { λ r. ⌜ r ≡ getD (now (text .entry)) at 0 ⌝ }
 {

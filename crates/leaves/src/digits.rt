@@ -5,7 +5,7 @@ ghost use Rattle.meaning.specs.Bytes.{digit};
 ghost use Rattle.leaves.specs.Digits.{capped};
 
 // The digit that a byte is, 0 to 15; 16 or more if it is none. One choice between two sums, so that digits and letters in any order are read at one pace.
-// Rules out: a to f read in one case only; A to F off by one (must-fail: no_digit_in_tag, only_digits_in_tag).
+// Rules out: a to f read in one case only; A to F off by one (must-fail: some_left_out, limit_off_by_one).
 fn loose_digit(byte: u8) -> u8
     ensures { λ r. ⌜ capped r ≡ digit byte ⌝ }
 {
@@ -17,7 +17,7 @@ fn loose_digit(byte: u8) -> u8
 }
 
 // The digit that a byte is, 0 to 15; 16 if it is none.
-// Rules out: f taken for none; another number told for none (must-fail: first_of_each, second_of_each).
+// Rules out: f taken for none; another number told for none (must-fail: other_bytes, another_number).
 pub fn hex_value(byte: u8) -> u8
     ensures { λ r. ⌜ r ≡ digit byte ⌝ }
 {
@@ -29,7 +29,7 @@ pub fn hex_value(byte: u8) -> u8
 }
 
 // Whether a byte is a digit of a base.
-// Rules out: 8 taken for octal; every base taken for hex (must-fail: tag_from_81, tag_starts_with_dollar).
+// Rules out: the base taken for a digit; every base taken for hex (must-fail: too_much_taken, one_for_another).
 pub fn is_radix_digit(byte: u8, base: u8) -> bool
     ensures { λ r. ⌜ r ≡ ltb (digit byte) base ⌝ }
 {

@@ -3,7 +3,7 @@ ghost use mathlib.Core.Path.{_≡_};
 ghost use Rattle.meaning.specs.Bytes.{isMark, isLetter, isDecimal, inName, startsTag, inTag};
 
 // A quote mark, ' or ".
-// Rules out: ` taken for a mark; one mark missed (must-fail: first_of_each, second_of_each).
+// Rules out: ` taken for a mark; one mark missed (must-fail: other_bytes, one_left_out).
 pub fn is_mark(byte: u8) -> bool
     ensures { λ r. ⌜ r ≡ isMark byte ⌝ }
 {
@@ -35,7 +35,7 @@ pub(crate) fn is_charset_name_byte(byte: u8) -> bool
 }
 
 // The first byte of a dollar tag: a letter, _ or a byte from 80 hex.
-// Rules out: $ taken into tags; 80 hex left out of them (must-fail: tag_from_81, tag_starts_with_dollar).
+// Rules out: 80 hex left out of tags; $ taken into tags (must-fail: one_left_out, other_bytes).
 pub fn is_dollar_tag_start(byte: u8) -> bool
     ensures { λ r. ⌜ r ≡ startsTag byte ⌝ }
 {
@@ -43,7 +43,7 @@ pub fn is_dollar_tag_start(byte: u8) -> bool
 }
 
 // A later byte of a dollar tag: also a digit.
-// Rules out: digits left out; anything but digits left out (must-fail: no_digit_in_tag, only_digits_in_tag).
+// Rules out: digits left out; anything but digits left out (must-fail: some_left_out, letters_refused).
 pub fn is_dollar_tag_continue(byte: u8) -> bool
     ensures { λ r. ⌜ r ≡ inTag byte ⌝ }
 {

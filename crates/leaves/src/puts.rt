@@ -2,7 +2,7 @@
 ghost use Rattle.leaves.specs.Puts.{Puts};
 
 // Copies a slice to the buffer's start and says how long it is; where there is no room it copies nothing and says 0.
-// Rules out: a shorter buffer written to; the first byte copied for each (must-fail: first_of_each, second_of_each).
+// Rules out: a shorter buffer written to; the first byte copied for each (must-fail: one_for_another, start_asked_again).
 pub fn put_bytes(bytes: &[u8], out: &mut [u8]) -> usize
     ensures { λ r. ⌜ Puts (now (bytes .entry)) (now (out .entry)) r (now (out .exit)) ⌝ }
 {

@@ -23,7 +23,7 @@ fn is_in_class(byte: u8, class: NameClass) -> bool
 }
 
 // How many bytes of a class stand at a place.
-// Rules out: bytes passed over; bytes counted past the end (must-fail: first_of_each, second_of_each).
+// Rules out: bytes passed over; bytes counted past the end (must-fail: other_place, past_the_end).
 pub fn run_len(text: &[u8], at: usize, class: NameClass) -> usize
     ensures { λ r. ⌜ r ≡ span (inClass class) (drop at (now (text .entry))) ⌝ }
 {

@@ -8,7 +8,7 @@ ghost use Rattle.meaning.specs.Helpers.{embedsNul};
 ghost use Rattle.meaning.specs.Spelling.{encloses};
 
 // Whether a text stands at a place.
-// Rules out: bytes passed over; one byte asked for all (must-fail: first_of_each, second_of_each).
+// Rules out: one byte asked for all; the first byte of the text asked for all (must-fail: other_bytes, start_asked_again).
 pub fn starts_at(body: &[u8], at: usize, prefix: &[u8]) -> bool
     ensures { λ r. ⌜ r ≡ starts (now (prefix .entry)) (drop at (now (body .entry))) ⌝ }
 {
@@ -33,7 +33,7 @@ pub fn starts_at(body: &[u8], at: usize, prefix: &[u8]) -> bool
 }
 
 // Whether a mark stands at a place and, as another byte, at the text's end.
-// Rules out: one mark taken for both; a mark before the last byte taken; ' closed by " (must-fail: first_of_each, second_of_each).
+// Rules out: a mark before the last byte taken; one mark taken for both (must-fail: other_place, too_much_taken).
 pub fn is_enclosed(text: &[u8], at: usize, mark: u8) -> bool
     ensures { λ r. ⌜ r ≡ encloses at mark (now (text .entry)) ⌝ }
 {
@@ -47,7 +47,7 @@ pub fn is_enclosed(text: &[u8], at: usize, mark: u8) -> bool
 }
 
 // [`string_literal_embeds_nul`] Whether a text holds a raw NUL.
-// Rules out: another byte looked for; the answers exchanged (must-fail: first_of_each, second_of_each).
+// Rules out: another byte looked for; the answers exchanged (must-fail: other_bytes, turned_round).
 pub fn string_literal_embeds_nul(text: &[u8]) -> bool
     ensures { λ r. ⌜ r ≡ embedsNul (now (text .entry)) ⌝ }
 {

@@ -4,7 +4,7 @@ ghost use Rattle.meaning.specs.Answers.{IsPart, partShown, partPlace};
 ghost use Rattle.meaning.specs.Reads.{readShown, readPlace};
 
 // Either the text's part or the buffer's; a range that does not fit its slice shows an empty part at the slice's start, and a refusal one at the text's.
-// Rules out: the buffer shown for a borrowed answer; an empty part of the buffer for a refusal (must-fail: tag_starts_with_dollar, empty_part_of_the_buffer).
+// Rules out: the buffer shown for a borrowed answer; an empty part of the buffer shown for a refusal (must-fail: one_for_another, empty_part_of_the_buffer).
 pub fn shown<'a>(text: &'a [u8], out: &'a [u8], answer: Read) -> &'a [u8]
     ensures { λ r. ⌜ IsPart (readShown (now (text .entry)) (now (out .entry)) answer) (readPlace (text .entry) (out .entry) answer) r ⌝ }
 {
@@ -17,7 +17,7 @@ pub fn shown<'a>(text: &'a [u8], out: &'a [u8], answer: Read) -> &'a [u8]
 }
 
 // A part of a slice: these bytes, at their place. Where it does not fit, an empty one at the slice's start.
-// Rules out: every part that fits shown empty; an empty part shown at another place than its own (must-fail: first_of_each, empty_part_at_the_start).
+// Rules out: every part that fits shown empty; an empty part in the middle of a slice shown at its start (must-fail: some_left_out, other_place).
 pub fn part_of(bytes: &[u8], from: usize, until: usize) -> &[u8]
     ensures { λ r. ⌜ IsPart (partShown from until (now (bytes .entry))) (partPlace from until (bytes .entry)) r ⌝ }
 {

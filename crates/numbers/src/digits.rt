@@ -10,7 +10,7 @@ pub(crate) enum Magnitude {
 }
 
 // The number of a text that is 1 to 19 digits and nothing else: no step can wrap, so none is tested. Any other text is refused here, whatever it means.
-// Rules out: 20 digits let in; a byte that is no digit let in (must-fail: above_greatest_accepted, below_least_accepted).
+// Rules out: twenty digits let in; a byte that is no digit let in (must-fail: off_by_one, one_more_taken).
 pub(crate) fn read_short(text: &[u8]) -> Magnitude
     ensures { λ r. ⌜ r ≡ shortOf (now (text .entry)) ⌝ }
 {

@@ -18,7 +18,7 @@ pub enum Int64 {
 }
 
 // The number with this sign and this magnitude, if 64 bits hold it.
-// Rules out: limits off by one, on each side (must-fail: above_greatest_accepted, below_least_accepted, greatest_refused, least_refused).
+// Rules out: 2^63 accepted; -2^63 - 1 accepted; 2^63 - 1 refused; -2^63 refused (must-fail: off_by_one, one_more_taken, greatest_refused, least_refused).
 fn with_sign(minus: bool, magnitude: u64) -> Int64
     ensures { λ r. ⌜ r ≡ int64Of (within-bits 63 (int (signed minus magnitude))) ⌝ }
 {

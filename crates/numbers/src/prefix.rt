@@ -10,7 +10,7 @@ pub struct Sign {
 }
 
 // The sign at the front of a text.
-// Rules out: a plus that is no sign; a second sign eaten with the first (must-fail: above_greatest_accepted, below_least_accepted).
+// Rules out: a plus that is no sign; a second sign eaten with the first (must-fail: off_by_one, one_more_taken).
 pub fn split_sign(text: &[u8]) -> Sign
     ensures { λ r. ⌜ (r .minus ≡ isMinus (now (text .entry))) × (r .len ≡ signLength (now (text .entry))) ⌝ }
 {
@@ -51,8 +51,7 @@ pub(crate) fn base_by(byte: u8) -> u32
 
 // The base that a text's first two bytes choose, and where the digits begin. It looks at no sign; without a prefix the base is ten and the digits
 // begin at 0.
-// Rules out: prefixes in lower case only; a second 0 taken for octal; the letter taken for a digit; a prefix behind another byte than 0 (must-fail:
-// above_greatest_accepted, below_least_accepted).
+// Rules out: the letter of a prefix taken for a digit; a prefix behind another byte than 0 (must-fail: off_by_one, one_more_taken).
 pub fn split_radix_prefix(text: &[u8]) -> RadixPrefix
     ensures { λ r. ⌜ r ≡ radixPrefix (now (text .entry)) ⌝ }
 {

@@ -13,7 +13,7 @@ pub enum Halves {
 
 // The number that the digits of a base make, of which each has `bits` bits, with `_` between two of them. Refused: no digit, another byte, `_` at an end
 // or beside `_`, a number that 128 bits do not hold.
-// Rules out: bits pushed out of the high half; the wrong bits carried into it (must-fail: above_greatest_accepted).
+// Rules out: bits pushed out of the high half (must-fail: off_by_one).
 fn read_halves(text: &[u8], base: u64, bits: u64) -> Halves
     requires { ⌜ (base ≡ 2 ^ bits) × (0 < bits) × (bits ≤ 4) ⌝ }
     ensures { λ r. ⌜ r ≡ wideOf (digitsFrom base 0 false (now (text .entry))) ⌝ }
@@ -54,7 +54,7 @@ fn read_halves(text: &[u8], base: u64, bits: u64) -> Halves
 }
 
 // The number that digits of base 16, 8 or 2 make, with `_` between two of them; any other base is taken for 2.
-// Rules out: octal digits of four bits; bits pushed out of the high half (must-fail: below_least_accepted, greatest_refused).
+// Rules out: octal read as hex; binary digits of two bits (must-fail: one_more_taken, prefix_or_digit_mistaken).
 pub fn read_radix_digits(text: &[u8], base: u32) -> Halves
     ensures { λ r. ⌜ r ≡ wideOf (digitsFrom (radixBy base) 0 false (now (text .entry))) ⌝ }
 {

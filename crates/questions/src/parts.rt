@@ -21,7 +21,7 @@ ghost use Rattle.meaning.specs.Answers.{IsPart, rangeShown, rangePlace, charset
 ghost use Rattle.questions.specs.Told.{InText, rangeBy};
 
 // Where a literal's text stands; no kind is asked.
-// Rules out: a part from the source's start; an empty part (must-fail: first_of_each, second_of_each).
+// Rules out: a part from the source's start; an empty part (must-fail: another_part, some_left_out).
 pub fn source_range(literal: Literal, source: &[u8]) -> Range
     ensures { λ r. ⌜ r ≡ sourceQuestion literal (now (source .entry)) ⌝ }
 {
@@ -58,7 +58,7 @@ fn range_of(read: Read, start: usize, bad: Refusal) -> Range
 }
 
 // Where a money literal's text behind its $ stands.
-// Rules out: 5 for 8; bit strings asked (must-fail: first_of_each, second_of_each).
+// Rules out: 5 for 8; bit strings asked (must-fail: one_for_another, another_kind_asked).
 pub fn money_range(literal: Literal, source: &[u8]) -> Range
     ensures { λ r. ⌜ r ≡ moneyQuestion literal (now (source .entry)) ⌝ }
 {
@@ -99,7 +99,7 @@ fn charset_end(text: &[u8]) -> usize
 }
 
 // Where the name of a string literal's charset stands, if it names one.
-// Rules out: a name told where none ends; decimals asked (must-fail: first_of_each, second_of_each).
+// Rules out: a name told where none ends; decimals asked (must-fail: off_by_one, another_kind_asked).
 pub fn charset_range(literal: Literal, source: &[u8]) -> Charset
     ensures { λ r. ⌜ r ≡ charsetQuestion literal (now (source .entry)) ⌝ }
 {

@@ -4,7 +4,7 @@ ghost use mathlib.Core.Path.{_≡_};
 ghost use Rattle.meaning.specs.Answers.{refusalNumber};
 
 // 1 to 9.
-// Rules out: 6 for 7; 3 for 4 (must-fail: first_of_each, second_of_each).
+// Rules out: 6 for 7; 3 for 4 (must-fail: one_for_another, another_reason_told).
 pub fn refusal_number(refusal: Refusal) -> u32
     ensures { λ r. ⌜ r ≡ refusalNumber refusal ⌝ }
 {

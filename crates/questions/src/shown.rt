@@ -7,8 +7,8 @@ use meaning::Text;
 ghost use Rattle.meaning.specs.Answers.{IsPart, shown, shownPlace, rangeShown, rangePlace, charsetShown, charsetPlace};
 
 // Either the source's part or the buffer's.
-// Rules out: the source shown for a written text; the buffer for a borrowed one; an empty part of the buffer for a refusal; a written text shown from its
-// second byte on (must-fail: first_of_each, other_slice, empty_part_of_the_buffer, offset_one_too_far).
+// Rules out: the source shown for a written text; the buffer shown for a borrowed text; an empty part of the buffer shown for a refusal; a written text shown
+// from its second byte on (must-fail: one_for_another, another_part, empty_part_of_the_buffer, off_by_one).
 pub fn text_shown<'a>(source: &'a [u8], out: &'a [u8], answer: Text) -> &'a [u8]
     ensures { λ r. ⌜ IsPart (shown (now (source .entry)) (now (out .entry)) answer) (shownPlace (source .entry) (out .entry) answer) r ⌝ }
 {
@@ -20,7 +20,7 @@ pub fn text_shown<'a>(source: &'a [u8], out: &'a [u8], answer: Text) -> &'a [u8]
 }
 
 // The part of the source that a range stands for.
-// Rules out: the part from the source's start; an empty part (must-fail: first_of_each, second_of_each).
+// Rules out: the part from the source's start; an empty part (must-fail: another_part, some_left_out).
 pub fn range_shown(source: &[u8], answer: Range) -> &[u8]
     ensures { λ r. ⌜ IsPart (rangeShown (now (source .entry)) answer) (rangePlace (source .entry) answer) r ⌝ }
 {
@@ -31,7 +31,7 @@ pub fn range_shown(source: &[u8], answer: Range) -> &[u8]
 }
 
 // The charset's name.
-// Rules out: the part from the source's start; an empty part (must-fail: first_of_each, second_of_each).
+// Rules out: the part from the source's start; an empty part (must-fail: another_part, some_left_out).
 pub fn charset_shown(source: &[u8], answer: Charset) -> &[u8]
     ensures { λ r. ⌜ IsPart (charsetShown (now (source .entry)) answer) (charsetPlace (source .entry) answer) r ⌝ }
 {

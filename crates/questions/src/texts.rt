@@ -34,7 +34,7 @@ fn text_of(read: Read, start: usize, bad: Refusal) -> Text
 }
 
 // What a string literal means at a setting.
-// Rules out: the setting passed over; dates asked (must-fail: first_of_each, second_of_each).
+// Rules out: the setting passed over; dates asked (must-fail: one_for_another, another_kind_asked).
 pub fn as_str_in(literal: Literal, source: &[u8], settings: Settings, out: &mut [u8]) -> Text
     ensures { λ r. ⌜ Meets (stringQuestion literal (now (source .entry)) settings (now (out .entry))) r (now (out .exit)) ⌝ }
 {
@@ -51,7 +51,7 @@ pub fn as_str_in(literal: Literal, source: &[u8], settings: Settings, out: &mut 
 }
 
 // What a string literal means with the setting off.
-// Rules out: the setting on; a number's text given (must-fail: first_byte_shown, whole_source_shown).
+// Rules out: the setting on; a number's text given (must-fail: setting_on, another_answer_shown).
 pub fn as_str(literal: Literal, source: &[u8], out: &mut [u8]) -> Text
     ensures { λ r. ⌜ Meets (plainQuestion literal (now (source .entry)) (now (out .entry))) r (now (out .exit)) ⌝ }
 {
@@ -59,7 +59,7 @@ pub fn as_str(literal: Literal, source: &[u8], out: &mut [u8]) -> Text
 }
 
 // A number's decimal text.
-// Rules out: 6 for 5; integers alone asked (must-fail: first_of_each, second_of_each).
+// Rules out: 6 for 5; integers alone asked (must-fail: one_for_another, some_left_out).
 pub fn as_decimal_text(literal: Literal, source: &[u8], out: &mut [u8]) -> Text
     ensures { λ r. ⌜ Meets (decimalQuestion literal (now (source .entry)) (now (out .entry))) r (now (out .exit)) ⌝ }
 {
@@ -89,7 +89,7 @@ fn bit_base(code: u32) -> u8
 }
 
 // A bit string's digits.
-// Rules out: 6 for 7; hex digits asked of every bit string (must-fail: first_of_each, second_of_each).
+// Rules out: 6 for 7; hex digits asked of every bit string (must-fail: one_for_another, another_kind_asked).
 pub fn as_bit_text(literal: Literal, source: &[u8], out: &mut [u8]) -> Text
     ensures { λ r. ⌜ Meets (bitsQuestion literal (now (source .entry)) (now (out .entry))) r (now (out .exit)) ⌝ }
 {
@@ -108,7 +108,7 @@ pub fn as_bit_text(literal: Literal, source: &[u8], out: &mut [u8]) -> Text
 }
 
 // What a temporal literal's token means.
-// Rules out: intervals refused; strings asked (must-fail: first_of_each, second_of_each).
+// Rules out: intervals refused; strings asked (must-fail: off_by_one, another_kind_asked).
 pub fn as_temporal_text(literal: Literal, source: &[u8], out: &mut [u8]) -> Text
     ensures { λ r. ⌜ Meets (temporalQuestion literal (now (source .entry)) (now (out .entry))) r (now (out .exit)) ⌝ }
 {

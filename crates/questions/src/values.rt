@@ -14,7 +14,7 @@ ghost use mathlib.Core.Path.{_≡_};
 ghost use Rattle.meaning.specs.Questions.{i64Question, boolQuestion, nullQuestion, isNull};
 
 // The value of an integer literal.
-// Rules out: 6 for 5; a decimal's text read (must-fail: first_of_each, second_of_each).
+// Rules out: 6 for 5; a decimal's text read (must-fail: one_for_another, another_kind_asked).
 pub fn as_i64(literal: Literal, source: &[u8]) -> Integer
     ensures { λ r. ⌜ r ≡ i64Question literal (now (source .entry)) ⌝ }
 {
@@ -33,7 +33,7 @@ pub fn as_i64(literal: Literal, source: &[u8]) -> Integer
 }
 
 // The value of a boolean literal, which reads no source.
-// Rules out: false for true; a date taken for false (must-fail: first_of_each, second_of_each).
+// Rules out: false for true; a date taken for false (must-fail: one_for_another, another_kind_asked).
 pub fn as_bool(literal: Literal) -> Truth
     ensures { λ r. ⌜ r ≡ boolQuestion (literal .kind) ⌝ }
 {
@@ -49,7 +49,7 @@ pub fn as_bool(literal: Literal) -> Truth
 }
 
 // That a literal is NULL, which reads no source.
-// Rules out: another family expected; a string taken for NULL (must-fail: first_of_each, second_of_each).
+// Rules out: another family expected; a string taken for NULL (must-fail: one_for_another, another_kind_asked).
 pub fn as_null(literal: Literal) -> Nullness
     ensures { λ r. ⌜ r ≡ nullQuestion (literal .kind) ⌝ }
 {
@@ -61,7 +61,7 @@ pub fn as_null(literal: Literal) -> Nullness
 }
 
 // Whether a literal is NULL.
-// Rules out: true taken for NULL; money taken for NULL (must-fail: first_of_each, second_of_each).
+// Rules out: true taken for NULL; money taken for NULL (must-fail: one_for_another, another_kind_asked).
 pub fn is_null(literal: Literal) -> bool
     ensures { λ r. ⌜ r ≡ isNull (literal .kind) ⌝ }
 {

@@ -70,7 +70,7 @@ fn shown_line(how: u8, text: &[u8], row: &mut [u8]) -> usize
 }
 
 // The line of a text, a part of the source or of the buffer.
-// Rules out: b for w (must-fail: second_of_each).
+// Rules out: b for w (must-fail: another_letter).
 pub(crate) fn text_line(source: &[u8], out: &[u8], answer: Text, row: &mut [u8]) -> usize
     requires { ⌜ (length (now source) ≤ 64) × (length (now out) ≤ 64) × (length (now row) ≡ 192) ⌝ }
     ensures { λ r. ⌜ Adds (textLineAs (now (source .entry)) (now (out .entry)) answer) (now (row .entry)) 0 (now (row .exit)) r ⌝ }
@@ -94,7 +94,7 @@ pub(crate) fn range_line(source: &[u8], answer: Range, row: &mut [u8]) -> usize
 }
 
 // The line of a charset's name.
-// Rules out: - for n (must-fail: second_of_each).
+// Rules out: - for n (must-fail: another_letter).
 pub(crate) fn charset_line(source: &[u8], answer: Charset, row: &mut [u8]) -> usize
     requires { ⌜ (length (now source) ≤ 64) × (length (now row) ≡ 192) ⌝ }
     ensures { λ r. ⌜ Adds (charsetLine (now (source .entry)) answer) (now (row .entry)) 0 (now (row .exit)) r ⌝ }
@@ -107,7 +107,7 @@ pub(crate) fn charset_line(source: &[u8], answer: Charset, row: &mut [u8]) -> us
 }
 
 // The line of an integer's value.
-// Rules out: b for i (must-fail: second_of_each).
+// Rules out: b for i (must-fail: another_letter).
 fn value_line(value: i64, row: &mut [u8]) -> usize
     requires { ⌜ length (now row) ≡ 192 ⌝ }
     ensures { λ r. ⌜ Adds (line 0 105 (printed value) []) (now (row .entry)) 0 (now (row .exit)) r ⌝ }

@@ -5,7 +5,7 @@ ghost use Rattle.meaning.specs.Numbers.{digitsOf, printed};
 ghost use Rattle.records.specs.Adding.{EndsIn};
 
 // Digits from the end back; tells where they begin, which is behind the first byte.
-// Rules out: the digits before the last by another base (must-fail: first_of_each).
+// Rules out: the digits before the last by another base (must-fail: other_digits).
 pub(crate) fn print_number(value: u64, digits: &mut [u8]) -> usize
     requires { ⌜ length (now digits) ≡ 21 ⌝ }
     ensures { λ r. ⌜ EndsIn (digitsOf value) 1 r (now (digits .exit)) ⌝ }

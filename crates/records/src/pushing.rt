@@ -8,7 +8,7 @@ ghost use Rattle.meaning.specs.Records.{hexDigit, hexOf, hexText};
 ghost use Rattle.records.specs.Adding.{Adds};
 
 // One byte.
-// Rules out: a place one byte too far told (must-fail: first_of_each).
+// Rules out: a place one byte too far told (must-fail: off_by_one).
 pub(crate) fn push_byte(byte: u8, line: &mut [u8], at: usize) -> usize
     requires { ⌜ at < length (now line) ⌝ }
     ensures { λ r. ⌜ Adds (byte ∷ []) (now (line .entry)) at (now (line .exit)) r ⌝ }
@@ -26,7 +26,7 @@ pub(crate) fn push_bytes(bytes: &[u8], line: &mut [u8], at: usize) -> usize
 }
 
 // The upper-case digit of a number below 16.
-// Rules out: lower case (must-fail: first_of_each).
+// Rules out: lower case (must-fail: other_digits).
 fn hex_digit(value: u8) -> u8
     requires { ⌜ value < 16 ⌝ }
     ensures { λ r. ⌜ r ≡ hexDigit value ⌝ }

@@ -26,7 +26,7 @@ ghost use Rattle.records.specs.Adding.{Adds};
 ghost use Rattle.records.specs.Goods.{Good};
 
 // Whether every byte is 0.
-// Rules out: ones for zeros (must-fail: first_of_each).
+// Rules out: ones for zeros (must-fail: other_digits).
 fn is_all_zero(bytes: &[u8]) -> bool
     ensures { λ r. ⌜ r ≡ allZero (now (bytes .entry)) ⌝ }
 {
@@ -41,7 +41,7 @@ fn is_all_zero(bytes: &[u8]) -> bool
 }
 
 // Whether 64 bytes are a question, a kind, a setting, a length, and a text with zeros behind it.
-// Rules out: money's kind refused (must-fail: second_of_each).
+// Rules out: money's kind refused (must-fail: off_by_one).
 fn is_good_record(bytes: &[u8]) -> bool
     ensures { λ r. ⌜ r ≡ goodRecord (now (bytes .entry)) ⌝ }
 {

@@ -5,7 +5,7 @@ ghost use Rattle.meaning.specs.Chars.{encode, isScalar};
 ghost use Rattle.scalars.specs.Scalars.{Encodes};
 
 // How many bytes a scalar's encoding has.
-// Rules out: three for four; 7FF hex in three (must-fail: first_of_each, second_of_each).
+// Rules out: three for four; 7FF hex in three (must-fail: range_too_wide, last_mistaken).
 pub fn utf8_len(scalar: u32) -> usize
     ensures { λ r. ⌜ r ≡ length (encode scalar) ⌝ }
 {
@@ -22,7 +22,7 @@ pub fn utf8_len(scalar: u32) -> usize
 }
 
 // Whether a number is a Unicode scalar value.
-// Rules out: low surrogates, or numbers above 10FFFF, taken for scalars (must-fail: first_of_each, second_of_each).
+// Rules out: low surrogates taken for scalars; numbers above 10FFFF taken for scalars (must-fail: range_too_wide, last_mistaken).
 pub fn is_scalar(number: u32) -> bool
     ensures { λ r. ⌜ r ≡ isScalar number ⌝ }
 {
@@ -31,8 +31,7 @@ pub fn is_scalar(number: u32) -> bool
 
 // Writes a scalar's encoding at the buffer's start and says how long it is. A number that is no scalar, or a shorter buffer, leaves the
 // buffer as it is, and the answer is 0.
-// Rules out: a later byte without its top bit; the first byte of another width; room asked for one byte alone (must-fail: room_for_one,
-// wrong_first_byte).
+// Rules out: room asked for one byte alone; the first byte of another width (must-fail: character_cut_off, another_width).
 pub fn encode_utf8(scalar: u32, out: &mut [u8]) -> usize
     ensures { λ r. ⌜ Encodes scalar (now (out .entry)) r (now (out .exit)) ⌝ }
 {

@@ -9,7 +9,7 @@ ghost use Rattle.utf8.specs.Tails.{dueOf};
 ghost use Rattle.scalars.specs.Scalars.{pending, leadBits, scalarOf};
 
 // How many bytes the character has that a byte begins; 0 if it begins none.
-// Rules out: C0 or C1, or a byte above F4, said to begin one; three for four (must-fail: first_of_each, second_of_each).
+// Rules out: C0 or C1 said to begin a character; a byte above F4 said to begin one (must-fail: range_too_wide, last_mistaken).
 pub fn utf8_width(byte: u8) -> usize
     ensures { λ r. ⌜ r ≡ width byte ⌝ }
 {
@@ -71,7 +71,7 @@ fn is_due(tail: Utf8Tail) -> bool
 }
 
 // The number that the bytes of the character at a place make; 0 where none begins there, or one of its bytes is missing or not as due.
-// Rules out: later bytes of five bits; a later byte passed over (must-fail: first_of_each, second_of_each).
+// Rules out: later bytes of five bits; a later byte passed over (must-fail: another_width, later_byte_mistaken).
 pub fn scalar_at(text: &[u8], at: usize) -> u32
     ensures { λ r. ⌜ r ≡ scalarOf (drop at (now (text .entry))) ⌝ }
 {

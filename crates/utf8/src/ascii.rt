@@ -42,7 +42,7 @@ pub(crate) fn is_ascii_eight(bytes: &[u8], at: usize) -> bool
 }
 
 // Whether a slice of n bytes or more is ASCII, by blocks of n.
-// Rules out: a byte between two blocks passed over; the last block without its last byte (must-fail: overlong_accepted, surrogate_accepted).
+// Rules out: a byte between two blocks passed over; the last block without its last byte (must-fail: too_much_accepted, block_without_its_last_byte).
 fn is_ascii_by(bytes: &[u8], n: usize) -> bool
     requires { ⌜ (0 < n) × (n ≤ length (now bytes)) × (n ≤ 32) ⌝ }
     ensures { λ r. ⌜ r ≡ passes isAscii (length (now (bytes .entry))) (now (bytes .entry)) ⌝ }

@@ -10,7 +10,7 @@ ghost use Rattle.leaves.specs.Blocks.{passes};
 ghost use Rattle.utf8.specs.Blocks.{isAscii, lowOf, highOf, char, Leading, Wholes};
 
 // From where on the second byte of a character may lie, by its first.
-// Rules out: an overlong form of three or four bytes (must-fail: overlong_accepted).
+// Rules out: an overlong form of three bytes accepted (must-fail: too_much_accepted).
 fn second_low(first: u8) -> u8
     ensures { λ r. ⌜ r ≡ lowOf first ⌝ }
 {

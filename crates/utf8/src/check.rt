@@ -21,7 +21,7 @@ fn push_each(tail: Utf8Tail, bytes: &[u8]) -> Utf8Tail
 }
 
 // The state behind all bytes of a slice. Between characters, whole ones are passed over.
-// Rules out: characters passed over inside a character; the rest read from the start (must-fail: all_accepted, all_refused).
+// Rules out: the rest read from the start; characters passed over inside a character (must-fail: all_accepted, whole_and_broken_exchanged).
 pub fn utf8_from(tail: Utf8Tail, bytes: &[u8]) -> Utf8Tail
     ensures { λ r. ⌜ dueOf r ≡ pushes (dueOf tail) (now (bytes .entry)) ⌝ }
 {

@@ -56,7 +56,7 @@ fn utf8_lead(byte: u8) -> Utf8Tail
 }
 
 // One byte more.
-// Rules out: an overlong form, a surrogate or a scalar above 10FFFF accepted (must-fail: overlong_accepted, surrogate_accepted).
+// Rules out: an overlong form accepted; a surrogate accepted (must-fail: too_much_accepted, surrogate_accepted).
 pub fn utf8_tail_push(tail: Utf8Tail, byte: u8) -> Utf8Tail
     ensures { λ r. ⌜ dueOf r ≡ push (dueOf tail) byte ⌝ }
 {
@@ -84,7 +84,7 @@ fn due_next(byte: u8, low: u8, high: u8, next: Utf8Tail) -> Utf8Tail
 }
 
 // Whether nothing is due and nothing is broken.
-// Rules out: an unfinished sequence taken for whole; no text whole (must-fail: overlong_accepted, surrogate_accepted).
+// Rules out: an unfinished sequence taken for whole; no text whole (must-fail: too_much_accepted, all_refused).
 pub fn is_whole(tail: Utf8Tail) -> bool
     ensures { λ r. ⌜ r ≡ whole (dueOf tail) ⌝ }
 {

@@ -15,7 +15,7 @@ ghost use Rattle.valdrabus.specs.Numbers.{Tells};
 ghost use Rattle.valdrabus.specs.Calls.{identifierCall, Splits};
 
 // The base that a number's first two bytes choose; where the digits begin.
-// Rules out: the digits begin at 0; base ten always (must-fail: first_of_each, second_of_each).
+// Rules out: the digits begin at 0; base ten always (must-fail: one_for_another, one_answer_always).
 #[no_mangle]
 pub extern "C" fn valdrabus_split_radix_prefix(text: &[u8], start: &mut usize) -> u32
     ensures { λ r. ⌜ Splits (radixPrefix (now (text .entry))) r (now (start .exit)) ⌝ }
@@ -26,7 +26,7 @@ pub extern "C" fn valdrabus_split_radix_prefix(text: &[u8], start: &mut usize) -
 }
 
 // Whether a quoted argument holds a legal UESCAPE character and nothing else.
-// Rules out: no for yes; yes always (must-fail: first_of_each, second_of_each).
+// Rules out: no for yes; yes always (must-fail: one_for_another, one_answer_always).
 #[no_mangle]
 pub extern "C" fn valdrabus_uescape_argument_is_legal(text: &[u8]) -> bool
     ensures { λ r. ⌜ r ≡ uescapeLegal (now (text .entry)) ⌝ }
@@ -35,7 +35,7 @@ pub extern "C" fn valdrabus_uescape_argument_is_legal(text: &[u8]) -> bool
 }
 
 // Whether the body of an E string has only good escapes and no lone mark; yes for other text that is UTF-8. It can differ from reading.
-// Rules out: no for yes; yes always (must-fail: first_of_each, second_of_each).
+// Rules out: no for yes; yes always (must-fail: one_for_another, one_answer_always).
 #[no_mangle]
 pub extern "C" fn valdrabus_postgres_escape_string_is_valid(text: &[u8]) -> bool
     ensures { λ r. ⌜ r ≡ escapeValid (now (text .entry)) ⌝ }
@@ -44,7 +44,7 @@ pub extern "C" fn valdrabus_postgres_escape_string_is_valid(text: &[u8]) -> bool
 }
 
 // Whether the body of a U& string has only good escapes; yes for other text that is UTF-8. It can differ from reading.
-// Rules out: no for yes; yes always (must-fail: first_of_each, second_of_each).
+// Rules out: no for yes; yes always (must-fail: one_for_another, one_answer_always).
 #[no_mangle]
 pub extern "C" fn valdrabus_unicode_escape_string_is_valid(text: &[u8]) -> bool
     ensures { λ r. ⌜ r ≡ unicodeValid (now (text .entry)) ⌝ }
@@ -53,7 +53,7 @@ pub extern "C" fn valdrabus_unicode_escape_string_is_valid(text: &[u8]) -> bool
 }
 
 // Whether a text holds a raw NUL.
-// Rules out: no for yes; yes always (must-fail: first_of_each, second_of_each).
+// Rules out: no for yes; yes always (must-fail: one_for_another, one_answer_always).
 #[no_mangle]
 pub extern "C" fn valdrabus_string_literal_embeds_nul(text: &[u8]) -> bool
     ensures { λ r. ⌜ r ≡ embedsNul (now (text .entry)) ⌝ }
@@ -62,7 +62,7 @@ pub extern "C" fn valdrabus_string_literal_embeds_nul(text: &[u8]) -> bool
 }
 
 // Whether a text begins as a U& identifier.
-// Rules out: no for yes; yes always (must-fail: first_of_each, second_of_each).
+// Rules out: no for yes; yes always (must-fail: one_for_another, one_answer_always).
 #[no_mangle]
 pub extern "C" fn valdrabus_is_unicode_ident(text: &[u8]) -> bool
     ensures { λ r. ⌜ r ≡ isUnicodeIdent (now (text .entry)) ⌝ }
@@ -71,7 +71,7 @@ pub extern "C" fn valdrabus_is_unicode_ident(text: &[u8]) -> bool
 }
 
 // An identifier's text.
-// Rules out: the two numbers exchanged; another text read (must-fail: first_of_each, second_of_each).
+// Rules out: the two numbers exchanged; another text read (must-fail: one_for_another, one_answer_always).
 #[no_mangle]
 pub extern "C" fn valdrabus_materialize_unicode_ident(
     text: &[u8],

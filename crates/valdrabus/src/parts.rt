@@ -24,7 +24,7 @@ fn source_called(kind: u32, synthetic: u32, start: u32, end: u32, source: &[u8])
 }
 
 // A literal's text, of any kind.
-// Rules out: start and end exchanged; the mark passed over (must-fail: first_of_each, second_of_each).
+// Rules out: start and end exchanged; the mark passed over (must-fail: one_for_another, argument_passed_over).
 #[no_mangle]
 pub extern "C" fn valdrabus_source_text(
     kind: u32,
@@ -53,7 +53,7 @@ fn money_called(kind: u32, synthetic: u32, start: u32, end: u32, source: &[u8]) 
 }
 
 // A money literal's text behind its $.
-// Rules out: start and end exchanged; the mark passed over (must-fail: first_of_each, second_of_each).
+// Rules out: start and end exchanged; the mark passed over (must-fail: one_for_another, argument_passed_over).
 #[no_mangle]
 pub extern "C" fn valdrabus_as_money_text(
     kind: u32,
@@ -82,7 +82,7 @@ fn charset_called(kind: u32, synthetic: u32, start: u32, end: u32, source: &[u8]
 }
 
 // The name of a string literal's character set, or that there is none.
-// Rules out: start and end exchanged; the mark passed over (must-fail: first_of_each, second_of_each).
+// Rules out: start and end exchanged; the mark passed over (must-fail: one_for_another, argument_passed_over).
 #[no_mangle]
 pub extern "C" fn valdrabus_charset_introducer(
     kind: u32,

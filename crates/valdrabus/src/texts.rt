@@ -33,7 +33,7 @@ fn string_called(
 }
 
 // What a string literal means at a setting.
-// Rules out: start and end exchanged; the setting passed over (must-fail: first_of_each, second_of_each).
+// Rules out: start and end exchanged; the setting passed over (must-fail: one_for_another, argument_passed_over).
 #[no_mangle]
 pub extern "C" fn valdrabus_as_str_in(
     kind: u32,
@@ -72,7 +72,7 @@ fn decimal_called(
 }
 
 // A number's decimal text.
-// Rules out: start and end exchanged; the mark passed over (must-fail: first_of_each, second_of_each).
+// Rules out: start and end exchanged; the mark passed over (must-fail: one_for_another, argument_passed_over).
 #[no_mangle]
 pub extern "C" fn valdrabus_as_decimal_text(
     kind: u32,
@@ -110,7 +110,7 @@ fn bits_called(
 }
 
 // A bit string's digits.
-// Rules out: start and end exchanged; the mark passed over (must-fail: first_of_each, second_of_each).
+// Rules out: start and end exchanged; the mark passed over (must-fail: one_for_another, argument_passed_over).
 #[no_mangle]
 pub extern "C" fn valdrabus_as_bit_text(
     kind: u32,
@@ -148,7 +148,7 @@ fn temporal_called(
 }
 
 // What a temporal literal's token means.
-// Rules out: start and end exchanged; the mark passed over (must-fail: first_of_each, second_of_each).
+// Rules out: start and end exchanged; the mark passed over (must-fail: one_for_another, argument_passed_over).
 #[no_mangle]
 pub extern "C" fn valdrabus_as_temporal_text(
     kind: u32,

@@ -30,7 +30,7 @@ fn i64_called(kind: u32, synthetic: u32, start: u32, end: u32, source: &[u8]) ->
 }
 
 // An integer literal's value; 0 on a refusal.
-// Rules out: start and end exchanged; the mark passed over (must-fail: first_of_each, second_of_each).
+// Rules out: start and end exchanged; the mark passed over (must-fail: one_for_another, argument_passed_over).
 #[no_mangle]
 pub extern "C" fn valdrabus_as_i64(
     kind: u32,
@@ -63,7 +63,7 @@ fn bool_called(kind: u32) -> Told
 }
 
 // A boolean literal's value, 1 or 0; 0 on a refusal. It reads no source.
-// Rules out: true for every kind; the two numbers exchanged (must-fail: first_of_each, second_of_each).
+// Rules out: true for every kind; the two numbers exchanged (must-fail: one_for_another, exchanged).
 #[no_mangle]
 pub extern "C" fn valdrabus_as_bool(
     kind: u32,
@@ -87,7 +87,7 @@ fn null_called(kind: u32) -> Told
 }
 
 // That a literal is NULL.
-// Rules out: NULL for every kind; a date asked for every kind (must-fail: first_of_each, second_of_each).
+// Rules out: NULL for every kind; a date asked for every kind (must-fail: one_for_another, one_kind_for_all).
 #[no_mangle]
 pub extern "C" fn valdrabus_as_null(kind: u32, first: &mut usize, second: &mut usize) -> u32
     ensures { λ r. ⌜ Bare (nullCall kind) r (now (first .exit)) (now (second .exit)) ⌝ }
@@ -99,7 +99,7 @@ pub extern "C" fn valdrabus_as_null(kind: u32, first: &mut usize, second: &mut u
 }
 
 // Whether a literal is NULL; false for a code that names no kind.
-// Rules out: every known kind taken for NULL; NULL asked for every kind (must-fail: first_of_each, second_of_each).
+// Rules out: every known kind taken for NULL; NULL asked for every kind (must-fail: one_for_another, one_kind_for_all).
 #[no_mangle]
 pub extern "C" fn valdrabus_is_null(kind: u32) -> bool
     ensures { λ r. ⌜ r ≡ isNullCall kind ⌝ }

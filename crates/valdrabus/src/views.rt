@@ -34,7 +34,7 @@ fn view_called(how: u32, first: usize, second: usize, source_len: usize, out_len
 }
 
 // The part that an answer shows; a range that does not fit, or a refusal, shows an empty part.
-// Rules out: the end told for the start; the start told for the end (must-fail: first_of_each, second_of_each).
+// Rules out: the end told for the start; the start told for the end (must-fail: one_for_another, another_place).
 #[no_mangle]
 pub extern "C" fn valdrabus_view(
     how: u32,

@@ -22,7 +22,7 @@ fn write_called(value: &[u8], size: PartSize, setting: u32, out: &mut [u8]) -> T
 }
 
 // A value as one plain literal.
-// Rules out: the setting passed over; parts of four bytes (must-fail: first_of_each, second_of_each).
+// Rules out: the setting passed over; parts of four bytes (must-fail: one_for_another, one_answer_always).
 #[no_mangle]
 pub extern "C" fn valdrabus_write_literal(
     value: &[u8],
@@ -38,7 +38,7 @@ pub extern "C" fn valdrabus_write_literal(
 }
 
 // A value in parts of at most so many bytes, a line feed between.
-// Rules out: one part for several; the setting passed over (must-fail: first_of_each, second_of_each).
+// Rules out: one part for several; the setting passed over (must-fail: one_for_another, argument_passed_over).
 #[no_mangle]
 pub extern "C" fn valdrabus_write_parts(
     value: &[u8],
@@ -55,7 +55,7 @@ pub extern "C" fn valdrabus_write_parts(
 }
 
 // A value as an E literal. No number is given that could name nothing, so it never answers 10.
-// Rules out: U& for E; an empty value written (must-fail: first_of_each, second_of_each).
+// Rules out: U& for E; an empty value written (must-fail: one_for_another, empty_text_asked).
 #[no_mangle]
 pub extern "C" fn valdrabus_write_escape(value: &[u8], out: &mut [u8], len: &mut usize) -> u32
     ensures { λ r. ⌜ Lengths (formCall Escape (now (value .entry)) (now (out .entry))) r (now (len .exit)) (now (out .exit)) ⌝ }
@@ -66,7 +66,7 @@ pub extern "C" fn valdrabus_write_escape(value: &[u8], out: &mut [u8], len: &mut
 }
 
 // A value as a U& literal.
-// Rules out: E for U&; half of the value written (must-fail: first_of_each, second_of_each).
+// Rules out: E for U&; the second half of the value written (must-fail: one_for_another, cut_down).
 #[no_mangle]
 pub extern "C" fn valdrabus_write_unicode(value: &[u8], out: &mut [u8], len: &mut usize) -> u32
     ensures { λ r. ⌜ Lengths (formCall Unicode (now (value .entry)) (now (out .entry))) r (now (len .exit)) (now (out .exit)) ⌝ }

@@ -13,7 +13,7 @@ ghost use Rattle.meaning.specs.Answers.{Meets};
 ghost use Rattle.meaning.specs.Forms.{formQuestion};
 
 // Writes a value in a form, and says how long the text is; or refuses it, and leaves the buffer as lent.
-// Rules out: 11 where 4 is due; a length that counts the value (must-fail: room_not_asked, space_between_parts).
+// Rules out: 11 where 4 is due; a length that counts the value (must-fail: space_between_parts, room_mistaken).
 pub fn write_form(value: &[u8], form: Form, out: &mut [u8]) -> Writing
     ensures { λ r. ⌜ Meets (formQuestion form (now (value .entry)) (now (out .entry))) r (now (out .exit)) ⌝ }
 {

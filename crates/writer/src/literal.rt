@@ -14,7 +14,7 @@ ghost use Rattle.meaning.specs.Answers.{Meets};
 ghost use Rattle.meaning.specs.Writer.{overLimit, unwritableNul, writeQuestion};
 
 // Whether a value is too long to be written, or the parts are too small.
-// Rules out: a limit one byte further (must-fail: digits_in_lower_case).
+// Rules out: the limit off by one (must-fail: another_byte_or_limit).
 pub(crate) fn is_over_limit(value: &[u8], size: PartSize) -> bool
     ensures { λ r. ⌜ r ≡ overLimit size (now (value .entry)) ⌝ }
 {
@@ -25,7 +25,7 @@ pub(crate) fn is_over_limit(value: &[u8], size: PartSize) -> bool
 }
 
 // Whether a value holds a NUL, which can be spelled with the setting on alone.
-// Rules out: a value without NUL refused (must-fail: digits_in_lower_case).
+// Rules out: every value refused for a NUL with the setting on (must-fail: another_byte_or_limit).
 fn holds_unwritable_nul(value: &[u8], settings: Settings) -> bool
     ensures { λ r. ⌜ r ≡ unwritableNul settings (now (value .entry)) ⌝ }
 {
@@ -36,7 +36,7 @@ fn holds_unwritable_nul(value: &[u8], settings: Settings) -> bool
 }
 
 // Writes a value as a plain literal, or as several of so many value bytes, and says how long the text is; or refuses it, and leaves the buffer as lent.
-// Rules out: a text written without room; another length in 9 (must-fail: room_not_asked, size_for_length).
+// Rules out: a text written without room; another length in 9 (must-fail: room_mistaken, size_for_length).
 pub fn write_literal(value: &[u8], size: PartSize, settings: Settings, out: &mut [u8]) -> Writing
     ensures { λ r. ⌜ Meets (writeQuestion settings size (now (value .entry)) (now (out .entry))) r (now (out .exit)) ⌝ }
 {
