@@ -1,5 +1,6 @@
 // Runs of ASCII, a block at a time. The loop over a block has no branch; the last block overlaps the one before it, so that no byte is looked at alone but in
-// texts of less than four.
+// texts of less than four. These are the loops of leaves::blocks over another test of a byte, since no function takes a test; their laws are one (leaves,
+// Scans).
 use leaves::blocks::one_if;
 ghost use mathlib.Core.Path.{_≡_};
 ghost use Prim.Native.Nat.{_+_, _≤_, _<_};

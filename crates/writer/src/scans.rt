@@ -1,4 +1,5 @@
-// Scans for bytes that do not stand for themselves, a block at a time. The loop over a block has no branch.
+// Scans for bytes that do not stand for themselves, a block at a time. The loop over a block has no branch. These are the loops of leaves::blocks over
+// another test of a byte, since no function takes a test; their laws are one (leaves, Scans).
 use crate::manners::Kept;
 use crate::manners::is_kept;
 use leaves::blocks::one_if;
