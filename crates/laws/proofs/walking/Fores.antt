@@ -1,0 +1,247 @@
+-- A text's front: a course over a text that ends with a unit at the front's end is the course of that front alone. Assumes nothing.
+use mathlib.Core.Path.{_≡_, refl, ap, sym, _∙_, subst}
+use mathlib.Core.Bool.{Bool, true, false, _&&_}
+use mathlib.Core.List.{List, [], _∷_, _++_}
+use Prim.Native.Nat.{ℕ, zero, suc, _+_, _*_, _%_, _≤_}
+use Prim.Native.Char.{code}
+use native.Mathlib.Omega.{arith}
+use lib.Dec.{eqb, ltb}
+use lib.ListN.{length, take, drop, length-drop, take-append-drop}
+use lib.Seq.{length-take-le, drop-append-le}
+use borrow.Author.Tests.{ltb-true, ltb-false}
+use Rattle.meaning.specs.Bytes.{if_then_else_, _!_, ascii, has, starts, within, quote, backslash, digit, digits, number}
+use Rattle.meaning.specs.Chars.{encode}
+use Rattle.meaning.specs.Walk.{Step, keep, give, stop, Trace, ended, stopped, kept, gave, after, walk, size, stops}
+use Rattle.meaning.specs.Steps.{byteOf, doubled, mysqlTable, mysql, standardStep, escapeTable, oneByte, mayEscape, scalarBy, escaped, escapeStep, pair, lowHalf}
+use Rattle.meaning.specs.Steps.{uescaped, unicodeStep}
+use Rattle.laws.proofs.basics.Digits.{digits-le}
+use Rattle.laws.proofs.walking.Walks.{graft, Inside}
+use Rattle.laws.proofs.walking.Courses.{SoFar}
+
+-- what stands inside a text stands there without what follows
+abbrev pub Fore : (List ℕ → Step) → List ℕ → Type 0
+Fore step r = (b : ℕ) (t : List ℕ) → Inside (step (b ∷ (t ++ r))) (length t) → step (b ∷ t) ≡ step (b ∷ (t ++ r))
+
+-- the course over a text's front is the course of that front alone
+pub walk-fore : (step : List ℕ → Step) (r : List ℕ) → Fore step r → (k : ℕ) (t : List ℕ) (c q : Trace) → stops c ≡ false → k + size c ≡ length t
+    → walk step k (t ++ r) ≡ graft c q → walk step k t ≡ c
+walk-fore step r f k [] ended q g s w = nothing k
+  where
+    nothing : (k : ℕ) → walk step k [] ≡ ended
+    nothing zero = refl
+    nothing (suc k) = refl
+walk-fore step r f k [] stopped q g s w = cc
+walk-fore step r f k [] (kept a c) q g s w = absurd (omega arith)
+walk-fore step r f k [] (gave n out c) q g s w = absurd (omega arith)
+walk-fore step r f (suc k) (b ∷ t) c q g s w = walk-fore step r f k t c q g (omega arith) w
+walk-fore step r f zero (b ∷ t) c q g s w = go (step (b ∷ (t ++ r))) c refl g s w (λ n c. walk-fore step r f n t c q)
+  where
+    go : (u : Step) (c : Trace) → step (b ∷ (t ++ r)) ≡ u → stops c ≡ false → 0 + size c ≡ suc (length t) → after u b (λ n. walk step n (t ++ r)) ≡ graft c q
+        → ((n : ℕ) (c : Trace) → stops c ≡ false → n + size c ≡ length t → walk step n (t ++ r) ≡ graft c q → walk step n t ≡ c)
+        → walk step 0 (b ∷ t) ≡ c
+    go u ended e g s w ih = absurd (omega arith)
+    go u stopped e g s w ih = cc
+    go keep (kept a c) e g s w ih =
+        let i = ih 0 c g (omega arith) (cc) in
+        rw (f b t (subst (λ (s : Step). Inside s (length t)) (sym e) tt) ∙ e) (cc)
+    go (give n out) (kept a c) e g s w ih = cc
+    go stop (kept a c) e g s w ih = cc
+    go keep (gave m o c) e g s w ih = cc
+    go (give n out) (gave m o c) e g s w ih =
+        let z : n ≡ m = cc in
+        let i = ih n c g (omega arith) (cc) in
+        rw (f b t (subst (λ (s : Step). Inside s (length t)) (sym e) (omega arith)) ∙ e) (cc)
+    go stop (gave m o c) e g s w ih = cc
+
+-- the body up to k alone has the course that stands so far
+pub so-far-alone : (step : List ℕ → Step) (l : List ℕ) (k : ℕ) (s : SoFar step l k) → Fore step (drop k l) → walk step 0 (take k l) ≡ s .course
+so-far-alone step l k s f =
+    walk-fore step (drop k l) f 0 (take k l) (s .course) (walk step 0 (drop k l)) (s .goes) (omega (arith, s .place, length-take-le k l (s .inside)))
+    (ap (walk step 0) (take-append-drop k l) ∙ s .rest)
+
+-- DIGITS that end inside the front are the front's
+pub digits-fore : (β w : ℕ) (t r : List ℕ) → digits β w (t ++ r) ≤ length t → digits β w t ≡ digits β w (t ++ r)
+digits-fore β zero t r h = refl
+digits-fore β (suc w) [] r h = omega arith
+digits-fore β (suc w) (b ∷ t) r h = go (ltb (digit b) β) h (digits-fore β w t r)
+  where
+    go : (x : Bool) → (if x then suc (digits β w (t ++ r)) else 0) ≤ suc (length t) → (digits β w (t ++ r) ≤ length t → digits β w t ≡ digits β w (t ++ r))
+        → (if x then suc (digits β w t) else 0) ≡ (if x then suc (digits β w (t ++ r)) else 0)
+    go true h ih = ap suc (ih (omega arith))
+    go false h ih = refl
+
+pub number-fore : (β n v : ℕ) (t r : List ℕ) → n ≤ length t → number β n v t ≡ number β n v (t ++ r)
+number-fore β zero v t r h = refl
+number-fore β (suc n) v [] r h = absurd (omega arith)
+number-fore β (suc n) v (b ∷ t) r h = number-fore β n (v * β + digit b) t r (omega arith)
+
+-- one of two units, or a byte that stands for itself, by tests that see the same
+choose : (x y : Bool) (a a′ b b′ : Step) (n : ℕ) → (Inside a′ n → a ≡ a′) → (Inside b′ n → b ≡ b′) → Inside (if x then a′ else if y then b′ else keep) n
+    → (if x then a else if y then b else keep) ≡ (if x then a′ else if y then b′ else keep)
+choose true y a a′ b b′ n p q i = p i
+choose false true a a′ b b′ n p q i = q i
+choose false false a a′ b b′ n p q i = refl
+
+-- a unit that a test gives fits
+given : (x : Bool) (k : ℕ) (out : List ℕ) (n : ℕ) → Inside (if x then give k out else stop) n → k ≤ n
+given true k out n i = i
+given false k out n i = absurd i
+
+-- THE MARK. A doubled one has its second byte
+doubled-fore : (q : ℕ) (t r : List ℕ) → Inside (doubled q (t ++ r)) (length t) → doubled q t ≡ doubled q (t ++ r)
+unfolding doubled
+doubled-fore q (c ∷ t) r i = refl
+doubled-fore q [] r i = let h = given (eqb (r ! 0) q) 1 (q ∷ []) 0 i in absurd (omega arith)
+
+-- STANDARD
+mysql-two : (c : ℕ) (t : List ℕ) (n : ℕ) → Inside (mysql (c ∷ t)) n → 1 ≤ n
+mysql-two c t n i = go (ltb (byteOf mysqlTable c) 256) (has c (ascii "%_")) i
+  where
+    go : (x y : Bool) → Inside (if x then give 1 (byteOf mysqlTable c ∷ []) else if y then give 1 (backslash ∷ c ∷ []) else give 1 (c ∷ [])) n → 1 ≤ n
+    go true y i = i
+    go false true i = i
+    go false false i = i
+
+mysql-fore : (t r : List ℕ) → Inside (mysql (t ++ r)) (length t) → mysql t ≡ mysql (t ++ r)
+mysql-fore (c ∷ t) r i = refl
+mysql-fore [] [] i = refl
+mysql-fore [] (c ∷ r) i = let h = mysql-two c r 0 i in absurd (omega arith)
+
+pub standard-fore : (bs : Bool) (q : ℕ) (r : List ℕ) → Fore (standardStep bs q) r
+standard-fore bs q r b t =
+    choose (bs && eqb b backslash) (eqb b q) (mysql t) (mysql (t ++ r)) (doubled q t) (doubled q (t ++ r)) (length t) (mysql-fore t r) (doubled-fore q t r)
+
+-- E
+one-inside : (k b n : ℕ) → Inside (oneByte k b) n → k ≤ n
+unfolding oneByte
+one-inside k b n i = go (eqb b 0) i
+  where
+    go : (x : Bool) → Inside (if x then stop else give k (b ∷ [])) n → k ≤ n
+    go true i = absurd i
+    go false i = i
+
+scalar-inside : (w k : ℕ) (t : List ℕ) (n : ℕ) → Inside (scalarBy w k t) n → k ≤ n
+unfolding scalarBy
+scalar-inside w k t n i = given (eqb (digits 16 w t) w && mayEscape (number 16 w 0 t)) k (encode (number 16 w 0 t)) n i
+
+-- w digits there are the front's
+scalar-same : (w k : ℕ) (t r : List ℕ) → w ≤ length t → scalarBy w k t ≡ scalarBy w k (t ++ r)
+unfolding scalarBy
+scalar-same w k t r h = rw (digits-fore 16 w t r (omega (arith, digits-le 16 w (t ++ r))), number-fore 16 w 0 t r h)
+
+-- an escape takes the byte behind the backslash
+escaped-some : (c : ℕ) (t : List ℕ) → Inside (escaped (c ∷ t)) 0 → ⊥
+escaped-some c t i =
+    go (ltb (byteOf escapeTable c) 256) (ltb 0 (digits 8 3 (c ∷ t))) (eqb c (code "x") && ltb 0 (digits 16 2 t)) (eqb c (code "u")) (eqb c (code "U")) refl i
+  where
+    go : (x1 x2 x3 x4 x5 : Bool) → ltb 0 (digits 8 3 (c ∷ t)) ≡ x2
+        → Inside
+        (if x1 then give 1 (byteOf escapeTable c ∷ [])
+        else if x2 then oneByte (digits 8 3 (c ∷ t)) (number 8 (digits 8 3 (c ∷ t)) 0 (c ∷ t) % 256)
+        else if x3 then oneByte (suc (digits 16 2 t)) (number 16 (digits 16 2 t) 0 t)
+        else if x4 then scalarBy 4 5 t
+        else if x5 then scalarBy 8 9 t
+        else oneByte 1 c) 0 → ⊥
+    go true x2 x3 x4 x5 e i = omega arith
+    go false true x3 x4 x5 e i =
+        omega (arith, ltb-true 0 (digits 8 3 (c ∷ t)) e, one-inside (digits 8 3 (c ∷ t)) (number 8 (digits 8 3 (c ∷ t)) 0 (c ∷ t) % 256) 0 i)
+    go false false true x4 x5 e i = omega (arith, one-inside (suc (digits 16 2 t)) (number 16 (digits 16 2 t) 0 t) 0 i)
+    go false false false true x5 e i = omega (arith, scalar-inside 4 5 t 0 i)
+    go false false false false true e i = omega (arith, scalar-inside 8 9 t 0 i)
+    go false false false false false e i = omega (arith, one-inside 1 c 0 i)
+
+escaped-fore : (t r : List ℕ) → Inside (escaped (t ++ r)) (length t) → escaped t ≡ escaped (t ++ r)
+escaped-fore [] [] i = refl
+escaped-fore [] (c ∷ r) i = absurd (escaped-some c r i)
+escaped-fore (c ∷ t) r i =
+    go (ltb (byteOf escapeTable c) 256) (ltb 0 (digits 8 3 (c ∷ (t ++ r)))) (eqb c (code "x")) (ltb 0 (digits 16 2 (t ++ r))) refl refl refl refl i
+  where
+    -- no digit stands there, so none stands in the front
+    none : (β w : ℕ) (t : List ℕ) → ltb 0 (digits β w (t ++ r)) ≡ false → digits β w t ≡ digits β w (t ++ r)
+    none β w t e = digits-fore β w t r (omega (arith, ltb-false 0 (digits β w (t ++ r)) e))
+
+    by-letter : (x y : Bool) → Inside (if x then scalarBy 4 5 (t ++ r) else if y then scalarBy 8 9 (t ++ r) else oneByte 1 c) (suc (length t))
+        → (if x then scalarBy 4 5 t else if y then scalarBy 8 9 t else oneByte 1 c)
+        ≡ (if x then scalarBy 4 5 (t ++ r) else if y then scalarBy 8 9 (t ++ r) else oneByte 1 c)
+    by-letter true y i = scalar-same 4 5 t r (omega (arith, scalar-inside 4 5 (t ++ r) (suc (length t)) i))
+    by-letter false true i = scalar-same 8 9 t r (omega (arith, scalar-inside 8 9 (t ++ r) (suc (length t)) i))
+    by-letter false false i = refl
+
+    go : (x1 x2 x3 x4 : Bool) → ltb (byteOf escapeTable c) 256 ≡ x1 → ltb 0 (digits 8 3 (c ∷ (t ++ r))) ≡ x2
+        → eqb c (code "x") ≡ x3 → ltb 0 (digits 16 2 (t ++ r)) ≡ x4
+        → Inside
+        (if x1 then give 1 (byteOf escapeTable c ∷ [])
+        else if x2 then oneByte (digits 8 3 (c ∷ (t ++ r))) (number 8 (digits 8 3 (c ∷ (t ++ r))) 0 (c ∷ (t ++ r)) % 256)
+        else if x3 && x4 then oneByte (suc (digits 16 2 (t ++ r))) (number 16 (digits 16 2 (t ++ r)) 0 (t ++ r))
+        else if eqb c (code "u") then scalarBy 4 5 (t ++ r)
+        else if eqb c (code "U") then scalarBy 8 9 (t ++ r)
+        else oneByte 1 c) (suc (length t))
+        → escaped (c ∷ t) ≡ escaped (c ∷ (t ++ r))
+    go true x2 x3 x4 e1 e2 e3 e4 i = rw e1
+    go false true x3 x4 e1 e2 e3 e4 i =
+        let h = one-inside (digits 8 3 (c ∷ (t ++ r))) (number 8 (digits 8 3 (c ∷ (t ++ r))) 0 (c ∷ (t ++ r)) % 256) (suc (length t)) i in
+        rw (e1, digits-fore 8 3 (c ∷ t) r h, number-fore 8 (digits 8 3 (c ∷ (t ++ r))) 0 (c ∷ t) r h, e2)
+    go false false true true e1 e2 e3 e4 i =
+        let h : digits 16 2 (t ++ r) ≤ length t = omega (arith, one-inside (suc (digits 16 2 (t ++ r))) (number 16 (digits 16 2 (t ++ r)) 0 (t ++ r)) (suc (length t)) i) in
+        rw (e1, none 8 3 (c ∷ t) e2, e2, e3, digits-fore 16 2 t r h, e4, number-fore 16 (digits 16 2 (t ++ r)) 0 t r h)
+    go false false true false e1 e2 e3 e4 i = rw (e1, none 8 3 (c ∷ t) e2, e2, e3, none 16 2 t e4, e4) (by-letter (eqb c (code "u")) (eqb c (code "U")) i)
+    go false false false x4 e1 e2 e3 e4 i = rw (e1, none 8 3 (c ∷ t) e2, e2, e3) (by-letter (eqb c (code "u")) (eqb c (code "U")) i)
+
+pub escape-fore : (r : List ℕ) → Fore escapeStep r
+escape-fore r b t =
+    choose (eqb b backslash) (eqb b quote) (escaped t) (escaped (t ++ r)) (doubled quote t) (doubled quote (t ++ r)) (length t) (escaped-fore t r)
+    (doubled-fore quote t r)
+
+-- U&
+low-inside : (h : ℕ) (t : List ℕ) (n : ℕ) → Inside (lowHalf (backslash ∷ []) h t) n → 9 ≤ n
+unfolding lowHalf
+low-inside h t n i =
+    given (starts (backslash ∷ []) t && eqb (digits 16 4 (drop 1 t)) 4 && within 0xDC00 0xDFFF (number 16 4 0 (drop 1 t))) 9
+    (encode (pair h (number 16 4 0 (drop 1 t)))) n i
+
+low-same : (h : ℕ) (t r : List ℕ) → 5 ≤ length t → lowHalf (backslash ∷ []) h t ≡ lowHalf (backslash ∷ []) h (t ++ r)
+unfolding lowHalf
+low-same h [] r l = absurd (omega arith)
+low-same h (c ∷ t) r l = rw (digits-fore 16 4 t r (omega (arith, digits-le 16 4 (t ++ r))), number-fore 16 4 0 t r (omega arith))
+
+-- four digits, of a high half or a scalar
+abbrev fourBy : Bool → List ℕ → Step
+fourBy z t = if z then lowHalf (backslash ∷ []) (number 16 4 0 t) (drop 4 t) else scalarBy 4 4 t
+
+abbrev highHalf : List ℕ → Bool
+highHalf t = eqb (digits 16 4 t) 4 && within 0xD800 0xDBFF (number 16 4 0 t)
+
+four-inside : (z : Bool) (t : List ℕ) (n : ℕ) → Inside (fourBy z t) n → 4 ≤ n
+four-inside true t n i = omega (arith, low-inside (number 16 4 0 t) (drop 4 t) n i)
+four-inside false t n i = scalar-inside 4 4 t n i
+
+four-fore : (t r : List ℕ) → Inside (fourBy (highHalf (t ++ r)) (t ++ r)) (length t) → fourBy (highHalf t) t ≡ fourBy (highHalf (t ++ r)) (t ++ r)
+four-fore t r i =
+    let h : 4 ≤ length t = four-inside (highHalf (t ++ r)) (t ++ r) (length t) i in
+    rw (digits-fore 16 4 t r (omega (arith, digits-le 16 4 (t ++ r))), number-fore 16 4 0 t r h) (go (highHalf (t ++ r)) h i)
+  where
+    go : (z : Bool) → 4 ≤ length t → Inside (fourBy z (t ++ r)) (length t)
+        → (if z then lowHalf (backslash ∷ []) (number 16 4 0 (t ++ r)) (drop 4 t) else scalarBy 4 4 t) ≡ fourBy z (t ++ r)
+    go true h i =
+        rw (drop-append-le 4 t r h)
+        (low-same (number 16 4 0 (t ++ r)) (drop 4 t) r (omega (arith, length-drop 4 t, low-inside (number 16 4 0 (t ++ r)) (drop 4 (t ++ r)) (length t) i)))
+    go false h i = scalar-same 4 4 t r h
+
+uescaped-fore : (t r : List ℕ) → Inside (uescaped (backslash ∷ []) (t ++ r)) (length t) → uescaped (backslash ∷ []) t ≡ uescaped (backslash ∷ []) (t ++ r)
+unfolding uescaped
+uescaped-fore t r i = go t (starts (backslash ∷ []) (t ++ r)) (eqb ((t ++ r) ! 0) (code "+")) refl refl i
+  where
+    go : (t : List ℕ) (x y : Bool) → starts (backslash ∷ []) (t ++ r) ≡ x → eqb ((t ++ r) ! 0) (code "+") ≡ y
+        → Inside (if x then give 1 (backslash ∷ []) else if y then scalarBy 6 7 (drop 1 (t ++ r)) else fourBy (highHalf (t ++ r)) (t ++ r)) (length t)
+        → uescaped (backslash ∷ []) t ≡ uescaped (backslash ∷ []) (t ++ r)
+    go [] true y ex ey i = absurd (omega arith)
+    go [] false true ex ey i = absurd (omega (arith, scalar-inside 6 7 (drop 1 r) 0 i))
+    go [] false false ex ey i = absurd (omega (arith, four-inside (highHalf r) r 0 i))
+    go (c ∷ t) true y ex ey i = rw ex
+    go (c ∷ t) false true ex ey i = rw (ex, ey) (scalar-same 6 7 t r (omega (arith, scalar-inside 6 7 (t ++ r) (suc (length t)) i)))
+    go (c ∷ t) false false ex ey i = rw (ex, ey) (four-fore (c ∷ t) r i)
+
+pub unicode-fore : (q : ℕ) (r : List ℕ) → Fore (unicodeStep (backslash ∷ []) q) r
+unicode-fore q r b t =
+    choose (eqb b q) (starts (backslash ∷ []) (b ∷ t)) (doubled q t) (doubled q (t ++ r)) (uescaped (backslash ∷ []) t) (uescaped (backslash ∷ []) (t ++ r))
+    (length t) (doubled-fore q t r) (uescaped-fore t r)
