@@ -1,5 +1,5 @@
--- A text's front: a course over a text that ends with a unit at the front's end is the course of that front alone. Assumes nothing.
-use mathlib.Core.Path.{_≡_, refl, ap, sym, _∙_, subst}
+-- The front of a text: a course that comes to the front's end, unit by unit, is the course of that front alone. Assumes nothing.
+use mathlib.Core.Path.{_≡_, refl, ap, _∙_}
 use mathlib.Core.Bool.{Bool, true, false, _&&_}
 use mathlib.Core.List.{List, [], _∷_, _++_}
 use Prim.Native.Nat.{ℕ, zero, suc, _+_, _*_, _%_, _≤_}
@@ -8,15 +8,16 @@ use native.Mathlib.Omega.{arith}
 use lib.Dec.{eqb, ltb}
 use lib.ListN.{length, take, drop, length-drop, take-append-drop}
 use lib.Seq.{length-take-le, drop-append-le}
-use borrow.Author.Tests.{ltb-true, ltb-false}
+use borrow.Author.Tests.{ltb-false}
 use Rattle.meaning.specs.Bytes.{if_then_else_, _!_, ascii, has, starts, within, quote, backslash, digit, digits, number}
 use Rattle.meaning.specs.Chars.{encode}
-use Rattle.meaning.specs.Walk.{Step, keep, give, stop, Trace, ended, stopped, kept, gave, after, walk, size, stops}
+use Rattle.meaning.specs.Walk.{Step, keep, give, stop, Trace, ended, stopped, kept, gave, walk, size, stops}
 use Rattle.meaning.specs.Steps.{byteOf, doubled, mysqlTable, mysql, standardStep, escapeTable, oneByte, mayEscape, scalarBy, escaped, escapeStep, pair, lowHalf}
 use Rattle.meaning.specs.Steps.{uescaped, unicodeStep}
 use Rattle.laws.proofs.basics.Digits.{digits-le}
-use Rattle.laws.proofs.walking.Walks.{graft, Inside}
+use Rattle.laws.proofs.walking.Walks.{graft, first-is, Inside}
 use Rattle.laws.proofs.walking.Courses.{SoFar}
+use Rattle.laws.proofs.cutting.EscapeStops.{Hidden, escaped-hidden}
 
 -- what stands inside a text stands there without what follows
 abbrev pub Fore : (List ℕ → Step) → List ℕ → Type 0
@@ -34,24 +35,18 @@ walk-fore step r f k [] stopped q g s w = cc
 walk-fore step r f k [] (kept a c) q g s w = absurd (omega arith)
 walk-fore step r f k [] (gave n out c) q g s w = absurd (omega arith)
 walk-fore step r f (suc k) (b ∷ t) c q g s w = walk-fore step r f k t c q g (omega arith) w
-walk-fore step r f zero (b ∷ t) c q g s w = go (step (b ∷ (t ++ r))) c refl g s w (λ n c. walk-fore step r f n t c q)
-  where
-    go : (u : Step) (c : Trace) → step (b ∷ (t ++ r)) ≡ u → stops c ≡ false → 0 + size c ≡ suc (length t) → after u b (λ n. walk step n (t ++ r)) ≡ graft c q
-        → ((n : ℕ) (c : Trace) → stops c ≡ false → n + size c ≡ length t → walk step n (t ++ r) ≡ graft c q → walk step n t ≡ c)
-        → walk step 0 (b ∷ t) ≡ c
-    go u ended e g s w ih = absurd (omega arith)
-    go u stopped e g s w ih = cc
-    go keep (kept a c) e g s w ih =
-        let i = ih 0 c g (omega arith) (cc) in
-        rw (f b t (subst (λ (s : Step). Inside s (length t)) (sym e) tt) ∙ e) (cc)
-    go (give n out) (kept a c) e g s w ih = cc
-    go stop (kept a c) e g s w ih = cc
-    go keep (gave m o c) e g s w ih = cc
-    go (give n out) (gave m o c) e g s w ih =
-        let z : n ≡ m = cc in
-        let i = ih n c g (omega arith) (cc) in
-        rw (f b t (subst (λ (s : Step). Inside s (length t)) (sym e) (omega arith)) ∙ e) (cc)
-    go stop (gave m o c) e g s w ih = cc
+walk-fore step r f zero (b ∷ t) ended q g s w = absurd (omega arith)
+walk-fore step r f zero (b ∷ t) stopped q g s w = cc
+walk-fore step r f zero (b ∷ t) (kept a c) q g s w =
+    let e : step (b ∷ (t ++ r)) ≡ keep = first-is step b (t ++ r) (kept a (graft c q)) w in
+    let v : kept b (walk step 0 (t ++ r)) ≡ kept a (graft c q) = rw e at w in
+    let i = walk-fore step r f 0 t c q g (omega arith) (cc) in
+    rw (f b t (rw e tt) ∙ e) (cc)
+walk-fore step r f zero (b ∷ t) (gave n out c) q g s w =
+    let e : step (b ∷ (t ++ r)) ≡ give n out = first-is step b (t ++ r) (gave n out (graft c q)) w in
+    let v : gave n out (walk step n (t ++ r)) ≡ gave n out (graft c q) = rw e at w in
+    let i = walk-fore step r f n t c q g (omega arith) (cc) in
+    rw (f b t (rw e (omega arith)) ∙ e) (cc)
 
 -- the body up to k alone has the course that stands so far
 pub so-far-alone : (step : List ℕ → Step) (l : List ℕ) (k : ℕ) (s : SoFar step l k) → Fore step (drop k l) → walk step 0 (take k l) ≡ s .course
@@ -93,19 +88,20 @@ unfolding doubled
 doubled-fore q (c ∷ t) r i = refl
 doubled-fore q [] r i = let h = given (eqb (r ! 0) q) 1 (q ∷ []) 0 i in absurd (omega arith)
 
--- STANDARD
-mysql-two : (c : ℕ) (t : List ℕ) (n : ℕ) → Inside (mysql (c ∷ t)) n → 1 ≤ n
-mysql-two c t n i = go (ltb (byteOf mysqlTable c) 256) (has c (ascii "%_")) i
+-- STANDARD. A backslash takes one byte more
+pub mysql-gives : (c : ℕ) (t : List ℕ) → (out : List ℕ) × (mysql (c ∷ t) ≡ give 1 out)
+mysql-gives c t = go (ltb (byteOf mysqlTable c) 256) (has c (ascii "%_"))
   where
-    go : (x y : Bool) → Inside (if x then give 1 (byteOf mysqlTable c ∷ []) else if y then give 1 (backslash ∷ c ∷ []) else give 1 (c ∷ [])) n → 1 ≤ n
-    go true y i = i
-    go false true i = i
-    go false false i = i
+    go : (x y : Bool) → (out : List ℕ)
+        × ((if x then give 1 (byteOf mysqlTable c ∷ []) else if y then give 1 (backslash ∷ c ∷ []) else give 1 (c ∷ [])) ≡ give 1 out)
+    go true y = (byteOf mysqlTable c ∷ [], refl)
+    go false true = (backslash ∷ c ∷ [], refl)
+    go false false = (c ∷ [], refl)
 
 mysql-fore : (t r : List ℕ) → Inside (mysql (t ++ r)) (length t) → mysql t ≡ mysql (t ++ r)
 mysql-fore (c ∷ t) r i = refl
 mysql-fore [] [] i = refl
-mysql-fore [] (c ∷ r) i = let h = mysql-two c r 0 i in absurd (omega arith)
+mysql-fore [] (c ∷ r) i = let h : 1 ≤ 0 = rw (mysql-gives c r .1) at i in absurd (omega arith)
 
 pub standard-fore : (bs : Bool) (q : ℕ) (r : List ℕ) → Fore (standardStep bs q) r
 standard-fore bs q r b t =
@@ -130,29 +126,14 @@ unfolding scalarBy
 scalar-same w k t r h = rw (digits-fore 16 w t r (omega (arith, digits-le 16 w (t ++ r))), number-fore 16 w 0 t r h)
 
 -- an escape takes the byte behind the backslash
-escaped-some : (c : ℕ) (t : List ℕ) → Inside (escaped (c ∷ t)) 0 → ⊥
-escaped-some c t i =
-    go (ltb (byteOf escapeTable c) 256) (ltb 0 (digits 8 3 (c ∷ t))) (eqb c (code "x") && ltb 0 (digits 16 2 t)) (eqb c (code "u")) (eqb c (code "U")) refl i
-  where
-    go : (x1 x2 x3 x4 x5 : Bool) → ltb 0 (digits 8 3 (c ∷ t)) ≡ x2
-        → Inside
-        (if x1 then give 1 (byteOf escapeTable c ∷ [])
-        else if x2 then oneByte (digits 8 3 (c ∷ t)) (number 8 (digits 8 3 (c ∷ t)) 0 (c ∷ t) % 256)
-        else if x3 then oneByte (suc (digits 16 2 t)) (number 16 (digits 16 2 t) 0 t)
-        else if x4 then scalarBy 4 5 t
-        else if x5 then scalarBy 8 9 t
-        else oneByte 1 c) 0 → ⊥
-    go true x2 x3 x4 x5 e i = omega arith
-    go false true x3 x4 x5 e i =
-        omega (arith, ltb-true 0 (digits 8 3 (c ∷ t)) e, one-inside (digits 8 3 (c ∷ t)) (number 8 (digits 8 3 (c ∷ t)) 0 (c ∷ t) % 256) 0 i)
-    go false false true x4 x5 e i = omega (arith, one-inside (suc (digits 16 2 t)) (number 16 (digits 16 2 t) 0 t) 0 i)
-    go false false false true x5 e i = omega (arith, scalar-inside 4 5 t 0 i)
-    go false false false false true e i = omega (arith, scalar-inside 8 9 t 0 i)
-    go false false false false false e i = omega (arith, one-inside 1 c 0 i)
+hidden-some : (s : Step) (u : List ℕ) → Hidden s u → Inside s 0 → ⊥
+hidden-some keep u p i = p
+hidden-some (give zero out) u p i = p
+hidden-some (give (suc k) out) u p i = omega arith
+hidden-some stop u p i = i
 
 escaped-fore : (t r : List ℕ) → Inside (escaped (t ++ r)) (length t) → escaped t ≡ escaped (t ++ r)
-escaped-fore [] [] i = refl
-escaped-fore [] (c ∷ r) i = absurd (escaped-some c r i)
+escaped-fore [] r i = absurd (hidden-some (escaped r) r (escaped-hidden r) i)
 escaped-fore (c ∷ t) r i =
     go (ltb (byteOf escapeTable c) 256) (ltb 0 (digits 8 3 (c ∷ (t ++ r)))) (eqb c (code "x")) (ltb 0 (digits 16 2 (t ++ r))) refl refl refl refl i
   where

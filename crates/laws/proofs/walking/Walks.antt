@@ -57,6 +57,21 @@ graft stopped q = stopped
 graft (kept b r) q = kept b (graft r q)
 graft (gave n out r) q = gave n out (graft r q)
 
+-- the unit that a course begins with
+abbrev pub first : Trace → Step
+first ended = stop
+first stopped = stop
+first (kept b r) = keep
+first (gave n out r) = give n out
+
+pub first-is : (step : List ℕ → Step) (b : ℕ) (t : List ℕ) (r : Trace) → walk step 0 (b ∷ t) ≡ r → step (b ∷ t) ≡ first r
+first-is step b t r w = sym (go (step (b ∷ t))) ∙ ap first w
+  where
+    go : (s : Step) → first (after s b (λ n. walk step n t)) ≡ s
+    go keep = refl
+    go (give n out) = refl
+    go stop = refl
+
 abbrev pub Inside : Step → ℕ → Type 0
 Inside keep n = Unit {0}
 Inside (give k out) n = k ≤ n
