@@ -8,6 +8,7 @@ pub mod EscapeStops
 pub mod WholeRefused
 pub mod UnicodeOff
 pub mod UnicodePassed
+pub mod Closings
 pub mod UnicodeOn
 pub mod ClauseStops
 pub mod ClauseFacts

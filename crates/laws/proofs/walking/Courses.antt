@@ -89,6 +89,18 @@ module _ {step : List ℕ → Step} {l : List ℕ} {at : ℕ} (s : SoFar step l 
     inside = omega arith;
   }
 
+  -- a course more, from this place on
+  unfoldable pub so-far-append : (j : ℕ) → SoFar step (drop at l) j → SoFar step l (at + j)
+  so-far-append j u = record {
+    course = graft (s .course) (u .course);
+    goes = stops-graft (s .course) (u .course) (s .goes) ∙ u .goes;
+    place = size-graft (s .course) (u .course) (s .goes) ∙ omega (arith, s .place, u .place);
+    rest =
+        s .rest ∙ ap (graft (s .course)) (u .rest ∙ ap (λ (t : List ℕ). graft (u .course) (walk step 0 t)) (drop-drop j at l))
+        ∙ sym (graft-assoc (s .course) (u .course) (walk step 0 (drop (at + j) l)));
+    inside = omega (arith, s .inside, u .inside, length-drop at l);
+  }
+
   -- the ways out: nothing is left; nothing may stand here; a unit reaches past the end
   pub so-far-end : length l ≤ at → walk step 0 l ≡ s .course
   so-far-end h = s .rest ∙ ap (λ (t : List ℕ). graft (s .course) (walk step 0 t)) (drop-of-length-le l h) ∙ graft-ended (s .course)
