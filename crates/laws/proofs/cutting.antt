@@ -14,3 +14,4 @@ pub mod ClauseStops
 pub mod ClauseFacts
 pub mod ClauseRefused
 pub mod Cuts
+pub mod Spelled
