@@ -1,5 +1,6 @@
 -- UTF-8: characters, their encodings, and which texts are UTF-8.
 pub mod Utf8
+pub mod Abreast
 pub mod Leads
 pub mod Encode
 pub mod Sequences

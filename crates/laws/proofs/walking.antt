@@ -3,5 +3,6 @@ pub mod Walks
 pub mod StepBounds
 pub mod Fores
 pub mod Courses
+pub mod Fronts
 pub mod Passes
 pub mod Short
