@@ -15,3 +15,4 @@ pub mod ClauseFacts
 pub mod ClauseRefused
 pub mod Cuts
 pub mod Spelled
+pub mod Fronted
