@@ -1,25 +1,22 @@
--- The measuring pass over a body by the pieces that are read: a piece takes and stands for what its step does, and every family's step is steady.
--- A law for a turn and for each way out, as the code counts. Assumes nothing.
+-- The pass over a body by the pieces that are read: a piece takes and stands for what its step does, and every family's step is steady.
+-- A law for the start, for a turn and for each way out, as the code counts. Assumes nothing.
 use mathlib.Core.Path.{_≡_, refl, ap, sym, _∙_, subst}
-use mathlib.Core.Bool.{Bool, true, false, _&&_, not}
-use mathlib.Core.List.{List, [], _∷_}
-use Prim.Native.Nat.{ℕ, suc, _+_, _-_, _≤_, _<_}
+use mathlib.Core.Bool.{Bool, true, false, _&&_, false≢true}
+use mathlib.Core.List.{List, [], _++_}
+use Prim.Native.Nat.{ℕ, _+_, _-_, _≤_, _<_}
 use native.Mathlib.Omega.{arith}
 use lib.Dec.{eqb}
-use lib.ListN.{length, take, drop, length-take, drop-of-length-le}
-use lib.Seq.{drop-cons, take-take, getD-take, getD-drop}
-use borrow.Author.Tests.{not-true}
-use Rattle.meaning.specs.Bytes.{if_then_else_, _!_, span, quote, backslash}
-use Rattle.meaning.specs.Chars.{Due, broken, push, pushes}
-use Rattle.meaning.specs.Walk.{Step, keep, give, stop, walk}
-use Rattle.meaning.specs.Steps.{doubled, uescaped}
-use Rattle.laws.proofs.basics.Tests.{and-left, and-right, eqb-sym}
-use Rattle.laws.proofs.walking.Courses.{SoFar, taken, stands, isKept, Goes, Taken, Kept, kept-taken}
+use lib.ListN.{length, take, drop, length-drop, length-append, drop-of-length-le}
+use borrow.Author.Tests.{le-leb}
+use Rattle.meaning.specs.Bytes.{_!_}
+use Rattle.meaning.specs.Chars.{whole}
+use Rattle.meaning.specs.Walk.{stop, walk, value}
+use Rattle.meaning.specs.Answers.{filled}
+use Rattle.laws.proofs.basics.Lists.{part-tail}
+use Rattle.laws.proofs.walking.Courses.{so-far-none, so-far-end, taken, isKept, Goes, Taken}
 use Rattle.laws.proofs.walking.StepBounds.{Steady, standard-steady, escape-steady, unicode-steady}
-use Rattle.laws.proofs.walking.Passes.{courseBy, StopsAt, EndsWith, Unbroken, unit-taken, Measuring, measuring-turn, measuring-stop, measuring-broken}
-use Rattle.leaves.specs.declared.blocks.Stops.{Stops}
-use Rattle.leaves.specs.Blocks.{freeOf}
-use Rattle.leaves.proofs.RunSteps.{KeepsAll, run-kept}
+use Rattle.laws.proofs.walking.Passes.{StopsAt, EndsWith, Unbroken, unit-taken, measuring-none, measuring-turn, measuring-stop, measuring-broken}
+use Rattle.laws.proofs.walking.Passes.{measuring-unfinished, measuring-end, course-same, put-behind}
 use Rattle.utf8.specs.declared.tail.Utf8Tail.{Utf8Tail}
 use Rattle.utf8.specs.declared.tail.Utf8Tail.the-variants as Tail
 use Rattle.utf8.specs.Tails.{dueOf}
@@ -30,12 +27,12 @@ use Rattle.escapes.specs.declared.pieces.Piece.{Piece}
 use Rattle.escapes.specs.declared.pieces.Piece.the-variants as Piece′
 use Rattle.escapes.specs.declared.units.Family.{Family}
 use Rattle.escapes.specs.declared.units.Family.the-variants.{Standard, Escape, Unicode}
-use Rattle.escapes.specs.declared.quick.Passed.{Passed}
-use Rattle.escapes.specs.declared.measuring.Measured.the-variants.{Plain, Length, Refused}
-use Rattle.escapes.proofs.Breaking.{unbroken-by, unbroken-not}
-use Rattle.escapes.specs.Pieces.{meaningOf, moreBy, isKeep, bytesOf, IsBy, BreaksAt, BrokenAt, Breaks}
-use Rattle.escapes.specs.Families.{stepOf, checks, dueBy, courseOf, measuredOf, stopsOf}
-use Rattle.escapes.specs.Quick.{Passes}
+use Rattle.escapes.specs.declared.passing.Pass.{Pass}
+use Rattle.escapes.specs.declared.passing.Measured.{Measured}
+use Rattle.escapes.specs.declared.passing.Measured.the-variants.{Plain, Length, Refused}
+use Rattle.escapes.specs.Pieces.{meaningOf, moreOf, isKeep, bytesOf, IsBy, Lays, Least}
+use Rattle.escapes.specs.Families.{stepOf, checks, dueBy, courseOf, measuredOf}
+use Rattle.escapes.specs.Passing.{Counted, Passing, Ready, GoesOn, Passes}
 
 -- EVERY FAMILY's step is steady, since no mark is zero
 mark-not-zero : (m : Mark) → eqb 0 (markOf m) ≡ false
@@ -56,208 +53,124 @@ unit-past f e l at h = record { means = sym (ap (stepOf f e) (drop-of-length-le 
     none Escape = refl
     none (Unicode m) = refl
 
--- RUNS: a byte that is none of the stops stands for itself in every family; a U& body without an escape character has no byte that does
-module _ (m s b : ℕ) (f : freeOf (record { first = m; second = s; third = m }) b ≡ true) where
-  not-mark : eqb b m ≡ false
-  unfolding freeOf
-  not-mark = not-true (eqb b m) (and-right (not (eqb b m) && not (eqb b s)) (not (eqb b m)) f)
+-- A PIECE that does not refuse, and its step
+record Same (e : List ℕ) (p : Piece) : Type 0 where
+  goes : Goes (meaningOf e p)
+  takes : taken (meaningOf e p) ≡ 1 + moreOf p
+  keeps : isKept (meaningOf e p) ≡ isKeep p
 
-  not-second : eqb b s ≡ false
-  unfolding freeOf
-  not-second = not-true (eqb b s) (and-right (not (eqb b m)) (not (eqb b s)) (and-left (not (eqb b m) && not (eqb b s)) (not (eqb b m)) f))
+same : (e : List ℕ) (p : Piece) → (p ≡ Piece′.Refused → ⊥) → Same e p
+same e Piece′.Keep n = record { goes = tt; takes = refl; keeps = refl }
+same e (Piece′.Byte b m) n = record { goes = tt; takes = omega arith; keeps = refl }
+same e (Piece′.Two b c m) n = record { goes = tt; takes = omega arith; keeps = refl }
+same e (Piece′.Scalar c m) n = record { goes = tt; takes = omega arith; keeps = refl }
+same e (Piece′.Escape m) n = record { goes = tt; takes = omega arith; keeps = refl }
+same e Piece′.Refused n = absurd (n refl)
 
-pub standard-keeps : (m : Mark) (bs : Bool) (e : List ℕ) → KeepsAll (freeOf (stopsOf (Standard m bs) e)) (stepOf (Standard m bs) e)
-unfolding stopsOf
-standard-keeps m true e c u f = rw (not-second (markOf m) backslash c f, not-mark (markOf m) backslash c f)
-standard-keeps m false e c u f = rw (not-mark (markOf m) (markOf m) c f)
+unbroken-by : (t : Utf8Tail) → (t ≡ Tail.Broken → ⊥) → Unbroken (dueOf t)
+unbroken-by Tail.Start n = tt
+unbroken-by Tail.One n = tt
+unbroken-by Tail.Two n = tt
+unbroken-by Tail.TwoFromA0 n = tt
+unbroken-by Tail.TwoUpTo9F n = tt
+unbroken-by Tail.Three n = tt
+unbroken-by Tail.ThreeFrom90 n = tt
+unbroken-by Tail.ThreeUpTo8F n = tt
+unbroken-by Tail.Broken n = n refl
 
-keeps-all : (f : Family) (e : List ℕ) (b : ℕ) (t : List ℕ) → stepOf f e (b ∷ t) ≡ keep → KeepsAll (freeOf (stopsOf f e)) (stepOf f e)
-unfolding stopsOf doubled uescaped
-keeps-all (Standard m bs) e b t h c u f = standard-keeps m bs e c u f
-keeps-all Escape e b t h c u f = rw (not-second quote backslash c f, not-mark quote backslash c f)
-keeps-all (Unicode m) [] b t h c u f = absurd (none (eqb b (markOf m)) (eqb (t ! 0) (markOf m)) h)
-  where
-    none : (x y : Bool) → (if x then (if y then give 1 (markOf m ∷ []) else stop) else uescaped [] (b ∷ t)) ≡ keep → ⊥
-    none true true k = let z : _≡_ {A = ℕ} 0 1 = cc in omega arith
-    none true false k = let z : _≡_ {A = ℕ} 0 1 = cc in omega arith
-    none false y k = let z : _≡_ {A = ℕ} 0 1 = cc in omega arith
-keeps-all (Unicode m) (x ∷ e) b t h c u f = rw (not-mark (markOf m) x c f, eqb-sym x c ∙ not-second (markOf m) x c f)
+-- A TURN, at the piece p
+module _ (f : Family) (e l : List ℕ) (s : Pass) (p : Piece) (i : IsBy e p (stepOf f e (drop (s .at) l))) (r : Ready f e l s) where
+  abbrev bytes : List ℕ
+  bytes = bytesOf e p (l ! (s .at))
 
--- A PIECE and its step
-pub goes-by : (e : List ℕ) (p : Piece) → (p ≡ Piece′.Refused → ⊥) → Goes (meaningOf e p)
-goes-by e Piece′.Keep n = tt
-goes-by e (Piece′.Byte b m) n = tt
-goes-by e (Piece′.Two b c m) n = tt
-goes-by e (Piece′.Scalar c m) n = tt
-goes-by e (Piece′.Escape m) n = tt
-goes-by e Piece′.Refused n = n refl
+  pub turn-refused : p ≡ Piece′.Refused → StopsAt (courseOf f e l) (s .at)
+  turn-refused q = measuring-stop (r .counted) (r .inside) (sym (i .means) ∙ ap (meaningOf e) q)
 
--- what the code counts behind a turn's first byte, with the stops that it was told
-pub more-by : (p : Piece) (k : ℕ) (st st′ : Stops) (t : List ℕ) → k ≡ moreBy p (span (freeOf st) t) → st ≡ st′ → k ≡ moreBy p (span (freeOf st′) t)
-more-by p k st st′ t e q = subst (λ (x : Stops). k ≡ moreBy p (span (freeOf x) t)) q e
+  module _ (ok : p ≡ Piece′.Refused → ⊥) where
+    took : (m : Counted f e l s) → Taken (m .so-far) bytes (isKeep p) (s .at + 1 + moreOf p)
+    took m =
+        let k = same e p ok in
+        rw (← k .keeps) (unit-taken (m .so-far) (steady f e) (meaningOf e p) (r .inside) (sym (i .means)) (k .goes) (s .at + 1 + moreOf p) (omega (arith, k .takes)))
 
--- what a turn takes, up to the place z: a unit, or a run
-module _ (f : Family) (e l : List ℕ) {at : ℕ} (s : SoFar (stepOf f e) l at) (h : at < length l) where
-  abbrev partTo : ℕ → List ℕ
-  partTo z = take (z - at) (drop at l)
+    pub turn-fits : s .at + 1 + moreOf p ≤ length l
+    turn-fits = took (r .counted) .next .inside
 
-  run : stepOf f e (drop at l) ≡ keep → (k : ℕ) → k ≡ span (freeOf (stopsOf f e)) (drop (at + 1) l) → Kept (stepOf f e) l at (suc k)
-  run i k ek =
-      run-kept (freeOf (stopsOf f e)) (stepOf f e) (keeps-all f e (l ! at) (drop (suc at) l) (ap (stepOf f e) (sym (drop-cons l at 0 h)) ∙ i)) l at h i k ek
+    pub turn-room : s .n + length bytes ≤ length l
+    turn-room = omega (arith, r .counted .short, took (r .counted) .brief, turn-fits)
 
-  unit : (p : Piece) → Goes (meaningOf e p) → meaningOf e p ≡ stepOf f e (drop at l) → (z : ℕ) → at + taken (meaningOf e p) ≡ z
-      → Taken s (stands (meaningOf e p) (l ! at)) (isKept (meaningOf e p)) z
-  unit p g i z ez = unit-taken s (steady f e) (meaningOf e p) h (sym i) g z ez
+    module _ (t : Utf8Tail) (dt : dueOf t ≡ dueBy (checks f) (dueOf (s .tail)) bytes) where
+      pub turn-broken : t ≡ Tail.Broken → StopsAt (courseOf f e l) (s .at)
+      turn-broken q = measuring-broken (r .counted) (meaningOf e p) (r .inside) (sym (i .means)) (same e p ok .goes) (sym (ap dueOf q) ∙ dt)
 
-  pub turn-taken : (p : Piece) → IsBy e p (stepOf f e (drop at l)) → Goes (meaningOf e p) → (k : ℕ)
-      → k ≡ moreBy p (span (freeOf (stopsOf f e)) (drop (at + 1) l))
-      → (z : ℕ) → z ≡ at + 1 + k → Taken s (bytesOf p (partTo z) e) (isKeep p) z
-  turn-taken Piece′.Keep i g k ek z ez =
-      let a : at + suc k ≡ z = omega arith in
-      let b : suc k ≡ z - at = omega arith in
-      subst (λ (n : ℕ). Taken s (take n (drop at l)) true z) b
-      (subst (λ (n : ℕ). Taken s (take (suc k) (drop at l)) true n) a (kept-taken s (suc k) (run (sym (i .means)) k ek)))
-  turn-taken (Piece′.Byte b m) i g k ek z ez = unit (Piece′.Byte b m) g (i .means) z (omega arith)
-  turn-taken (Piece′.Two b c m) i g k ek z ez = unit (Piece′.Two b c m) g (i .means) z (omega arith)
-  turn-taken (Piece′.Scalar c m) i g k ek z ez = unit (Piece′.Scalar c m) g (i .means) z (omega arith)
-  turn-taken (Piece′.Escape m) i g k ek z ez = unit (Piece′.Escape m) g (i .means) z (omega arith)
-  turn-taken Piece′.Refused i g k ek z ez = absurd g
+      module _ (u : t ≡ Tail.Broken → ⊥) (len : ℕ) (el : len ≡ length bytes) where
+        abbrev ahead : Pass
+        ahead = record { at = s .at + 1 + moreOf p; n = s .n + len; plain = s .plain && isKeep p; tail = t }
 
--- where a turn's bytes break the text: at its first byte, or at the byte of a run that does
-module _ (f : Family) (e l : List ℕ) {at n : ℕ} {pl : Bool} (tail : Utf8Tail) (m : Measuring (stepOf f e) true l at n pl (dueOf tail)) (h : at < length l)
-    (k q : ℕ) where
-  abbrev own : List ℕ
-  own = take (at + 1 + k - at) (drop at l)
+        unfoldable counts : Counted f e l s → Counted f e l ahead
+        counts m =
+            measuring-turn m bytes (isKeep p) (s .at + 1 + moreOf p) (s .n + len) (s .plain && isKeep p) (dueOf t) (took m)
+            (ap (s .n +_) (sym el)) refl dt (unbroken-by t u)
 
-  at-first : (u : Step) → stepOf f e (drop at l) ≡ u → Goes u → broken ≡ pushes (dueOf tail) (stands u (l ! at)) → q ≡ 0
-      → StopsAt (courseBy true (walk (stepOf f e) 0 l)) (at + q)
-  at-first u i g b z =
-      let a : at ≡ at + q = omega arith in
-      subst (StopsAt (courseBy true (walk (stepOf f e) 0 l))) a (measuring-broken m u h i g b)
+        module _ (out last : List ℕ) where
+          abbrev after : ℕ → List ℕ
+          after k = take k out ++ (last ++ drop (length out - k) (drop k out))
 
-  in-run : Kept (stepOf f e) l at (suc k) → BreaksAt (dueOf tail) own q → StopsAt (courseBy true (walk (stepOf f e) 0 l)) (at + q)
-  in-run c w =
-      let c′ = take q (drop at l) in
-      let less : q < at + 1 + k - at = omega (arith, w .inside, length-take (at + 1 + k - at) (drop at l)) in
-      let same : take q own ≡ c′ = take-take q (at + 1 + k - at) (drop at l) (omega arith) in
-      let byte : l ! (at + q) ≡ own ! q = sym (getD-take (at + 1 + k - at) (drop at l) q 0 less ∙ getD-drop at l q 0) in
-      let t = kept-taken (m .so-far) q (record { room = omega (arith, c .room); each = λ j o. c .each j (omega arith) }) in
-      let goes : pushes (dueOf tail) c′ ≡ broken → ⊥ = λ b. w .before (ap (pushes (dueOf tail)) same ∙ b) in
-      let m′ = measuring-turn m c′ true (at + q) (n + length c′) (pl && true) (pushes (dueOf tail) c′) t refl refl refl
-      (unbroken-not (pushes (dueOf tail) c′) goes) in
-      measuring-broken m′ keep (omega (arith, c .room)) (c .each q (omega arith)) tt
-      (sym (ap (push (pushes (dueOf tail) c′)) byte ∙ ap (λ (x : Due). push x (own ! q)) (ap (pushes (dueOf tail)) (sym same)) ∙ w .there))
+          -- the bytes were laid where those so far end
+          laid : (d : List ℕ) (w : Passing f e l d out s) → s .n + len ≤ length d → (k : ℕ) → k ≡ s .n
+              → last ≡ filled bytes (take (length out - k) (drop k out)) → after k ≡ value (counts (w .counted) .so-far .course) ++ drop (s .n + len) d
+          unfolding counts measuring-turn filled
+          laid d w room k ek b =
+              let c = value (w .counted .so-far .course) in
+              let r : length bytes ≤ length (take (length out - s .n) (drop (s .n) out)) =
+              rw (part-tail out (s .n)) (omega (arith, length-drop (s .n) out, w .same, el)) in
+              let b′ : last ≡ bytes ++ drop (length bytes) (take (length out - s .n) (drop (s .n) out)) =
+              (rw ek at b) ∙ rw (le-leb (length bytes) (length (take (length out - s .n) (drop (s .n) out))) r) in
+              rw ek
+              (put-behind c bytes d out last (s .n) (w .counted .counted) (w .put (omega arith)) b′
+              ∙ ap (λ (v : List ℕ). v ++ drop (s .n + length bytes) d) (sym (took (w .counted) .means))
+              ∙ ap (λ (j : ℕ). value (took (w .counted) .next .course) ++ drop (s .n + j) d) (sym el))
 
-  breaks-here : (p : Piece) → meaningOf e p ≡ stepOf f e (drop at l) → (p ≡ Piece′.Refused → ⊥) → k ≡ moreBy p (span (freeOf (stopsOf f e)) (drop (at + 1) l))
-      → broken ≡ pushes (dueOf tail) (bytesOf p own e) → BrokenAt p (dueOf tail) own q → StopsAt (courseBy true (walk (stepOf f e) 0 l)) (at + q)
-  breaks-here Piece′.Keep i r ek b w = in-run (run f e l (m .so-far) h (sym i) k ek) w
-  breaks-here (Piece′.Byte a j) i r ek b w = at-first (meaningOf e (Piece′.Byte a j)) (sym i) tt b w
-  breaks-here (Piece′.Two a c j) i r ek b w = at-first (meaningOf e (Piece′.Two a c j)) (sym i) tt b w
-  breaks-here (Piece′.Scalar a j) i r ek b w = at-first (meaningOf e (Piece′.Scalar a j)) (sym i) tt b w
-  breaks-here (Piece′.Escape j) i r ek b w = at-first (meaningOf e (Piece′.Escape j)) (sym i) tt b w
-  breaks-here Piece′.Refused i r ek b w = absurd (r refl)
+          pub turn-on : (from : ℕ) → Least (s .n) (length out) from → Lays bytes (take (length out - from) (drop from out)) len last
+              → length (after from) ≡ length out → (k : ℕ) → k ≡ moreOf p → (y : Bool) → y ≡ isKeep p
+              → GoesOn f e l out s (record { at = s .at + 1 + k; n = s .n + len; plain = s .plain && y; tail = t }) (after from)
+          turn-on from lo la same-length k ek y ey =
+              rw (ek, ey)
+              (record {
+                further = omega arith;
+                passes = λ d w. record {
+                  counted = counts (w .counted);
+                  put = λ room. laid d w room from (lo .first (omega (arith, w .same))) (la .buffer);
+                  same = same-length ∙ w .same;
+                };
+              })
 
--- MEASURING; x says whether the walk is checked
-module _ (f : Family) (e l : List ℕ) (x : Bool) (ex : x ≡ checks f) where
-  refused-here : (at : ℕ) → StopsAt (courseBy x (walk (stepOf f e) 0 l)) at → Refused at ≡ measuredOf (courseOf f e l)
-  refused-here at s = let t : StopsAt (courseOf f e l) at = rw ex at s in rw (t .marred, t .halts, t .place)
+-- THE START, and the ways out
+pub passing-none : (f : Family) (e l d : List ℕ) → Passing f e l d d (record { at = 0; n = 0; plain = true; tail = Tail.Start })
+unfolding measuring-none so-far-none
+passing-none f e l d = record { counted = measuring-none (stepOf f e) (checks f) l; put = λ h. refl; same = refl }
 
-  pub measured-plain : (n : ℕ) → EndsWith (courseBy x (walk (stepOf f e) 0 l)) true n → Plain ≡ measuredOf (courseOf f e l)
-  measured-plain n s = let t : EndsWith (courseOf f e l) true n = rw ex at s in rw (t .plainly)
+module _ (f : Family) (e l d out : List ℕ) where
+  pub passes-stop : (at : ℕ) → StopsAt (courseOf f e l) at → Passes (courseOf f e l) d (Refused at) out
+  passes-stop at s = record { answer = rw (s .marred, s .halts, s .place); buffer = λ g. absurd (false≢true (sym g ∙ s .halts)) }
 
-  pub measured-length : (n : ℕ) → EndsWith (courseBy x (walk (stepOf f e) 0 l)) false n → Length n ≡ measuredOf (courseOf f e l)
-  measured-length n s = let t : EndsWith (courseOf f e l) false n = rw ex at s in rw (t .plainly, t .goes, t .counted)
+  module _ (s : Pass) (w : Passing f e l d out s) (h : length l ≤ s .at) where
+    pub passes-unfinished : whole (dueOf (s .tail)) ≡ false → Passes (courseOf f e l) d (Refused (s .at)) out
+    passes-unfinished u = passes-stop (s .at) (measuring-unfinished (w .counted) h u)
 
-  pub measured-stop : (at : ℕ) → StopsAt (courseBy x (walk (stepOf f e) 0 l)) at → Refused at ≡ measuredOf (courseOf f e l)
-  measured-stop at s = refused-here at s
+    module _ (u : whole (dueOf (s .tail)) ≡ true) where
+      ends : EndsWith (courseOf f e l) (s .plain) (s .n)
+      ends = measuring-end (w .counted) h u
 
-  module _ {at n : ℕ} {pl : Bool} (tail : Utf8Tail) (m : Measuring (stepOf f e) x l at n pl (dueOf tail)) (h : at < length l)
-      (p : Piece) (i : IsBy e p (stepOf f e (drop at l))) where
-    pub measured-refused : p ≡ Piece′.Refused → Refused at ≡ measuredOf (courseOf f e l)
-    measured-refused r = refused-here at (measuring-stop m h (sym (i .means) ∙ ap (meaningOf e) r))
+      written : length (value (courseOf f e l)) ≤ length d → out ≡ value (courseOf f e l) ++ drop (length (value (courseOf f e l))) d
+      written k =
+          let v : value (courseOf f e l) ≡ value (w .counted .so-far .course) =
+          ap value (course-same (checks f) (walk (stepOf f e) 0 l) (ends .goes) ∙ so-far-end (w .counted .so-far) h) in
+          let n : length (value (courseOf f e l)) ≡ s .n = ends .counted in
+          w .put (omega arith) ∙ ap (λ (x : ℕ). value (w .counted .so-far .course) ++ drop x d) (sym n)
+          ∙ ap (_++ drop (length (value (courseOf f e l))) d) (sym v)
 
-    module _ (r : p ≡ Piece′.Refused → ⊥) (k : ℕ) (ek : k ≡ moreBy p (span (freeOf (stopsOf f e)) (drop (at + 1) l))) where
-      took : (z : ℕ) → z ≡ at + 1 + k → Taken (m .so-far) (bytesOf p (take (z - at) (drop at l)) e) (isKeep p) z
-      took z ez = turn-taken f e l (m .so-far) h p i (goes-by e p r) k ek z ez
+      pub passes-plain : s .plain ≡ true → Passes (courseOf f e l) d Plain out
+      passes-plain q = record { answer = rw (ends .plainly, q); buffer = λ g. written }
 
-      pub measured-fits : at + 1 + k ≤ length l
-      measured-fits = took (at + 1 + k) refl .next .inside
-
-      pub measured-room : n + length (bytesOf p (take (at + 1 + k - at) (drop at l)) e) ≤ length l
-      measured-room = omega (arith, m .short, took (at + 1 + k) refl .brief, measured-fits)
-
-      module _ (tail′ : Utf8Tail) (d : dueOf tail′ ≡ dueBy x (dueOf tail) (bytesOf p (take (at + 1 + k - at) (drop at l)) e)) where
-        abbrev part : List ℕ
-        part = take (at + 1 + k - at) (drop at l)
-
-        -- what breaks it, where nothing was broken, are the turn's own bytes
-        broke : tail′ ≡ Tail.Broken → (x ≡ true) × (broken ≡ pushes (dueOf tail) (bytesOf p part e))
-        broke b = go x (sym (ap dueOf b) ∙ d)
-          where
-            go : (y : Bool) → broken ≡ dueBy y (dueOf tail) (bytesOf p part e) → (y ≡ true) × (broken ≡ pushes (dueOf tail) (bytesOf p part e))
-            go true c = (refl, c)
-            go false c = absurd (subst Unbroken (sym c) (m .unbroken))
-
-        whole : dueOf tail ≡ broken → ⊥
-        whole c = subst Unbroken c (m .unbroken)
-
-        pub measured-breaks : tail′ ≡ Tail.Broken → Breaks p (dueOf tail) part
-        measured-breaks b = go p (broke b .1)
-          where
-            go : (q : Piece) → broken ≡ pushes (dueOf tail) (bytesOf q part e) → Breaks q (dueOf tail) part
-            go Piece′.Keep c = (whole, sym c)
-            go (Piece′.Byte a j) c = tt
-            go (Piece′.Two a c′ j) c = tt
-            go (Piece′.Scalar a j) c = tt
-            go (Piece′.Escape j) c = tt
-            go Piece′.Refused c = tt
-
-        pub measured-broken : tail′ ≡ Tail.Broken → (q : ℕ) → BrokenAt p (dueOf tail) part q → Refused (at + q) ≡ measuredOf (courseOf f e l)
-        measured-broken b q w =
-            let y = broke b in
-            refused-here (at + q)
-            (subst (λ (c : Bool). StopsAt (courseBy c (walk (stepOf f e) 0 l)) (at + q)) (sym (y .0))
-            (breaks-here f e l tail (subst (λ (c : Bool). Measuring (stepOf f e) c l at n pl (dueOf tail)) (y .0) m) h k q p (i .means) r ek (y .1) w))
-
-        pub measured-turn : (tail′ ≡ Tail.Broken → ⊥) → (y : Bool) → y ≡ isKeep p → (c : ℕ) → c ≡ length (bytesOf p part e)
-            → Measuring (stepOf f e) x l (at + 1 + k) (n + c) (pl && y) (dueOf tail′)
-        measured-turn b y ey c ec =
-            measuring-turn m (bytesOf p part e) (isKeep p) (at + 1 + k) (n + c) (pl && y) (dueOf tail′) (took (at + 1 + k) refl)
-            (ap (n +_) (sym ec)) (ap (pl &&_) (sym ey)) d (unbroken-by tail′ b)
-
-  -- the units behind a turn that are passed over at once
-  pub measured-passed : {at n : ℕ} {pl : Bool} {d : Due} (r : Passed) → Passes f e l d at r → Measuring (stepOf f e) x l at n pl d
-      → Measuring (stepOf f e) x l (r .at) (n + r .n) (pl && r .plain) d
-  measured-passed {at} {n} {pl} {d} r p m =
-      subst (λ (y : Bool). Measuring (stepOf f e) y l (r .at) (n + r .n) (pl && r .plain) d) (sym ex)
-      (p .goes n pl (subst (λ (y : Bool). Measuring (stepOf f e) y l at n pl d) ex m))
-
--- a byte that breaks a text is one of the turn's
-pub broken-inside : (p : Piece) (d : Due) (v : List ℕ) (q : ℕ) → BrokenAt p d v q → q ≤ length v
-broken-inside Piece′.Keep d v q b = omega (arith, b .inside)
-broken-inside (Piece′.Byte a j) d v q b = omega arith
-broken-inside (Piece′.Two a c j) d v q b = omega arith
-broken-inside (Piece′.Scalar a j) d v q b = omega arith
-broken-inside (Piece′.Escape j) d v q b = omega arith
-broken-inside Piece′.Refused d v q b = omega arith
-
--- THE STOPS by the family
-module _ (f : Family) (e : List ℕ) where
-  pub stops-hidden : (m : Mark) (bs : Bool) → f ≡ Standard m bs → bs ≡ true → (q : ℕ) → q ≡ markOf m
-      → _≡_ {A = Stops} (record { first = q; second = 92; third = q }) (stopsOf f e)
-  unfolding stopsOf
-  stops-hidden m bs ef eb q eq = rw (ef, eb, eq)
-
-  pub stops-shown : (m : Mark) (bs : Bool) → f ≡ Standard m bs → bs ≡ false → (q : ℕ) → q ≡ markOf m
-      → _≡_ {A = Stops} (record { first = q; second = q; third = q }) (stopsOf f e)
-  unfolding stopsOf
-  stops-shown m bs ef eb q eq = rw (ef, eb, eq)
-
-  pub stops-escape : f ≡ Escape → _≡_ {A = Stops} (record { first = 39; second = 92; third = 39 }) (stopsOf f e)
-  unfolding stopsOf
-  stops-escape ef = rw ef
-
-  pub stops-unicode : (m : Mark) → f ≡ Unicode m → (q : ℕ) → q ≡ markOf m → (b : ℕ) → b ≡ e ! 0
-      → _≡_ {A = Stops} (record { first = q; second = b; third = q }) (stopsOf f e)
-  unfolding stopsOf
-  stops-unicode m ef q eq b eb = rw (ef, eq, eb)
+      pub passes-length : s .plain ≡ false → Passes (courseOf f e l) d (Length (s .n)) out
+      passes-length q = record { answer = rw (ends .plainly, q, ends .goes, ends .counted); buffer = λ g. written }

@@ -3,16 +3,15 @@ use mathlib.Core.Bool.{Bool, true, false}
 use mathlib.Core.List.{List}
 use Prim.Native.Nat.{ℕ}
 use lib.ListN.{length}
-use Rattle.meaning.specs.Bytes.{if_then_else_, _!_, quote, backslash}
+use Rattle.meaning.specs.Bytes.{if_then_else_}
 use Rattle.meaning.specs.Chars.{Due, fresh, pushes}
 use Rattle.meaning.specs.Walk.{Step, Trace, walk, size, stops, plain, value}
 use Rattle.meaning.specs.Steps.{standardStep, escapeStep, checked, unicodeStep}
-use Rattle.leaves.specs.declared.blocks.Stops.{Stops}
 use Rattle.cutting.specs.Marks.{markOf}
 use Rattle.escapes.specs.declared.units.Family.{Family}
 use Rattle.escapes.specs.declared.units.Family.the-variants.{Standard, Escape, Unicode}
-use Rattle.escapes.specs.declared.measuring.Measured.{Measured}
-use Rattle.escapes.specs.declared.measuring.Measured.the-variants.{Plain, Length, Refused}
+use Rattle.escapes.specs.declared.passing.Measured.{Measured}
+use Rattle.escapes.specs.declared.passing.Measured.the-variants.{Plain, Length, Refused}
 
 -- by the escape character's bytes e
 abbrev pub stepOf : Family → List ℕ → List ℕ → Step
@@ -35,9 +34,3 @@ courseOf f e t = if checks f then checked fresh (walk (stepOf f e) 0 t) else wal
 
 abbrev pub measuredOf : Trace → Measured
 measuredOf r = if plain r then Plain else if stops r then Refused (size r) else Length (length (value r))
-
--- the bytes that end a run of bytes which stand for themselves: the mark, and what may begin an escape
-unfoldable pub stopsOf : Family → List ℕ → Stops
-stopsOf (Standard m bs) e = record { first = markOf m; second = if bs then backslash else markOf m; third = markOf m }
-stopsOf Escape e = record { first = quote; second = backslash; third = quote }
-stopsOf (Unicode m) e = record { first = markOf m; second = e ! 0; third = markOf m }

@@ -1,5 +1,4 @@
 pub mod Digits
 pub mod Pieces
 pub mod Families
-pub mod Standard
-pub mod Quick
+pub mod Passing

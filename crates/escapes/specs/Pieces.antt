@@ -2,12 +2,14 @@
 use mathlib.Core.Bool.{Bool, true, false}
 use mathlib.Core.Path.{_≡_}
 use mathlib.Core.List.{List, [], _∷_}
-use Prim.Native.Nat.{ℕ, _<_}
+use Prim.Native.Nat.{ℕ, _≤_}
 use lib.Dec.{ltb}
-use lib.ListN.{length, take, getD}
+use lib.ListN.{length}
 use Rattle.meaning.specs.Bytes.{if_then_else_}
-use Rattle.meaning.specs.Chars.{Due, broken, push, pushes, encode, isScalar}
+use Rattle.meaning.specs.Chars.{encode, isScalar}
 use Rattle.meaning.specs.Walk.{Step, keep, give, stop}
+use Rattle.meaning.specs.Answers.{filled}
+use Rattle.laws.proofs.walking.Courses.{stands}
 use Rattle.meaning.specs.Steps.{byteOf, escapeTable, mayEscape}
 use Rattle.escapes.specs.declared.pieces.Piece.{Piece}
 use Rattle.escapes.specs.declared.pieces.Piece.the-variants.{Keep, Byte, Two, Scalar, Escape, Refused}
@@ -45,15 +47,14 @@ pub record Is (r : Piece) (s : Step) : Type 0 where
   pub means : (e : List ℕ) → meaningOf e r ≡ s
   pub sound : Sound r
 
--- the bytes that it takes behind its first, where one that stands for itself is taken with n more of its kind; whether it is such; the bytes that it stands
--- for, where v are those that stand for themselves
-abbrev pub moreBy : Piece → ℕ → ℕ
-moreBy Keep n = n
-moreBy (Byte b m) n = m
-moreBy (Two b c m) n = m
-moreBy (Scalar c m) n = m
-moreBy (Escape m) n = m
-moreBy Refused n = 0
+-- the bytes that it takes behind its first; whether it stands for itself
+abbrev pub moreOf : Piece → ℕ
+moreOf Keep = 0
+moreOf (Byte b m) = m
+moreOf (Two b c m) = m
+moreOf (Scalar c m) = m
+moreOf (Escape m) = m
+moreOf Refused = 0
 
 abbrev pub isKeep : Piece → Bool
 isKeep Keep = true
@@ -63,34 +64,16 @@ isKeep (Scalar c m) = false
 isKeep (Escape m) = false
 isKeep Refused = false
 
-abbrev pub bytesOf : Piece → List ℕ → List ℕ → List ℕ
-bytesOf Keep v e = v
-bytesOf (Byte c m) v e = c ∷ []
-bytesOf (Two c d m) v e = c ∷ d ∷ []
-bytesOf (Scalar c m) v e = encode c
-bytesOf (Escape m) v e = e
-bytesOf Refused v e = []
+-- the bytes that it stands for, b its first
+abbrev pub bytesOf : List ℕ → Piece → ℕ → List ℕ
+bytesOf e p b = stands (meaningOf e p) b
 
--- the byte q of v is the one that breaks a text in the state d
-pub record BreaksAt (d : Due) (v : List ℕ) (q : ℕ) : Type 0 where
-  pub inside : q < length v
-  pub before : pushes d (take q v) ≡ broken → ⊥
-  pub there : push (pushes d (take q v)) (getD v q 0) ≡ broken
+-- bytes are put at a buffer's start where there is room for them; how many they are is told in any case
+pub record Lays (v out : List ℕ) (r : ℕ) (after : List ℕ) : Type 0 where
+  pub answer : r ≡ length v
+  pub buffer : after ≡ filled v out
 
--- at which byte of a turn's own bytes v it breaks a text; a unit breaks it at its first
-abbrev pub BrokenAt : Piece → Due → List ℕ → ℕ → Type 0
-BrokenAt Keep d v q = BreaksAt d v q
-BrokenAt (Byte b m) d v q = q ≡ 0
-BrokenAt (Two b c m) d v q = q ≡ 0
-BrokenAt (Scalar c m) d v q = q ≡ 0
-BrokenAt (Escape m) d v q = q ≡ 0
-BrokenAt Refused d v q = q ≡ 0
-
--- bytes that stand for themselves break it
-abbrev pub Breaks : Piece → Due → List ℕ → Type 0
-Breaks Keep d v = (d ≡ broken → ⊥) × (pushes d v ≡ broken)
-Breaks (Byte b m) d v = Unit {0}
-Breaks (Two b c m) d v = Unit {0}
-Breaks (Scalar c m) d v = Unit {0}
-Breaks (Escape m) d v = Unit {0}
-Breaks Refused d v = Unit {0}
+-- the lesser of a and b
+pub record Least (a b r : ℕ) : Type 0 where
+  pub most : r ≤ b
+  pub first : a ≤ b → r ≡ a

@@ -54,7 +54,7 @@ fn are_there(body: &[u8], at: usize, n: usize) -> bool
 }
 
 // Two bytes from a place on as hex digits.
-// Rules out: the digits' order turned; the second not looked at (must-fail: wrong_digits, wrong_quick).
+// Rules out: the digits' order turned; the second not looked at (must-fail: bytes_exchanged, second_digit_not_looked_at).
 fn two_hexes(body: &[u8], at: usize) -> Hexes
     requires { ⌜ at + 2 ≤ length (now body) ⌝ }
     ensures { λ r. ⌜ Group 2 (drop at (now (body .entry))) r ⌝ }
@@ -110,7 +110,7 @@ pub(crate) fn six_at(body: &[u8], at: usize) -> u32
 }
 
 // The number that eight hex digits at a place make; 0 where they are not there.
-// Rules out: some of the first four digits read twice (must-fail: counted_twice).
+// Rules out: some of the first four digits read twice (must-fail: digits_read_twice).
 pub(crate) fn eight_at(body: &[u8], at: usize) -> u32
     ensures { λ r. ⌜ r ≡ hexBy 8 (drop at (now (body .entry))) ⌝ }
 {

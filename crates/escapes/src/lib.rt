@@ -1,8 +1,7 @@
-// [01 One segment] The escape families: what stands at a place of a body, and how long a body's value is. One enum names the family, one function reads a
-// unit, and one pass measures them all.
+// [01 One segment] The escape families: what stands at a place of a body, and what a body means. One enum names the family, one function reads a unit, and
+// one pass, by units, serves them all.
 mod digits;
-pub mod measuring;
+mod passing;
 pub mod pieces;
-mod quick;
-pub mod standard;
+pub mod reading;
 pub mod units;

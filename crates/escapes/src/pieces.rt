@@ -1,6 +1,5 @@
 // A unit of a body: how many bytes it takes, and which bytes it stands for.
-use leaves::blocks::Stops;
-use leaves::blocks::free_run;
+use leaves::puts::put_bytes;
 use scalars::encoding::encode_utf8;
 use scalars::encoding::utf8_len;
 use utf8::check::utf8_from;
@@ -8,15 +7,12 @@ use utf8::tail::Utf8Tail;
 use utf8::tail::utf8_tail_push;
 ghost use mathlib.Core.Path.{_≡_};
 ghost use mathlib.Core.Bool.{true};
-ghost use lib.ListN.{length, drop};
-ghost use Rattle.meaning.specs.Bytes.{span};
-ghost use Rattle.meaning.specs.Chars.{broken, pushes, encode, isScalar};
-ghost use Rattle.leaves.specs.Blocks.{freeOf};
+ghost use mathlib.Core.List.{[], _∷_};
+ghost use Rattle.meaning.specs.Chars.{pushes, encode, isScalar};
 ghost use Rattle.utf8.specs.Tails.{dueOf};
-ghost use Rattle.escapes.specs.Pieces.{moreBy, bytesOf, isKeep, Sound, Breaks, BreaksAt, BrokenAt};
+ghost use Rattle.escapes.specs.Pieces.{moreOf, isKeep, bytesOf, Sound, Lays};
 
-// What stands at a place of a body. `more` counts the bytes behind the unit's first. It stands last, so that no variant has its bytes where another has its
-// scalar: what is written in parts and read whole is read late.
+// What stands at a place of a body. `more` counts the bytes behind the unit's first.
 pub enum Piece {
     // a byte that stands for itself
     Keep,
@@ -28,13 +24,13 @@ pub enum Piece {
     Refused,
 }
 
-// How many bytes a turn takes behind its first: a byte that stands for itself goes on to the next that may not. `at` is the place behind the first.
-// Rules out: a unit of two bytes taken for one; an escape character written twice taken for one byte (must-fail: unit_at_the_start, wrong_units).
-pub fn turn_more(piece: Piece, body: &[u8], at: usize, stops: Stops) -> usize
-    ensures { λ r. ⌜ r ≡ moreBy piece (span (freeOf stops) (drop at (now (body .entry)))) ⌝ }
+// How many bytes a unit takes behind its first.
+// Rules out: a unit of two bytes taken for one; a scalar taken for the number of its bytes (must-fail: scalar_for_its_bytes, two_bytes_taken_for_one).
+pub(crate) fn piece_more(piece: Piece) -> usize
+    ensures { λ r. ⌜ r ≡ moreOf piece ⌝ }
 {
     match piece {
-        Piece::Keep => free_run(body, at, stops),
+        Piece::Keep => 0,
         Piece::Byte { more, byte: _ } => more,
         Piece::Two {
             more,
@@ -48,8 +44,8 @@ pub fn turn_more(piece: Piece, body: &[u8], at: usize, stops: Stops) -> usize
 }
 
 // Whether a unit is a byte that stands for itself.
-// Rules out: no unit one; a byte that an escape stands for called one (must-fail: unit_at_the_start, body_for_escape).
-pub fn is_keep(piece: Piece) -> bool
+// Rules out: no unit one; a byte that an escape stands for called one (must-fail: escape_stands_for_itself, none_stands_for_itself).
+pub(crate) fn is_keep(piece: Piece) -> bool
     ensures { λ r. ⌜ r ≡ isKeep piece ⌝ }
 {
     match piece {
@@ -66,31 +62,13 @@ pub fn is_keep(piece: Piece) -> bool
     }
 }
 
-// How many bytes a turn stands for; `part` are the bytes that it takes, and `escape` is the escape character.
-pub(crate) fn piece_len(piece: Piece, part: &[u8], escape: &[u8]) -> usize
-    ensures { λ r. ⌜ r ≡ length (bytesOf piece (now (part .entry)) (now (escape .entry))) ⌝ }
-{
-    match piece {
-        Piece::Keep => part.len(),
-        Piece::Byte { more: _, byte: _ } => 1,
-        Piece::Two {
-            more: _,
-            first: _,
-            second: _,
-        } => 2,
-        Piece::Scalar { more: _, scalar } => utf8_len(scalar),
-        Piece::Escape { more: _ } => escape.len(),
-        Piece::Refused => 0,
-    }
-}
-
-// The UTF-8 state behind the bytes that a turn stands for.
-pub(crate) fn piece_tail(tail: Utf8Tail, piece: Piece, part: &[u8], escape: &[u8]) -> Utf8Tail
+// The UTF-8 state behind the bytes that a unit stands for; `byte` is its first.
+pub(crate) fn piece_tail(tail: Utf8Tail, piece: Piece, byte: u8, escape: &[u8]) -> Utf8Tail
     requires { ⌜ Sound piece ⌝ }
-    ensures { λ r. ⌜ dueOf r ≡ pushes (dueOf tail) (bytesOf piece (now (part .entry)) (now (escape .entry))) ⌝ }
+    ensures { λ r. ⌜ dueOf r ≡ pushes (dueOf tail) (bytesOf (now (escape .entry)) piece byte) ⌝ }
 {
     match piece {
-        Piece::Keep => utf8_from(tail, part),
+        Piece::Keep => utf8_tail_push(tail, byte),
         Piece::Byte {
             more: _,
             byte: value,
@@ -106,7 +84,8 @@ pub(crate) fn piece_tail(tail: Utf8Tail, piece: Piece, part: &[u8], escape: &[u8
     }
 }
 
-// The UTF-8 state behind a scalar's encoding: between characters it is as before, and inside one it is broken.
+// The UTF-8 state behind a scalar's encoding: between characters it is as before, and inside one it is broken, since no encoding begins with a later byte.
+// Rules out: a scalar inside a character passed (must-fail: inside_a_character_unbroken).
 fn scalar_tail(tail: Utf8Tail, scalar: u32) -> Utf8Tail
     requires { ⌜ isScalar scalar ≡ true ⌝ }
     ensures { λ r. ⌜ dueOf r ≡ pushes (dueOf tail) (encode scalar) ⌝ }
@@ -114,44 +93,56 @@ fn scalar_tail(tail: Utf8Tail, scalar: u32) -> Utf8Tail
     if let Utf8Tail::Start = tail {
         return Utf8Tail::Start;
     }
-    let mut bytes = [0u8; 4];
-    let n = encode_utf8(scalar, &mut bytes);
-    utf8_from(tail, &bytes[..n])
+    Utf8Tail::Broken
 }
 
-// How many bytes a text goes on before the one that breaks it.
-fn breaks_at(tail: Utf8Tail, bytes: &[u8]) -> usize
-    requires { ⌜ (dueOf tail ≡ broken → ⊥) × (pushes (dueOf tail) (now bytes) ≡ broken) ⌝ }
-    ensures { λ r. ⌜ BreaksAt (dueOf tail) (now (bytes .entry)) r ⌝ }
-{
-    let mut state = tail;
-    let mut i: usize = 0;
-    while i < bytes.len() {
-        let next = utf8_tail_push(state, bytes[i]);
-        if let Utf8Tail::Broken = next {
-            return i;
-        }
-        state = next;
-        i += 1;
-    }
-    i
-}
-
-// At which byte a turn that breaks a text breaks it.
-pub(crate) fn broken_at(tail: Utf8Tail, piece: Piece, part: &[u8]) -> usize
-    requires { ⌜ Breaks piece (dueOf tail) (now part) ⌝ }
-    ensures { λ r. ⌜ BrokenAt piece (dueOf tail) (now (part .entry)) r ⌝ }
+// Puts the bytes that a unit stands for at the buffer's start where there is room, and says how many they are in any case.
+pub(crate) fn lay_piece(piece: Piece, byte: u8, escape: &[u8], out: &mut [u8]) -> usize
+    requires { ⌜ Sound piece ⌝ }
+    ensures { λ r. ⌜ Lays (bytesOf (now (escape .entry)) piece byte) (now (out .entry)) r (now (out .exit)) ⌝ }
 {
     match piece {
-        Piece::Keep => breaks_at(tail, part),
-        Piece::Byte { more: _, byte: _ } => 0,
+        Piece::Keep => lay_byte(byte, out),
+        Piece::Byte {
+            more: _,
+            byte: value,
+        } => lay_byte(value, out),
         Piece::Two {
             more: _,
-            first: _,
-            second: _,
-        } => 0,
-        Piece::Scalar { more: _, scalar: _ } => 0,
-        Piece::Escape { more: _ } => 0,
+            first,
+            second,
+        } => lay_two(first, second, out),
+        Piece::Scalar { more: _, scalar } => {
+            encode_utf8(scalar, out);
+            utf8_len(scalar)
+        }
+        Piece::Escape { more: _ } => {
+            put_bytes(escape, out);
+            escape.len()
+        }
         Piece::Refused => 0,
     }
+}
+
+// One byte at the buffer's start, where there is room.
+fn lay_byte(byte: u8, out: &mut [u8]) -> usize
+    ensures { λ r. ⌜ Lays (byte ∷ []) (now (out .entry)) r (now (out .exit)) ⌝ }
+{
+    if out.len() < 1 {
+        return 1;
+    }
+    out[0] = byte;
+    1
+}
+
+// Two bytes at the buffer's start, where there is room.
+fn lay_two(first: u8, second: u8, out: &mut [u8]) -> usize
+    ensures { λ r. ⌜ Lays (first ∷ second ∷ []) (now (out .entry)) r (now (out .exit)) ⌝ }
+{
+    if out.len() < 2 {
+        return 2;
+    }
+    out[0] = first;
+    out[1] = second;
+    2
 }

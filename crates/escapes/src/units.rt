@@ -6,7 +6,6 @@ use crate::digits::six_at;
 use crate::pieces::Piece;
 use cutting::marks::Mark;
 use cutting::marks::mark_byte;
-use leaves::blocks::Stops;
 use leaves::bytes::byte_at;
 use leaves::texts::starts_at;
 use scalars::encoding::is_scalar;
@@ -18,50 +17,13 @@ ghost use Rattle.meaning.specs.Bytes.{if_then_else_, starts, digit};
 ghost use Rattle.meaning.specs.Steps.{byteOf, mysqlTable, doubled, mysql, oneByte, escaped, lowHalf, uescaped};
 ghost use Rattle.cutting.specs.Marks.{markOf};
 ghost use Rattle.escapes.specs.Pieces.{Is, IsBy, scalarOf, letterOf};
-ghost use Rattle.escapes.specs.Families.{stepOf, stopsOf};
+ghost use Rattle.escapes.specs.Families.{stepOf};
 
 // How a body is read: with MySQL's escapes or without them, by E's rules, or by U&'s.
 pub enum Family {
     Standard { mark: Mark, backslash: bool },
     Escape,
     Unicode { mark: Mark },
-}
-
-// The bytes that end a run of bytes which stand for themselves.
-// Rules out: a body's escapes taken into its runs; the other mark looked for (must-fail: body_for_escape, unit_at_the_start).
-pub fn run_stops(family: Family, escape: &[u8]) -> Stops
-    ensures { λ r. ⌜ r ≡ stopsOf family (now (escape .entry)) ⌝ }
-{
-    match family {
-        Family::Standard { mark, backslash } => {
-            let first = mark_byte(mark);
-            if backslash {
-                return Stops {
-                    first,
-                    second: 92,
-                    third: first,
-                };
-            }
-            Stops {
-                first,
-                second: first,
-                third: first,
-            }
-        }
-        Family::Escape => Stops {
-            first: 39,
-            second: 92,
-            third: 39,
-        },
-        Family::Unicode { mark } => {
-            let first = mark_byte(mark);
-            Stops {
-                first,
-                second: byte_at(escape, 0),
-                third: first,
-            }
-        }
-    }
 }
 
 // The mark at a place: doubled it is one, alone it refuses. `at` is the place behind it.
@@ -132,7 +94,7 @@ fn byte_unit(more: usize, byte: u8) -> Piece
 }
 
 // A scalar that hex digits make, 0 where they are not there; the unit takes `more` bytes behind its first.
-// Rules out: a lone half accepted (must-fail: wrong_digits).
+// Rules out: a lone half accepted (must-fail: lone_half_taken).
 fn scalar_unit(more: usize, value: u32) -> Piece
     ensures { λ r. ⌜ Is r (scalarOf more value) ⌝ }
 {
@@ -159,7 +121,7 @@ fn choose(test: bool, yes: u8, no: u8) -> u8
 }
 
 // The byte that a letter behind E's backslash stands for: by the table, or the letter itself.
-// Rules out: \t read as \n (must-fail: wrong_digits).
+// Rules out: \t read as \n (must-fail: letter_of_another).
 fn escape_letter(letter: u8) -> u8
     ensures { λ r. ⌜ r ≡ letterOf letter ⌝ }
 {
@@ -208,7 +170,7 @@ fn escaped_unit(body: &[u8], at: usize) -> Piece
 }
 
 // Whether the U& escape character stands at a place: nearly always it is one byte.
-// Rules out: the first byte of a longer one taken for it (must-fail: wrong_digits).
+// Rules out: the first byte of a longer one taken for it (must-fail: first_byte_for_all).
 fn stands_at(body: &[u8], at: usize, escape: &[u8]) -> bool
     ensures { λ r. ⌜ r ≡ starts (now (escape .entry)) (drop at (now (body .entry))) ⌝ }
 {
@@ -312,7 +274,7 @@ fn unit_inside(body: &[u8], at: usize, family: Family, escape: &[u8]) -> Piece
 }
 
 // The unit at a place of a body; behind its end nothing stands, and nothing can be read.
-// Rules out: the unit at the start told; the body taken for the escape character (must-fail: body_for_escape, unit_at_the_start).
+// Rules out: the unit at the start told; the body taken for the escape character (must-fail: body_for_escape, every_body_as_e, unit_at_the_start).
 pub fn unit_at(body: &[u8], at: usize, family: Family, escape: &[u8]) -> Piece
     ensures { λ r. ⌜ IsBy (now (escape .entry)) r (stepOf family (now (escape .entry)) (drop at (now (body .entry)))) ⌝ }
 {

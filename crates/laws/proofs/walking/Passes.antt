@@ -71,7 +71,7 @@ pub record Measuring (step : List ℕ → Step) (x : Bool) (l : List ℕ) (at n 
   pub state : d ≡ (if x then pushes fresh (value (so-far .course)) else fresh)
   pub unbroken : Unbroken d
 
-pub measuring-none : (step : List ℕ → Step) (x : Bool) (l : List ℕ) → Measuring step x l 0 0 true fresh
+unfoldable pub measuring-none : (step : List ℕ → Step) (x : Bool) (l : List ℕ) → Measuring step x l 0 0 true fresh
 unfolding so-far-none
 measuring-none step x l = record { so-far = so-far-none step l; counted = refl; short = omega arith; plainly = refl; state = same x; unbroken = tt }
   where
@@ -88,7 +88,7 @@ behind true c (due n lo hi) h e g q = checked-graft fresh c q n lo hi h (sym e)
 
 module _ {step : List ℕ → Step} {x : Bool} {l : List ℕ} {at n : ℕ} {p : Bool} {d : Due} (m : Measuring step x l at n p d) where
   -- a turn: what it stands for is counted, and the state goes past that
-  pub measuring-turn : (v : List ℕ) (y : Bool) (at′ n′ : ℕ) (p′ : Bool) (d′ : Due) → Taken (m .so-far) v y at′ → n + length v ≡ n′ → (p && y) ≡ p′
+  unfoldable pub measuring-turn : (v : List ℕ) (y : Bool) (at′ n′ : ℕ) (p′ : Bool) (d′ : Due) → Taken (m .so-far) v y at′ → n + length v ≡ n′ → (p && y) ≡ p′
       → d′ ≡ (if x then pushes d v else d) → Unbroken d′ → Measuring step x l at′ n′ p′ d′
   measuring-turn v y at′ n′ p′ d′ f en ep ed ub =
       let s = m .so-far in

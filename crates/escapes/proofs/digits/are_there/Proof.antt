@@ -7,11 +7,8 @@ use Rattle.escapes.proofs.digits.are_there.Tie as tie
 returns : tie.Need-returns
 returns c = search there-none
 
-sub-result : tie.Need-sub-result
-sub-result c = search needs
-
 returns-2 : tie.Need-returns-2
 returns-2 c = search there-by
 
 pub are-there-spec : {M : Type 1} → statement M
-are-there-spec = tie.close (tie.spec returns sub-result returns-2)
+are-there-spec = tie.close (tie.spec returns (λ c. search needs) returns-2)

@@ -29,20 +29,11 @@ fits c =
 returns : tie.Need-returns Inv-loop μ-loop
 returns c = let a = c .before .before .args in running-over (running-none _ _ (now (a .body)) (a .at)) (omega arith)
 
-sub-left : tie.Need-sub-left Inv-loop μ-loop
-sub-left c = omega arith
-
 loop-holds : tie.Need-loop-holds Inv-loop μ-loop
 loop-holds c = running-none _ _ _ _
 
 returns-2 : tie.Need-returns-2 Inv-loop μ-loop
 returns-2 c = running-over (c .before .before .loop .inv) (c .if2 .taken)
-
-add-hex-value : tie.Need-add-hex-value Inv-loop μ-loop
-add-hex-value c = omega arith
-
-shared-slice-read-hex-value : tie.Need-shared-slice-read-hex-value Inv-loop μ-loop
-shared-slice-read-hex-value c = omega arith
 
 hex-value-requires : tie.Need-hex-value-requires Inv-loop μ-loop
 hex-value-requires c κs = tt
@@ -59,12 +50,6 @@ cast-value c = omega (arith, fits c)
 add-value : tie.Need-add-value Inv-loop μ-loop
 add-value c = omega (arith, fits c)
 
-add-count : tie.Need-add-count Inv-loop μ-loop
-add-count c = omega arith
-
-loop-less : tie.Need-loop-less Inv-loop μ-loop
-loop-less c = omega arith
-
 loop-again : tie.Need-loop-again Inv-loop μ-loop
 loop-again c = turn c
 
@@ -78,17 +63,17 @@ digits-at-spec =
     Inv-loop
     μ-loop
     returns
-    sub-left
+    (λ c. omega arith)
     loop-holds
     returns-2
-    add-hex-value
-    shared-slice-read-hex-value
+    (λ c. omega arith)
+    (λ c. omega arith)
     hex-value-requires
     returns-3
     mul-value
     cast-value
     add-value
-    add-count
-    loop-less
+    (λ c. omega arith)
+    (λ c. omega arith)
     loop-again
     returns-4)

@@ -28,9 +28,6 @@ group c =
     let a = c .before .before .before .before .before .args in
     group-beside 4 4 (now (a .body)) (a .at) _ _ (there (c .before .before)) (c .before .four-hexes .ensures) (c .four-hexes2 .ensures)
 
-are-there-requires : tie.Need-are-there-requires
-are-there-requires c κs = search needs
-
 returns : tie.Need-returns
 returns c = let a = c .before .before .before .args in
     hex-short 8 (now (a .body)) (a .at) (omega arith) (sym (c .before .are-there .ensures) ∙ not-true _ (c .if1 .taken))
@@ -74,7 +71,7 @@ pub eight-at-spec : {M : Type 1} → statement M
 eight-at-spec =
     tie.close
     (tie.spec
-    are-there-requires
+    (λ c κs. search needs)
     returns
     four-hexes-requires
     add-four-hexes

@@ -8,9 +8,6 @@ use borrow.Author.Needs.{needs}
 use Rattle.escapes.proofs.digits.four_at.Statement.{statement}
 use Rattle.escapes.proofs.digits.four_at.Tie as tie
 
-are-there-requires : tie.Need-are-there-requires
-are-there-requires c κs = search needs
-
 returns : tie.Need-returns
 returns c = let a = c .before .before .before .args in
     hex-short 4 (now (a .body)) (a .at) (omega arith) (sym (c .before .are-there .ensures) ∙ not-true _ (c .if1 .taken))
@@ -26,4 +23,4 @@ returns-3 c = hex-none (c .before .four-hexes .ensures) (c .if2 .left)
 
 pub four-at-spec : {M : Type 1} → statement M
 four-at-spec =
-    tie.close (tie.spec are-there-requires returns four-hexes-requires returns-2 returns-3)
+    tie.close (tie.spec (λ c κs. search needs) returns four-hexes-requires returns-2 returns-3)

@@ -6,15 +6,6 @@ use borrow.Author.Needs.{needs}
 use Rattle.escapes.proofs.digits.four_hexes.Statement.{statement}
 use Rattle.escapes.proofs.digits.four_hexes.Tie as tie
 
-two-hexes-requires : tie.Need-two-hexes-requires
-two-hexes-requires c κs = search needs
-
-add-two-hexes : tie.Need-add-two-hexes
-add-two-hexes c = search needs
-
-two-hexes-requires-2 : tie.Need-two-hexes-requires-2
-two-hexes-requires-2 c κs = search needs
-
 mul-t7 : tie.Need-mul-t7
 mul-t7 c = omega (arith, group-two-most (c .before .before .before .before .two-hexes .ensures))
 
@@ -35,4 +26,4 @@ returns c =
 pub four-hexes-spec : {M : Type 1} → statement M
 four-hexes-spec =
     tie.close
-    (tie.spec two-hexes-requires add-two-hexes two-hexes-requires-2 mul-t7 add-t8 returns)
+    (tie.spec (λ c κs. search needs) (λ c. search needs) (λ c κs. search needs) mul-t7 add-t8 returns)

@@ -28,9 +28,6 @@ group c =
     let a = c .before .before .before .before .before .args in
     group-beside 2 4 (now (a .body)) (a .at) _ _ (there (c .before .before)) (c .before .two-hexes .ensures) (c .four-hexes .ensures)
 
-are-there-requires : tie.Need-are-there-requires
-are-there-requires c κs = search needs
-
 returns : tie.Need-returns
 returns c = let a = c .before .before .before .args in
     hex-short 6 (now (a .body)) (a .at) (omega arith) (sym (c .before .are-there .ensures) ∙ not-true _ (c .if1 .taken))
@@ -67,7 +64,7 @@ pub six-at-spec : {M : Type 1} → statement M
 six-at-spec =
     tie.close
     (tie.spec
-    are-there-requires
+    (λ c κs. search needs)
     returns
     two-hexes-requires
     add-four-hexes

@@ -6,12 +6,6 @@ use borrow.Author.Needs.{needs}
 use Rattle.escapes.proofs.units.doubled_unit.Statement.{statement}
 use Rattle.escapes.proofs.units.doubled_unit.Tie as tie
 
-mark-byte-requires : tie.Need-mark-byte-requires
-mark-byte-requires c κs = search needs
-
-byte-at-requires : tie.Need-byte-at-requires
-byte-at-requires c κs = search needs
-
 returns : tie.Need-returns
 returns c =
     let a = c .before .before .before .before .args in
@@ -23,4 +17,4 @@ returns-2 c =
     doubled-alone (markOf (a .mark)) _ _ (now (a .body)) (a .at) (c .before .before .mark-byte .ensures) (c .before .byte-at .ensures) (c .if1 .left)
 
 pub doubled-unit-spec : {M : Type 1} → statement M
-doubled-unit-spec = tie.close (tie.spec mark-byte-requires byte-at-requires returns returns-2)
+doubled-unit-spec = tie.close (tie.spec (λ c κs. search needs) (λ c κs. search needs) returns returns-2)

@@ -4,21 +4,6 @@ use borrow.Author.Needs.{needs}
 use Rattle.escapes.proofs.units.escape_letter.Statement.{statement}
 use Rattle.escapes.proofs.units.escape_letter.Tie as tie
 
-choose-requires : tie.Need-choose-requires
-choose-requires c κs = search needs
-
-choose-requires-2 : tie.Need-choose-requires-2
-choose-requires-2 c κs = search needs
-
-choose-requires-3 : tie.Need-choose-requires-3
-choose-requires-3 c κs = search needs
-
-choose-requires-4 : tie.Need-choose-requires-4
-choose-requires-4 c κs = search needs
-
-choose-requires-5 : tie.Need-choose-requires-5
-choose-requires-5 c κs = search needs
-
 returns : tie.Need-returns
 returns c =
     rw (
@@ -34,9 +19,9 @@ pub escape-letter-spec : {M : Type 1} → statement M
 escape-letter-spec =
     tie.close
     (tie.spec
-    choose-requires
-    choose-requires-2
-    choose-requires-3
-    choose-requires-4
-    choose-requires-5
+    (λ c κs. search needs)
+    (λ c κs. search needs)
+    (λ c κs. search needs)
+    (λ c κs. search needs)
+    (λ c κs. search needs)
     returns)

@@ -17,18 +17,9 @@ there c =
     hex-there 4 (now (a .body)) (a .at + length (now (a .escape))) (c .before .before .four-at .result) (c .before .before .four-at .ensures)
     (λ z. omega (arith, c .before .if2 .left))
 
-stands-at-requires : tie.Need-stands-at-requires
-stands-at-requires c κs = search needs
-
 returns : tie.Need-returns
 returns c = let a = c .before .before .before .before .args in
     low-absent (now (a .escape)) (now (a .body)) (a .at) _ (sym (c .before .stands-at .ensures) ∙ not-true _ (c .if1 .taken))
-
-add-next : tie.Need-add-next
-add-next c = search needs
-
-four-at-requires : tie.Need-four-at-requires
-four-at-requires c κs = search needs
 
 returns-2 : tie.Need-returns-2
 returns-2 c = let a = c .before .before .before .before .before .before .args in
@@ -44,24 +35,6 @@ returns-3 c = let a = c .before .before .before .before .before .before .before 
 add-t10 : tie.Need-add-t10
 add-t10 c = omega (arith, there c)
 
-sub-t11 : tie.Need-sub-t11
-sub-t11 c = search needs
-
-sub-t12 : tie.Need-sub-t12
-sub-t12 c = search needs
-
-sub-t13 : tie.Need-sub-t13
-sub-t13 c = search needs
-
-mul-t14 : tie.Need-mul-t14
-mul-t14 c = search needs
-
-add-t15 : tie.Need-add-t15
-add-t15 c = search needs
-
-add-t17 : tie.Need-add-t17
-add-t17 c = search needs
-
 returns-4 : tie.Need-returns-4
 returns-4 c =
     let a = c .before .before .before .before .before .before .before .args in
@@ -75,17 +48,17 @@ pub low-half-unit-spec : {M : Type 1} → statement M
 low-half-unit-spec =
     tie.close
     (tie.spec
-    stands-at-requires
+    (λ c κs. search needs)
     returns
-    add-next
-    four-at-requires
+    (λ c. search needs)
+    (λ c κs. search needs)
     returns-2
     returns-3
     add-t10
-    sub-t11
-    sub-t12
-    sub-t13
-    mul-t14
-    add-t15
-    add-t17
+    (λ c. search needs)
+    (λ c. search needs)
+    (λ c. search needs)
+    (λ c. search needs)
+    (λ c. search needs)
+    (λ c. search needs)
     returns-4)

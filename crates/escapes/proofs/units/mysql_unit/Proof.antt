@@ -7,15 +7,6 @@ use Rattle.escapes.proofs.units.mysql_unit.Tie as tie
 returns : tie.Need-returns
 returns c = mysql-end _ _ (c .if1 .taken)
 
-shared-slice-read-letter : tie.Need-shared-slice-read-letter
-shared-slice-read-letter c = search needs
-
-mysql-letter-requires : tie.Need-mysql-letter-requires
-mysql-letter-requires c κs = search needs
-
-cast-t9 : tie.Need-cast-t9
-cast-t9 c = search needs
-
 returns-2 : tie.Need-returns-2
 returns-2 c = mysql-letter _ _ (c .before .before .before .if1 .left) _ (c .before .mysql-letter .ensures) (c .if2 .taken)
 
@@ -32,9 +23,9 @@ mysql-unit-spec =
     tie.close
     (tie.spec
     returns
-    shared-slice-read-letter
-    mysql-letter-requires
-    cast-t9
+    (λ c. search needs)
+    (λ c κs. search needs)
+    (λ c. search needs)
     returns-2
     returns-3
     returns-4)

@@ -9,9 +9,6 @@ use Rattle.escapes.proofs.units.scalar_unit.Tie as tie
 returns : tie.Need-returns
 returns c = scalar-zero _ _ (c .if1 .taken)
 
-is-scalar-requires : tie.Need-is-scalar-requires
-is-scalar-requires c κs = search needs
-
 returns-2 : tie.Need-returns-2
 returns-2 c = scalar-none _ _ (sym (c .before .is-scalar .ensures) ∙ not-true _ (c .if2 .taken))
 
@@ -19,4 +16,4 @@ returns-3 : tie.Need-returns-3
 returns-3 c = scalar-is _ _ (c .before .before .if1 .left) (sym (c .before .is-scalar .ensures) ∙ not-false _ (c .if2 .left))
 
 pub scalar-unit-spec : {M : Type 1} → statement M
-scalar-unit-spec = tie.close (tie.spec returns is-scalar-requires returns-2 returns-3)
+scalar-unit-spec = tie.close (tie.spec returns (λ c κs. search needs) returns-2 returns-3)

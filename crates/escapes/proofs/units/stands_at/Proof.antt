@@ -8,29 +8,17 @@ use Rattle.escapes.proofs.units.stands_at.Tie as tie
 returns : tie.Need-returns
 returns c = let a = c .before .before .before .before .args in stands-past (now (a .escape)) (now (a .body)) (a .at) (c .before .if1 .taken) (c .if2 .taken)
 
-shared-slice-read-result : tie.Need-shared-slice-read-result
-shared-slice-read-result c = search needs
-
-shared-slice-read-result-2 : tie.Need-shared-slice-read-result-2
-shared-slice-read-result-2 c = search needs
-
 returns-2 : tie.Need-returns-2
 returns-2 c = let a = c .before .before .before .before .before .before .args in
     stands-byte (now (a .escape)) (now (a .body)) (a .at) (c .before .before .before .if1 .taken) (c .before .before .if2 .left)
-
-starts-at-requires : tie.Need-starts-at-requires
-starts-at-requires c κs = search needs
-
-returns-3 : tie.Need-returns-3
-returns-3 c = search needs
 
 pub stands-at-spec : {M : Type 1} → statement M
 stands-at-spec =
     tie.close
     (tie.spec
     returns
-    shared-slice-read-result
-    shared-slice-read-result-2
+    (λ c. search needs)
+    (λ c. search needs)
     returns-2
-    starts-at-requires
-    returns-3)
+    (λ c κs. search needs)
+    (λ c. search needs))

@@ -21,33 +21,15 @@ wide-there : (c : tie.Else4) → let a = c .before .before .before .before .befo
 wide-there c = let a = c .before .before .before .before .before .before .before .before .args in
     hex-there 6 (now (a .body)) (a .at + 1) (c .before .six-at .result) (c .before .six-at .ensures) (c .if4 .left)
 
-stands-at-requires : tie.Need-stands-at-requires
-stands-at-requires c κs = search needs
-
 returns : tie.Need-returns
 returns c =
     let a = c .before .before .before .before .before .args in
     uescaped-again (now (a .escape)) (now (a .body)) (a .at) (sym (c .before .before .stands-at .ensures) ∙ c .before .if1 .taken) _ (omega arith)
 
-add-t10 : tie.Need-add-t10
-add-t10 c = search needs
-
-sub-t11 : tie.Need-sub-t11
-sub-t11 c = search needs
-
 returns-2 : tie.Need-returns-2
 returns-2 c =
     let a = c .before .before .before .before .before .args in
     uescaped-again (now (a .escape)) (now (a .body)) (a .at) (sym (c .before .before .stands-at .ensures) ∙ c .before .if1 .taken) _ refl
-
-byte-at-requires : tie.Need-byte-at-requires
-byte-at-requires c κs = search needs
-
-add-six-at : tie.Need-add-six-at
-add-six-at c = search needs
-
-six-at-requires : tie.Need-six-at-requires
-six-at-requires c κs = search needs
 
 returns-3 : tie.Need-returns-3
 returns-3 c =
@@ -62,9 +44,6 @@ add-scalar-unit c = omega (arith, wide-there c)
 sub-scalar-unit : tie.Need-sub-scalar-unit
 sub-scalar-unit c = omega (arith, wide-there c)
 
-scalar-unit-requires : tie.Need-scalar-unit-requires
-scalar-unit-requires c κs = search needs
-
 returns-4 : tie.Need-returns-4
 returns-4 c =
     let a = c .before .before .before .before .before .before .before .before .before .args in
@@ -74,9 +53,6 @@ returns-4 c =
     (sym (c .before .before .before .before .before .before .stands-at .ensures) ∙ c .before .before .before .before .before .if1 .left)
     (sym (c .before .before .before .before .byte-at .ensures) ∙ c .before .before .before .if3 .taken) _ (c .before .before .six-at .ensures) _ _ w
     (c .scalar-unit .ensures)
-
-four-at-requires : tie.Need-four-at-requires
-four-at-requires c κs = search needs
 
 returns-5 : tie.Need-returns-5
 returns-5 c =
@@ -113,9 +89,6 @@ add-scalar-unit-2 c = omega (arith, there (c .before))
 sub-scalar-unit-2 : tie.Need-sub-scalar-unit-2
 sub-scalar-unit-2 c = omega (arith, there (c .before))
 
-scalar-unit-requires-2 : tie.Need-scalar-unit-requires-2
-scalar-unit-requires-2 c κs = search needs
-
 returns-7 : tie.Need-returns-7
 returns-7 c =
     let a = c .before .before .before .before .before .before .before .before .before .before .args in
@@ -130,25 +103,25 @@ pub uescaped-unit-spec : {M : Type 1} → statement M
 uescaped-unit-spec =
     tie.close
     (tie.spec
-    stands-at-requires
+    (λ c κs. search needs)
     returns
-    add-t10
-    sub-t11
+    (λ c. search needs)
+    (λ c. search needs)
     returns-2
-    byte-at-requires
-    add-six-at
-    six-at-requires
+    (λ c κs. search needs)
+    (λ c. search needs)
+    (λ c κs. search needs)
     returns-3
     add-scalar-unit
     sub-scalar-unit
-    scalar-unit-requires
+    (λ c κs. search needs)
     returns-4
-    four-at-requires
+    (λ c κs. search needs)
     returns-5
     add-low-half-unit
     low-half-unit-requires
     returns-6
     add-scalar-unit-2
     sub-scalar-unit-2
-    scalar-unit-requires-2
+    (λ c κs. search needs)
     returns-7)

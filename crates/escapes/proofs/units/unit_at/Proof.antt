@@ -7,11 +7,5 @@ use Rattle.escapes.proofs.units.unit_at.Tie as tie
 returns : tie.Need-returns
 returns c = search unit-past
 
-unit-inside-requires : tie.Need-unit-inside-requires
-unit-inside-requires c κs = search needs
-
-returns-2 : tie.Need-returns-2
-returns-2 c = search needs
-
 pub unit-at-spec : {M : Type 1} → statement M
-unit-at-spec = tie.close (tie.spec returns unit-inside-requires returns-2)
+unit-at-spec = tie.close (tie.spec returns (λ c κs. search needs) (λ c. search needs))

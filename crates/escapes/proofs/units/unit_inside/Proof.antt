@@ -8,33 +8,12 @@ use borrow.Author.Needs.{needs}
 use Rattle.escapes.proofs.units.unit_inside.Statement.{statement}
 use Rattle.escapes.proofs.units.unit_inside.Tie as tie
 
-shared-slice-read-byte : tie.Need-shared-slice-read-byte
-shared-slice-read-byte c = search needs
-
-enum-known-family : tie.Need-enum-known-family
-enum-known-family c = search needs
-
-add-mysql-unit : tie.Need-add-mysql-unit
-add-mysql-unit c = search needs
-
-mysql-unit-requires : tie.Need-mysql-unit-requires
-mysql-unit-requires c κs = search needs
-
 returns : tie.Need-returns
 returns c =
     let a = c .before .before .before .before .before .before .before .before .args in
     rw (c .before .before .before .family .given .1)
     (standard-escape (now (a .escape)) (now (a .body)) (a .at) (c .before .before .before .before .before .before .before .before .pre) _ _
     (c .before .if1 .taken) _ (c .mysql-unit .ensures))
-
-mark-byte-requires : tie.Need-mark-byte-requires
-mark-byte-requires c κs = search needs
-
-add-doubled-unit : tie.Need-add-doubled-unit
-add-doubled-unit c = search needs
-
-doubled-unit-requires : tie.Need-doubled-unit-requires
-doubled-unit-requires c κs = search needs
 
 returns-2 : tie.Need-returns-2
 returns-2 c =
@@ -43,27 +22,12 @@ returns-2 c =
     (standard-mark (now (a .escape)) (now (a .body)) (a .at) (c .before .before .before .before .before .before .before .before .before .before .pre) _ _
     (c .before .before .before .if1 .left) (c .before .if2 .taken ∙ c .before .before .mark-byte .ensures) _ (c .doubled-unit .ensures))
 
-enum-told : tie.Need-enum-told
-enum-told c = search needs
-
-add-escaped-unit : tie.Need-add-escaped-unit
-add-escaped-unit c = search needs
-
-escaped-unit-requires : tie.Need-escaped-unit-requires
-escaped-unit-requires c κs = search needs
-
 returns-3 : tie.Need-returns-3
 returns-3 c =
     let a = c .before .before .before .before .before .before .before .args in
     rw (c .before .before .enum-told .given .1)
     (escape-escape (now (a .escape)) (now (a .body)) (a .at) (c .before .before .before .before .before .before .before .pre) (c .before .if3 .taken) _
     (c .escaped-unit .ensures))
-
-add-doubled-unit-2 : tie.Need-add-doubled-unit-2
-add-doubled-unit-2 c = search needs
-
-doubled-unit-requires-2 : tie.Need-doubled-unit-requires-2
-doubled-unit-requires-2 c κs = search needs
 
 returns-4 : tie.Need-returns-4
 returns-4 c =
@@ -72,30 +36,12 @@ returns-4 c =
     (escape-mark (now (a .escape)) (now (a .body)) (a .at) (c .before .before .before .before .before .before .before .before .pre)
     (c .before .before .if3 .left) (c .before .if4 .taken) _ (c .doubled-unit2 .ensures))
 
-enum-known-family-2 : tie.Need-enum-known-family-2
-enum-known-family-2 c = search needs
-
-mark-byte-requires-2 : tie.Need-mark-byte-requires-2
-mark-byte-requires-2 c κs = search needs
-
-add-doubled-unit-3 : tie.Need-add-doubled-unit-3
-add-doubled-unit-3 c = search needs
-
-doubled-unit-requires-3 : tie.Need-doubled-unit-requires-3
-doubled-unit-requires-3 c κs = search needs
-
 returns-5 : tie.Need-returns-5
 returns-5 c =
     let a = c .before .before .before .before .before .before .before .before .before .args in
     rw (c .before .before .before .before .family2 .given .1)
     (unicode-mark (now (a .escape)) (now (a .body)) (a .at) (c .before .before .before .before .before .before .before .before .before .pre) _
     (c .before .if5 .taken ∙ c .before .before .mark-byte2 .ensures) _ (c .doubled-unit3 .ensures))
-
-stands-at-requires : tie.Need-stands-at-requires
-stands-at-requires c κs = search needs
-
-add-uescaped-unit : tie.Need-add-uescaped-unit
-add-uescaped-unit c = search needs
 
 uescaped-unit-requires : tie.Need-uescaped-unit-requires
 uescaped-unit-requires c κs =
@@ -139,29 +85,29 @@ pub unit-inside-spec : {M : Type 1} → statement M
 unit-inside-spec =
     tie.close
     (tie.spec
-    shared-slice-read-byte
-    enum-known-family
-    add-mysql-unit
-    mysql-unit-requires
+    (λ c. search needs)
+    (λ c. search needs)
+    (λ c. search needs)
+    (λ c κs. search needs)
     returns
-    mark-byte-requires
-    add-doubled-unit
-    doubled-unit-requires
+    (λ c κs. search needs)
+    (λ c. search needs)
+    (λ c κs. search needs)
     returns-2
-    enum-told
-    add-escaped-unit
-    escaped-unit-requires
+    (λ c. search needs)
+    (λ c. search needs)
+    (λ c κs. search needs)
     returns-3
-    add-doubled-unit-2
-    doubled-unit-requires-2
+    (λ c. search needs)
+    (λ c κs. search needs)
     returns-4
-    enum-known-family-2
-    mark-byte-requires-2
-    add-doubled-unit-3
-    doubled-unit-requires-3
+    (λ c. search needs)
+    (λ c κs. search needs)
+    (λ c. search needs)
+    (λ c κs. search needs)
     returns-5
-    stands-at-requires
-    add-uescaped-unit
+    (λ c κs. search needs)
+    (λ c. search needs)
     uescaped-unit-requires
     returns-6
     returns-7
