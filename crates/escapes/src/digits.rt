@@ -81,7 +81,7 @@ fn four_hexes(body: &[u8], at: usize) -> Hexes
 }
 
 // The number that four hex digits at a place make; 0 where they are not there.
-pub(crate) fn four_at(body: &[u8], at: usize) -> u32
+pub fn four_at(body: &[u8], at: usize) -> u32
     ensures { λ r. ⌜ r ≡ hexBy 4 (drop at (now (body .entry))) ⌝ }
 {
     if !are_there(body, at, 4) {
@@ -95,7 +95,7 @@ pub(crate) fn four_at(body: &[u8], at: usize) -> u32
 }
 
 // The number that six hex digits at a place make; 0 where they are not there.
-pub(crate) fn six_at(body: &[u8], at: usize) -> u32
+pub fn six_at(body: &[u8], at: usize) -> u32
     ensures { λ r. ⌜ r ≡ hexBy 6 (drop at (now (body .entry))) ⌝ }
 {
     if !are_there(body, at, 6) {
@@ -111,7 +111,7 @@ pub(crate) fn six_at(body: &[u8], at: usize) -> u32
 
 // The number that eight hex digits at a place make; 0 where they are not there.
 // Rules out: some of the first four digits read twice (must-fail: digits_read_twice).
-pub(crate) fn eight_at(body: &[u8], at: usize) -> u32
+pub fn eight_at(body: &[u8], at: usize) -> u32
     ensures { λ r. ⌜ r ≡ hexBy 8 (drop at (now (body .entry))) ⌝ }
 {
     if !are_there(body, at, 8) {

@@ -111,7 +111,7 @@ fn scalar_unit(more: usize, value: u32) -> Piece
 }
 
 // One of two bytes. A choice, and no jump, so that letters in any order are read at one pace.
-fn choose(test: bool, yes: u8, no: u8) -> u8
+pub fn choose(test: bool, yes: u8, no: u8) -> u8
     ensures { λ r. ⌜ r ≡ (if test then yes else no) ⌝ }
 {
     if test {
@@ -122,7 +122,7 @@ fn choose(test: bool, yes: u8, no: u8) -> u8
 
 // The byte that a letter behind E's backslash stands for: by the table, or the letter itself.
 // Rules out: \t read as \n (must-fail: letter_of_another).
-fn escape_letter(letter: u8) -> u8
+pub fn escape_letter(letter: u8) -> u8
     ensures { λ r. ⌜ r ≡ letterOf letter ⌝ }
 {
     let t = choose(letter == 116, 0x09, letter);
@@ -133,14 +133,14 @@ fn escape_letter(letter: u8) -> u8
 }
 
 // Whether a byte is an octal digit.
-pub(crate) fn is_octal(byte: u8) -> bool
+pub fn is_octal(byte: u8) -> bool
     ensures { λ r. ⌜ r ≡ ltb (digit byte) 8 ⌝ }
 {
     (48 <= byte) & (byte <= 55)
 }
 
 // What follows E's backslash, at a place behind it. Most letters leave by the last line, behind tests that are seldom true.
-fn escaped_unit(body: &[u8], at: usize) -> Piece
+pub fn escaped_unit(body: &[u8], at: usize) -> Piece
     ensures { λ r. ⌜ Is r (escaped (drop at (now (body .entry)))) ⌝ }
 {
     if body.len() <= at {

@@ -1,6 +1,7 @@
 -- Joining: what segments mean together, and the joining law.
 pub mod Joining
 pub mod Joins
+pub mod Walked
 pub mod Ready
 pub mod JoiningLaw
 pub mod Segments

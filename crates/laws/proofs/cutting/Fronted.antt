@@ -7,13 +7,14 @@ use Prim.Native.Nat.{ℕ, suc, _+_, _<_}
 use lib.Dec.{eqb}
 use lib.ListN.{length, take, drop}
 use Rattle.meaning.specs.declared.Settings.{Settings}
-use Rattle.meaning.specs.Bytes.{if_then_else_, _!_, ascii, has, isMark, quote, backslash}
+use Rattle.meaning.specs.Bytes.{if_then_else_, _!_, part, ascii, has, isMark, quote, backslash}
 use Rattle.meaning.specs.Chars.{fresh, pushes, whole, utf8}
 use Rattle.meaning.specs.Walk.{Step, Trace, walk, size, stops, plain, value}
 use Rattle.meaning.specs.Steps.{standardStep, escapeStep, unicodeStep, closingStep, checked, trim}
 use Rattle.meaning.specs.Cutting.{opening, hides, segment, continues}
-use Rattle.meaning.specs.Reading.{Answer, borrowed, written, answer, one, read}
-use Rattle.laws.proofs.basics.Tests.{eqb-sym}
+use Rattle.meaning.specs.Reading.{borrowed, written, means, valueOf, answer, one, alone, read}
+use Rattle.laws.proofs.basics.Tests.{eqb-sym, true→T}
+use Rattle.laws.proofs.walking.Walks.{walk-plain}
 use Rattle.laws.proofs.walking.Courses.{SoFar, checked-whole}
 use Rattle.laws.proofs.walking.Fronts.{Front}
 use Rattle.laws.proofs.walking.Fores.{Fore, so-far-alone, standard-fore, escape-fore, unicode-fore}
@@ -31,6 +32,7 @@ pub record Lone (l : List ℕ) (k q : ℕ) : Type 0 where
 pub record Segmented (σ : Settings) (u : List ℕ) (o k : ℕ) (v : List ℕ) (p : Bool) : Type 0 where
   pub size : segment σ u ≡ o + k + 1
   pub reads : one σ (take (o + k + 1) u) ≡ (if p then borrowed o (o + k) else written v)
+  pub means : alone σ (take (o + k + 1) u) ≡ means v
   pub whole : length u ≡ o + k + 1 → read σ u ≡ one σ u
   pub goes-on : continues σ u ≡ isMark (trim (drop (o + k + 1) u) ! 0)
 
@@ -44,6 +46,11 @@ module _ {step : List ℕ → Step} {l : List ℕ} {k : ℕ} {v : List ℕ} {p :
   -- the body alone
   body : walk step 0 (take k l) ≡ f .so-far .course
   body = so-far-alone step l k (f .so-far) fore
+
+  body-plain : p ≡ true → v ≡ take k l
+  body-plain e =
+      sym (f .means) ∙ ap value (sym body)
+      ∙ walk-plain step (take k l) (true→T (plain (walk step 0 (take k l))) (ap plain body ∙ f .plainly ∙ e))
 
   body-answer : (a b : ℕ) → answer a b (walk step 0 (take k l)) ≡ (if p then borrowed a b else written v)
   body-answer a b = answered a b (walk step 0 (take k l)) v p (ap stops body ∙ f .so-far .goes) (ap value body ∙ f .means) (ap plain body ∙ f .plainly)
@@ -68,13 +75,20 @@ module _ (σ : Settings) (u : List ℕ) (n k : ℕ) (v : List ℕ) (p : Bool) (o
     found = subst (λ (x : Bool). (stops (walk (closingStep x (u ! n)) 0 (drop (suc n) u)) ≡ true)
         × (size (walk (closingStep x (u ! n)) 0 (drop (suc n) u)) ≡ k)) (sym eh) closes
 
-    segmented : one σ (take (suc n + k + 1) u) ≡ (if p then borrowed (suc n) (suc n + k) else written v) → Segmented σ u (suc n) k v p
-    segmented r = record {
+    segmented : one σ (take (suc n + k + 1) u) ≡ (if p then borrowed (suc n) (suc n + k) else written v) → (p ≡ true → v ≡ take k (drop (suc n) u))
+        → Segmented σ u (suc n) k v p
+    segmented r b = record {
       size = spelled.segment-is σ u n k o z (found .0) (found .1);
       reads = r;
+      means = ap (valueOf (take (suc n + k + 1) u)) r ∙ both p b (spelled.text-body σ u n k o z (found .0) (found .1));
       whole = spelled.segment-whole σ u n k o z (found .0) (found .1);
       goes-on = spelled.segment-continues σ u n k o z (found .0) (found .1);
     }
+      where
+        both : (p : Bool) → (p ≡ true → v ≡ take k (drop (suc n) u)) → part (suc n) (suc n + k) (take (suc n + k + 1) u) ≡ take k (drop (suc n) u)
+            → valueOf (take (suc n + k + 1) u) (if p then borrowed (suc n) (suc n + k) else written v) ≡ means v
+        both true b e = ap means (e ∙ sym (b refl))
+        both false b e = refl
 
   -- STANDARD: any opening but E, U&, B and X
   pub fronted-standard : has (u ! 0) (ascii "EeBbXxUu") ≡ false → has (u ! 0) (ascii "Ee") ≡ false
@@ -87,6 +101,7 @@ module _ (σ : Settings) (u : List ℕ) (n k : ℕ) (v : List ℕ) (p : Bool) (o
       segmented (σ .backslash) eh s
       (spelled.alone-standard σ u n k o z (c .0) (c .1) b
       ∙ body-answer f (standard-fore (σ .backslash) (u ! n) (drop k (drop (suc n) u))) (suc n) (suc n + k))
+      (body-plain f (standard-fore (σ .backslash) (u ! n) (drop k (drop (suc n) u))))
 
   -- E: what is read is UTF-8
   pub fronted-escape : has (u ! 0) (ascii "Ee") ≡ true → utf8 v ≡ true → Front escapeStep (drop (suc n) u) k v p → Segmented σ u (suc n) k v p
@@ -103,6 +118,7 @@ module _ (σ : Settings) (u : List ℕ) (n k : ℕ) (v : List ℕ) (p : Bool) (o
       segmented true eh s′
       (spelled.alone-escape σ u n k o z (c .0) (c .1) e ∙ ap (answer (suc n) (suc n + k)) same
       ∙ body-answer f (escape-fore (drop k (drop (suc n) u))) (suc n) (suc n + k))
+      (body-plain f (escape-fore (drop k (drop (suc n) u))))
 
   -- U&
   pub fronted-unicode : has (u ! 0) (ascii "Uu") ≡ true → has (u ! 0) (ascii "Ee") ≡ false → Front (unicodeStep (backslash ∷ []) quote) (drop (suc n) u) k v p
@@ -119,3 +135,4 @@ module _ (σ : Settings) (u : List ℕ) (n k : ℕ) (v : List ℕ) (p : Bool) (o
       segmented (σ .backslash) eh s′
       (spelled.alone-unicode σ u n k o z (c .0) (c .1) e (d .0) (d .1)
       ∙ body-answer f (unicode-fore quote (drop k (drop (suc n) u))) (suc n) (suc n + k))
+      (body-plain f (unicode-fore quote (drop k (drop (suc n) u))))

@@ -183,7 +183,7 @@ module _ (σ : Settings) (u : List ℕ) (n k : ℕ) (o : opening u ≡ suc n) (z
   text-end : length (segmentText u n k) - 1 ≡ suc n + k
   text-end = omega (arith, text-length)
 
-  text-body : part (suc n) (suc n + k) (segmentText u n k) ≡ take k (drop (suc n) u)
+  pub text-body : part (suc n) (suc n + k) (segmentText u n k) ≡ take k (drop (suc n) u)
   text-body =
       let a : suc n + k + 1 ≡ suc n + (k + 1) = omega arith in
       let s : suc n + k - suc n ≡ k = omega arith in

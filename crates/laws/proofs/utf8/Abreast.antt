@@ -1,11 +1,13 @@
 -- Bytes of a text and bytes that they stand for, which keep UTF-8 abreast: from wherever a text stands, both lead to the same place, unless the text itself is
 -- broken there. So what a UTF-8 text stands for is UTF-8, though no byte of it is tested again. Assumes nothing.
-use mathlib.Core.Path.{_≡_, refl, ap, sym, _∙_, subst}
+use mathlib.Core.Path.{_≡_, refl, ap, ap₂, sym, _∙_}
 use mathlib.Core.Bool.{Bool, true, false, false≢true}
 use mathlib.Core.List.{List, [], _∷_, _++_}
 use Prim.Native.Nat.{ℕ, zero, suc, _<_}
 use native.Mathlib.Omega.{arith}
-use Rattle.meaning.specs.Bytes.{if_then_else_, backslash}
+use lib.ListN.{length, take, drop, take-append-drop}
+use lib.Seq.{drop-cons}
+use Rattle.meaning.specs.Bytes.{if_then_else_, _!_, backslash}
 use Rattle.meaning.specs.Chars.{Due, due, broken, fresh, push, pushes, whole, utf8}
 use Rattle.laws.proofs.utf8.Utf8.{pushes-append, pushes-broken, Good, fresh-good, push-good, pushes-good, ascii-push}
 
@@ -77,3 +79,14 @@ abreast-utf8 p q a v r l u x =
     let f2 = low-next (pushes fresh a) q r (pushes-good fresh a fresh-good) l n2 in
     let n3 : pushes fresh a ≡ broken → ⊥ = λ k. n2 (ap (λ (d : Due). pushes d (q ∷ r)) k ∙ pushes-broken (q ∷ r)) in
     ap whole (x fresh fresh-good n3 ∙ f2 .0)
+
+-- the same at a place of a text: a body of k bytes behind the mark at place i, and the mark again
+pub abreast-body : (t : List ℕ) (i k q : ℕ) (v : List ℕ) → q < 0x80 → utf8 t ≡ true → i < length t → t ! i ≡ q → k < length (drop (suc i) t)
+    → drop (suc i) t ! k ≡ q → Abreast (take k (drop (suc i) t)) v → utf8 v ≡ true
+abreast-body t i k q v l u h e g f x =
+    let b : List ℕ = drop (suc i) t in
+    let d : b ≡ take k b ++ (q ∷ drop (suc k) b) =
+    sym (take-append-drop k b) ∙ ap (take k b ++_) (drop-cons b k 0 g ∙ ap (_∷ drop (suc k) b) f) in
+    let c : t ≡ take i t ++ (q ∷ (take k b ++ (q ∷ drop (suc k) b))) =
+    sym (take-append-drop i t) ∙ ap (take i t ++_) (drop-cons t i 0 h ∙ ap₂ (λ (y : ℕ) (z : List ℕ). y ∷ z) e d) in
+    abreast-utf8 (take i t) q (take k b) v (drop (suc k) b) l (ap utf8 (sym c) ∙ u) x
