@@ -13,7 +13,7 @@ use Rattle.meaning.specs.Spelling.{dollar, unspelt, tagLength, delimiter, dolla
 use Rattle.laws.proofs.cutting.Openings.{inside}
 use Rattle.leaves.proofs.RunSteps.{span-length}
 use Rattle.spellings.specs.declared.spelling.Spelled.the-variants.{Dollar, Unspelt}
-use Rattle.spellings.specs.Spelled.{Spells}
+use Rattle.spellings.specs.Spelled.{Dollars}
 
 -- what stands behind a place
 byte-behind : (l : List ℕ) (at i : ℕ) → drop at l ! i ≡ l ! (at + i)
@@ -93,12 +93,12 @@ module _ (t : List ℕ) (n : ℕ) (en : n ≡ delimiter (drop 0 t)) where
   pub dollar-fits : n ≤ length t
   dollar-fits = omega (arith, delimiter-length t, en)
 
-  pub dollar-none : n ≡ 0 → Spells t Unspelt (dollarBy t (delimiter t))
-  dollar-none z = record { means = rw (← en, z); inside = tt }
+  pub dollar-none : n ≡ 0 → Dollars t Unspelt
+  dollar-none z = record { means = rw (← en, z); family = tt }
 
   module _ (z : n ≡ 0 → ⊥) where
-    pub dollar-overlap : length t - n < n → Spells t Unspelt (dollarBy t (delimiter t))
-    dollar-overlap h = record { means = rw (← en, dollar-some t n z, lt-leb (n + n) (length t) (omega arith)); inside = tt }
+    pub dollar-overlap : length t - n < n → Dollars t Unspelt
+    dollar-overlap h = record { means = rw (← en, dollar-some t n z, lt-leb (n + n) (length t) (omega arith)); family = tt }
 
     module _ (h : n ≤ length t - n) (x : Bool) (ex : x ≡ starts (take n t) (drop (length t - n) t)) where
       dollar-by : dollarBy t (delimiter t) ≡ (if x then dollar n (length t - n) else unspelt)
@@ -106,8 +106,8 @@ module _ (t : List ℕ) (n : ℕ) (en : n ≡ delimiter (drop 0 t)) where
           let k : length (take n t) ≡ length (drop (length t - n) t) = omega (arith, length-take n t, length-drop (length t - n) t) in
           rw (← en, dollar-some t n z, le-leb (n + n) (length t) (omega arith), ← starts-same (take n t) (drop (length t - n) t) k, ← ex)
 
-      pub dollar-equal : x ≡ true → Spells t (Dollar n (length t - n)) (dollarBy t (delimiter t))
-      dollar-equal e = record { means = sym (dollar-by ∙ rw e); inside = tt }
+      pub dollar-equal : x ≡ true → Dollars t (Dollar n (length t - n))
+      dollar-equal e = record { means = sym (dollar-by ∙ rw e); family = tt }
 
-      pub dollar-other : x ≡ false → Spells t Unspelt (dollarBy t (delimiter t))
-      dollar-other e = record { means = sym (dollar-by ∙ rw e); inside = tt }
+      pub dollar-other : x ≡ false → Dollars t Unspelt
+      dollar-other e = record { means = sym (dollar-by ∙ rw e); family = tt }

@@ -4,46 +4,54 @@ use cutting::marks::Mark;
 use cutting::marks::closing_mark;
 use cutting::marks::mark_byte;
 use cutting::openings::opening_len;
+use escapes::units::Family;
 use leaves::bytes::byte_at;
 use leaves::names::is_dollar_tag_start;
 use leaves::runs::NameClass;
 use leaves::runs::run_len;
 use leaves::texts::is_enclosed;
 use leaves::texts::starts_at;
+use meaning::Settings;
 use uescape::Clause;
 use uescape::uescape_clause;
 ghost use mathlib.Core.Path.{_≡_};
 ghost use lib.ListN.{drop};
-ghost use Rattle.meaning.specs.Spelling.{isUnicode, unicodeSpelling, tagLength, delimiter, dollarBy, spelling};
+ghost use Rattle.meaning.specs.Spelling.{isUnicode, tagLength, delimiter, spelling};
 ghost use Rattle.cutting.specs.Marks.{markOf};
-ghost use Rattle.spellings.specs.Spelled.{introducedOf, otherOf, Spells};
+ghost use Rattle.spellings.specs.Spelled.{enclosedOf, introducedOf, otherOf, Spells, Lexes, Dollars};
 
-// A spelling with the place and the end of its body. A U& escape character lies in a part of the text; an empty part stands for the backslash.
+// A body in its text: by which family it is read, from where to where it goes, and the part of the text in which its escape character lies; an empty part
+// stands for the backslash.
+pub struct Body {
+    pub family: Family,
+    pub from: usize,
+    pub until: usize,
+    pub escape_from: usize,
+    pub escape_until: usize,
+}
+
+// How a text is spelled: with a body, in dollars, or in no way that can be read.
 pub enum Spelled {
-    Standard {
-        mark: Mark,
-        from: usize,
-        until: usize,
-    },
-    Escape {
-        from: usize,
-        until: usize,
-    },
-    Unicode {
-        from: usize,
-        until: usize,
-        escape_from: usize,
-        escape_until: usize,
-    },
-    Dollar {
-        from: usize,
-        until: usize,
-    },
+    Body(Body),
+    Dollar { from: usize, until: usize },
     Unspelt,
 }
 
+// A body that no clause follows.
+fn enclosed(family: Family, from: usize, until: usize) -> Spelled
+    ensures { λ r. ⌜ r ≡ enclosedOf family from until ⌝ }
+{
+    Spelled::Body(Body {
+        family,
+        from,
+        until,
+        escape_from: 0,
+        escape_until: 0,
+    })
+}
+
 // Whether a text begins with U&, in either case, and a mark.
-// Rules out: u refused; the & not asked for; another mark taken (must-fail: first_of_each, second_of_each).
+// Rules out: u refused; + for &; another mark taken (must-fail: lower_u_refused, other_mark_taken, plus_for_ampersand).
 pub fn is_unicode_lexeme(text: &[u8], mark: Mark) -> bool
     ensures { λ r. ⌜ r ≡ isUnicode (markOf mark) (now (text .entry)) ⌝ }
 {
@@ -54,29 +62,27 @@ pub fn is_unicode_lexeme(text: &[u8], mark: Mark) -> bool
 }
 
 // U& and a mark, closed by the first mark that is not doubled; then white space, or a UESCAPE clause that ends the text.
-// Rules out: a mark hidden by a backslash; the mark taken for a part of what follows it (must-fail: delimiters_overlap, dollar_first_close).
+// Rules out: a mark hidden by a backslash; the mark taken for a part of what follows it (must-fail: mark_hidden_by_backslash,
+// mark_in_the_clause).
 pub fn unicode_lexeme(text: &[u8], mark: Mark) -> Spelled
-    ensures { λ r. ⌜ Spells (now (text .entry)) r (unicodeSpelling (markOf mark) (now (text .entry))) ⌝ }
+    ensures { λ r. ⌜ Lexes mark (now (text .entry)) r ⌝ }
 {
     if !is_unicode_lexeme(text, mark) {
         return Spelled::Unspelt;
     }
+    let family = Family::Unicode { mark };
     match closing_mark(&text[3..], mark, false) {
         Closing::At(p) => {
             let until = 3 + p;
             match uescape_clause(text, until + 1) {
-                Clause::Default => Spelled::Unicode {
-                    from: 3,
-                    until,
-                    escape_from: 0,
-                    escape_until: 0,
-                },
-                Clause::Chosen { start, end } => Spelled::Unicode {
+                Clause::Default => enclosed(family, 3, until),
+                Clause::Chosen { start, end } => Spelled::Body(Body {
+                    family,
                     from: 3,
                     until,
                     escape_from: start,
                     escape_until: end,
-                },
+                }),
                 Clause::Bad => Spelled::Unspelt,
             }
         }
@@ -95,7 +101,7 @@ fn tag_len(text: &[u8], at: usize) -> usize
 }
 
 // The bytes of a dollar delimiter at a place; 0 if none stands there.
-// Rules out: a tag that starts with $; another byte than $ at its end; the last $ left out (must-fail: first_of_each, second_of_each).
+// Rules out: another byte than $ at its end; the last $ left out (must-fail: last_dollar_left_out, other_byte_ends_tag).
 pub fn dollar_open_delim_len(text: &[u8], at: usize) -> usize
     ensures { λ r. ⌜ r ≡ delimiter (drop at (now (text .entry))) ⌝ }
 {
@@ -111,9 +117,9 @@ pub fn dollar_open_delim_len(text: &[u8], at: usize) -> usize
 }
 
 // Equal delimiters at both ends, not overlapping.
-// Rules out: the string ended at the first close; overlapping delimiters (must-fail: delimiters_overlap, dollar_first_close).
+// Rules out: the string ended at the first close; overlapping delimiters (must-fail: dollar_first_close, one_delimiter_for_both).
 fn dollar_quoted(text: &[u8]) -> Spelled
-    ensures { λ r. ⌜ Spells (now (text .entry)) r (dollarBy (now (text .entry)) (delimiter (now (text .entry)))) ⌝ }
+    ensures { λ r. ⌜ Dollars (now (text .entry)) r ⌝ }
 {
     let len = dollar_open_delim_len(text, 0);
     if len == 0 {
@@ -133,9 +139,9 @@ fn dollar_quoted(text: &[u8]) -> Spelled
 }
 
 // A charset introducer, and a string in either mark that ends the text.
-// Rules out: one mark taken for the other.
-fn introduced(text: &[u8]) -> Spelled
-    ensures { λ r. ⌜ Spells (now (text .entry)) r (introducedOf (now (text .entry))) ⌝ }
+// Rules out: one mark taken for the other (must-fail: one_mark_for_the_other).
+fn introduced(text: &[u8], backslash: bool) -> Spelled
+    ensures { λ r. ⌜ Spells backslash (now (text .entry)) r (introducedOf (now (text .entry))) ⌝ }
 {
     let open = opening_len(text);
     if open == 0 {
@@ -147,26 +153,20 @@ fn introduced(text: &[u8]) -> Spelled
     }
     let until = text.len() - 1;
     if quote == 39 {
-        return Spelled::Standard {
-            mark: Mark::Quote,
-            from: open,
-            until,
-        };
+        let mark = Mark::Quote;
+        return enclosed(Family::Standard { mark, backslash }, open, until);
     }
-    Spelled::Standard {
-        mark: Mark::DoubleQuote,
-        from: open,
-        until,
-    }
+    let mark = Mark::DoubleQuote;
+    enclosed(Family::Standard { mark, backslash }, open, until)
 }
 
 // The spelling of a text by a charset introducer, U& or $.
 // Rules out: U& read with ".
-fn other_spelling(text: &[u8]) -> Spelled
-    ensures { λ r. ⌜ Spells (now (text .entry)) r (otherOf (now (text .entry))) ⌝ }
+fn other_spelling(text: &[u8], backslash: bool) -> Spelled
+    ensures { λ r. ⌜ Spells backslash (now (text .entry)) r (otherOf (now (text .entry))) ⌝ }
 {
     if byte_at(text, 0) == 95 {
-        return introduced(text);
+        return introduced(text, backslash);
     }
     if is_unicode_lexeme(text, Mark::Quote) {
         return unicode_lexeme(text, Mark::Quote);
@@ -175,39 +175,35 @@ fn other_spelling(text: &[u8]) -> Spelled
 }
 
 // The spelling of a text, tried in document 01's order.
-// Rules out: N read as E; the mark taken for a part of an E body (must-fail: escape_from_its_mark, national_escapes).
-pub fn string_spelling(text: &[u8]) -> Spelled
-    ensures { λ r. ⌜ Spells (now (text .entry)) r (spelling (now (text .entry))) ⌝ }
+// Rules out: N read as E; the mark taken for a part of an E body; the setting lost (must-fail: escape_from_its_mark, national_escapes, setting_lost).
+pub fn string_spelling(text: &[u8], settings: Settings) -> Spelled
+    ensures { λ r. ⌜ Spells (settings .backslash) (now (text .entry)) r (spelling (now (text .entry))) ⌝ }
 {
     if text.len() == 0 {
         return Spelled::Unspelt;
     }
     let first = text[0];
     let until = text.len() - 1;
+    let backslash = settings.backslash;
+    let mark = Mark::Quote;
+    let standard = Family::Standard { mark, backslash };
     if is_enclosed(text, 0, 39) {
-        return Spelled::Standard {
-            mark: Mark::Quote,
-            from: 1,
-            until,
-        };
+        return enclosed(standard, 1, until);
     }
     if is_enclosed(text, 0, 34) {
-        return Spelled::Standard {
-            mark: Mark::DoubleQuote,
-            from: 1,
-            until,
+        let double = Mark::DoubleQuote;
+        let family = Family::Standard {
+            mark: double,
+            backslash,
         };
+        return enclosed(family, 1, until);
     }
     let prefixed = is_enclosed(text, 1, 39);
     if ((first == 69) | (first == 101)) & prefixed {
-        return Spelled::Escape { from: 2, until };
+        return enclosed(Family::Escape, 2, until);
     }
     if ((first == 78) | (first == 110)) & prefixed {
-        return Spelled::Standard {
-            mark: Mark::Quote,
-            from: 2,
-            until,
-        };
+        return enclosed(standard, 2, until);
     }
-    other_spelling(text)
+    other_spelling(text, backslash)
 }
