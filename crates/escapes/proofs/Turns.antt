@@ -6,17 +6,16 @@ use mathlib.Core.List.{List, [], _++_}
 use Prim.Native.Nat.{ℕ, _+_, _-_, _≤_, _<_}
 use native.Mathlib.Omega.{arith}
 use lib.Dec.{eqb}
-use lib.ListN.{length, take, drop, length-drop, length-append, drop-of-length-le}
-use borrow.Author.Tests.{le-leb}
+use lib.ListN.{length, take, drop, drop-of-length-le}
 use Rattle.meaning.specs.Bytes.{_!_}
 use Rattle.meaning.specs.Chars.{whole}
 use Rattle.meaning.specs.Walk.{stop, walk, value}
 use Rattle.meaning.specs.Answers.{filled}
-use Rattle.laws.proofs.basics.Lists.{part-tail}
 use Rattle.laws.proofs.walking.Courses.{so-far-none, so-far-end, taken, isKept, Goes, Taken}
 use Rattle.laws.proofs.walking.StepBounds.{Steady, standard-steady, escape-steady, unicode-steady}
 use Rattle.laws.proofs.walking.Passes.{StopsAt, EndsWith, Unbroken, unit-taken, measuring-none, measuring-turn, measuring-stop, measuring-broken}
-use Rattle.laws.proofs.walking.Passes.{measuring-unfinished, measuring-end, course-same, put-behind}
+use Rattle.laws.proofs.walking.Passes.{measuring-unfinished, measuring-end, course-same, laid-behind}
+use Rattle.leaves.specs.Puts.{Least}
 use Rattle.utf8.specs.declared.tail.Utf8Tail.{Utf8Tail}
 use Rattle.utf8.specs.declared.tail.Utf8Tail.the-variants as Tail
 use Rattle.utf8.specs.Tails.{dueOf}
@@ -30,7 +29,7 @@ use Rattle.escapes.specs.declared.units.Family.the-variants.{Standard, E
 use Rattle.escapes.specs.declared.passing.Pass.{Pass}
 use Rattle.escapes.specs.declared.passing.Measured.{Measured}
 use Rattle.escapes.specs.declared.passing.Measured.the-variants.{Plain, Length, Refused}
-use Rattle.escapes.specs.Pieces.{meaningOf, moreOf, isKeep, bytesOf, IsBy, Lays, Least}
+use Rattle.escapes.specs.Pieces.{meaningOf, moreOf, isKeep, bytesOf, IsBy, Lays}
 use Rattle.escapes.specs.Families.{stepOf, checks, dueBy, courseOf, measuredOf}
 use Rattle.escapes.specs.Passing.{Counted, Passing, Ready, GoesOn, Passes}
 
@@ -118,17 +117,12 @@ module _ (f : Family) (e l : List ℕ) (s : Pass) (p : Piece) (i : IsBy e p (ste
           -- the bytes were laid where those so far end
           laid : (d : List ℕ) (w : Passing f e l d out s) → s .n + len ≤ length d → (k : ℕ) → k ≡ s .n
               → last ≡ filled bytes (take (length out - k) (drop k out)) → after k ≡ value (counts (w .counted) .so-far .course) ++ drop (s .n + len) d
-          unfolding counts measuring-turn filled
+          unfolding counts measuring-turn
           laid d w room k ek b =
               let c = value (w .counted .so-far .course) in
-              let r : length bytes ≤ length (take (length out - s .n) (drop (s .n) out)) =
-              rw (part-tail out (s .n)) (omega (arith, length-drop (s .n) out, w .same, el)) in
-              let b′ : last ≡ bytes ++ drop (length bytes) (take (length out - s .n) (drop (s .n) out)) =
-              (rw ek at b) ∙ rw (le-leb (length bytes) (length (take (length out - s .n) (drop (s .n) out))) r) in
-              rw ek
-              (put-behind c bytes d out last (s .n) (w .counted .counted) (w .put (omega arith)) b′
+              laid-behind c bytes d out last (s .n) k (w .counted .counted) (w .put (omega arith)) (w .same) (omega (arith, el)) ek b
               ∙ ap (λ (v : List ℕ). v ++ drop (s .n + length bytes) d) (sym (took (w .counted) .means))
-              ∙ ap (λ (j : ℕ). value (took (w .counted) .next .course) ++ drop (s .n + j) d) (sym el))
+              ∙ ap (λ (j : ℕ). value (took (w .counted) .next .course) ++ drop (s .n + j) d) (sym el)
 
           pub turn-on : (from : ℕ) → Least (s .n) (length out) from → Lays bytes (take (length out - from) (drop from out)) len last
               → length (after from) ≡ length out → (k : ℕ) → k ≡ moreOf p → (y : Bool) → y ≡ isKeep p

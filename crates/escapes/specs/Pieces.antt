@@ -2,7 +2,7 @@
 use mathlib.Core.Bool.{Bool, true, false}
 use mathlib.Core.Path.{_≡_}
 use mathlib.Core.List.{List, [], _∷_}
-use Prim.Native.Nat.{ℕ, _≤_}
+use Prim.Native.Nat.{ℕ}
 use lib.Dec.{ltb}
 use lib.ListN.{length}
 use Rattle.meaning.specs.Bytes.{if_then_else_}
@@ -72,8 +72,3 @@ bytesOf e p b = stands (meaningOf e p) b
 pub record Lays (v out : List ℕ) (r : ℕ) (after : List ℕ) : Type 0 where
   pub answer : r ≡ length v
   pub buffer : after ≡ filled v out
-
--- the lesser of a and b
-pub record Least (a b r : ℕ) : Type 0 where
-  pub most : r ≤ b
-  pub first : a ≤ b → r ≡ a

@@ -7,11 +7,12 @@ use crate::pieces::piece_more;
 use crate::pieces::piece_tail;
 use crate::units::Family;
 use crate::units::unit_at;
+use leaves::puts::least;
 use utf8::tail::Utf8Tail;
 use utf8::tail::is_whole;
 ghost use mathlib.Core.Path.{_≡_};
 ghost use Rattle.utf8.specs.Tails.{dueOf};
-ghost use Rattle.escapes.specs.Pieces.{bytesOf, Sound, Least};
+ghost use Rattle.escapes.specs.Pieces.{bytesOf, Sound};
 ghost use Rattle.escapes.specs.Families.{checks, dueBy, courseOf};
 ghost use Rattle.escapes.specs.Passing.{Ready, Turns, Passes};
 
@@ -50,16 +51,6 @@ fn next_tail(family: Family, tail: Utf8Tail, piece: Piece, byte: u8, escape: &[u
         Family::Escape => piece_tail(tail, piece, byte, escape),
         Family::Unicode { mark: _ } => tail,
     }
-}
-
-// The lesser of two numbers.
-fn least(a: usize, b: usize) -> usize
-    ensures { λ r. ⌜ Least a b r ⌝ }
-{
-    if a < b {
-        return a;
-    }
-    b
 }
 
 // One unit, at a place inside the body: it refuses, or what it stands for is counted, and written if there is room for it behind what is written so far.

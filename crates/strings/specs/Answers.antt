@@ -1,46 +1,61 @@
 -- What the answers of string reading mean, and what is owed of the buffer. Assumes nothing.
 use mathlib.Core.Path.{_≡_}
-use mathlib.Core.List.{List, [], _++_}
-use Prim.Native.Nat.{ℕ, _≤_}
+use mathlib.Core.List.{List, _++_}
+use Prim.Native.Nat.{ℕ, _+_, _≤_}
 use lib.ListN.{length, drop}
+use Rattle.meaning.specs.declared.Read.{Read}
+use Rattle.meaning.specs.declared.Read.the-variants.{Borrowed, Written, Refused, NoRoom}
 use Rattle.meaning.specs.Bytes.{part}
-use Rattle.meaning.specs.Reading.{Answer, borrowed, written, refused, Value, means, fails, answer}
-use Rattle.escapes.specs.declared.units.Family.{Family}
+use Rattle.meaning.specs.Walk.{walk}
+use Rattle.meaning.specs.Steps.{unicodeStep}
+use Rattle.meaning.specs.Spelling.{unicodeSpelling}
+use Rattle.meaning.specs.Reading.{Answer, refused, Value, means, fails, answer, asWritten}
+use Rattle.meaning.specs.Reads.{bufferOf}
+use Rattle.meaning.specs.Helpers.{ifUnicode}
 use Rattle.escapes.specs.Families.{courseOf}
-use Rattle.strings.specs.declared.one.One.{One}
-use Rattle.strings.specs.declared.one.One.the-variants as One′
+use Rattle.spellings.specs.declared.spelling.Body.{Body}
+use Rattle.spellings.specs.Spelled.{escapeOf}
 use Rattle.strings.specs.declared.joined.Joined.{Joined}
 use Rattle.strings.specs.declared.joined.Joined.the-variants as Joined′
 
--- what the body of t from f up to u means, by a family and an escape character's bytes e
-abbrev pub bodyOf : Family → List ℕ → ℕ → ℕ → List ℕ → Answer
-bodyOf k e f u t = answer f u (courseOf k e (part f u t))
+-- A BODY of t, and what it means; it and its escape character's part lie in a text of n bytes
+abbrev pub bodyOf : List ℕ → Body → Answer
+bodyOf t b = answer (b .from) (b .until) (courseOf (b .family) (escapeOf t (b .«escape_from») (b .«escape_until»)) (part (b .from) (b .until) t))
 
-abbrev pub oneOf : Answer → One
-oneOf (borrowed f u) = One′.Borrowed f u
-oneOf (written v) = One′.Written (length v)
-oneOf (refused p) = One′.Refused p
+pub record BodyInside (n : ℕ) (b : Body) : Type 0 where
+  pub ordered : b .from ≤ b .until
+  pub within : b .until ≤ n
+  pub escape-ordered : b .«escape_from» ≤ b .«escape_until»
+  pub escape-within : b .«escape_until» ≤ n
 
--- from f up to u, in a text of n bytes
-pub record Inside (n f u : ℕ) : Type 0 where
-  pub ordered : f ≤ u
-  pub within : u ≤ n
+-- what was read of a part from f up to u, on the text that holds it; and the place that it tells
+abbrev pub placedOf : ℕ → ℕ → Read → Read
+placedOf f u (Borrowed a b) = Borrowed f u
+placedOf f u (Written n) = Written n
+placedOf f u (Refused p) = Refused (f + p)
+placedOf f u (NoRoom n) = NoRoom n
 
+abbrev pub placeOf : Read → ℕ
+placeOf (Borrowed a b) = 0
+placeOf (Written n) = 0
+placeOf (Refused p) = p
+placeOf (NoRoom n) = 0
+
+-- U& with the mark q
+unfoldable pub lexemeOf : ℕ → List ℕ → Answer
+lexemeOf q t = ifUnicode (λ e f u. answer f u (walk (unicodeStep e q) 0 (part f u t))) (refused 0) (unicodeSpelling q t)
+
+-- A VALUE's length, or where it fails
 abbrev pub lengthOf : Value → Joined
 lengthOf (means v) = Joined′.Length (length v)
 lengthOf (fails p) = Joined′.Refused p
 
--- there is a value, and n bytes hold it
-pub record Holds (x : Value) (n : ℕ) : Type 0 where
-  pub all : List ℕ
-  pub reads : x ≡ means all
-  pub fits : length all ≤ n
+-- it is put at the buffer's start, if there is room
+pub record PutsValue (x : Value) (out : List ℕ) (r : Joined) (after : List ℕ) : Type 0 where
+  pub answer : r ≡ lengthOf x
+  pub buffer : after ≡ bufferOf out (asWritten x)
 
--- the value at the buffer's start; nothing for a refusal
-abbrev pub valueIn : Value → List ℕ
-valueIn (means v) = v
-valueIn (fails p) = []
-
-pub record Put (x : Value) (out : List ℕ) (n : ℕ) (after : List ℕ) : Type 0 where
-  pub answer : n ≡ length (valueIn x)
-  pub buffer : after ≡ valueIn x ++ drop (length (valueIn x)) out
+-- of a value that is put part by part, only what is left where there is room for all of it is said
+pub record PutsAll (x : Value) (out : List ℕ) (r : Joined) (after : List ℕ) : Type 0 where
+  pub answer : r ≡ lengthOf x
+  pub buffer : (v : List ℕ) → x ≡ means v → length v ≤ length out → after ≡ v ++ drop (length v) out

@@ -178,9 +178,6 @@ pub record Roomy (r : Trace) (n : ℕ) : Type 0 where
   pub goes : stops r ≡ false
   pub fits : length (value r) ≤ n
 
-pub course-roomy : (x : Bool) (r : Trace) (n : ℕ) → stops (courseBy x r) ≡ false → length (value (courseBy x r)) ≤ n → Roomy r n
-course-roomy x r n h k = let e = course-same x r h in record { goes = ap stops (sym e) ∙ h; fits = rw e at k }
-
 -- what is put so far is within it
 within-room : {step : List ℕ → Step} {l : List ℕ} {at : ℕ} {m : ℕ} → Roomy (walk step 0 l) m → (s : SoFar step l at) → length (value (s .course)) ≤ m
 within-room {step} {l} {at} {m} r s =
@@ -207,6 +204,17 @@ put-behind p v d out last n e o l =
     ∙ ap (λ (s : List ℕ). take n s ++ (v ++ drop (length v) (drop n s))) o
     ∙ put-part p v d n e
 
+-- the same, from a place k that is n, where the callee fills what there is room for
+pub laid-behind : (p v d out last : List ℕ) (n k : ℕ) → length p ≡ n → out ≡ p ++ drop n d → length out ≡ length d → n + length v ≤ length d → k ≡ n
+    → last ≡ filled v (take (length out - k) (drop k out))
+    → take k out ++ (last ++ drop (length out - k) (drop k out)) ≡ (p ++ v) ++ drop (n + length v) d
+unfolding filled
+laid-behind p v d out last n k e o s h ek b =
+    let r : length v ≤ length (take (length out - n) (drop n out)) = rw (part-tail out n) (omega (arith, length-drop n out, s)) in
+    let b′ : last ≡ v ++ drop (length v) (take (length out - n) (drop n out)) =
+    (rw ek at b) ∙ rw (le-leb (length v) (length (take (length out - n) (drop n out))) r) in
+    rw ek (put-behind p v d out last n e o b′)
+
 module _ {step : List ℕ → Step} {l d out : List ℕ} {at n : ℕ} (w : Writing step l d out at n) (room : Roomy (walk step 0 l) (length d)) where
   pub writing-within : n ≤ length d
   writing-within = omega (arith, within-room room (w .so-far), w .counted)
@@ -226,13 +234,10 @@ module _ {step : List ℕ → Step} {l d out : List ℕ} {at n : ℕ} (w : Writi
     -- the buffer's part from n on was lent to a callee that filled it with these bytes, and has come back
     pub taken-turn : (n′ : ℕ) (last : List ℕ) → n + length v ≡ n′ → last ≡ filled v (take (length out - n) (drop n out))
         → Writing step l d (take n out ++ (last ++ drop (length out - n) (drop n out))) at′ n′
-    unfolding filled
     taken-turn n′ last en el =
         let c = value (w .so-far .course) in
-        let r : length v ≤ length (take (length out - n) (drop n out)) = rw (part-tail out n) (omega (arith, length-drop n out, w .same, taken-room)) in
         let put : take n out ++ (last ++ drop (length out - n) (drop n out)) ≡ (c ++ v) ++ drop n′ d =
-        put-behind c v d out last n (w .counted) (w .put) (el ∙ rw (le-leb (length v) (length (take (length out - n) (drop n out))) r))
-        ∙ ap (λ (i : ℕ). (c ++ v) ++ drop i d) en in
+        laid-behind c v d out last n n (w .counted) (w .put) (w .same) taken-room refl el ∙ ap (λ (i : ℕ). (c ++ v) ++ drop i d) en in
         let len : length (c ++ v) ≡ n′ = length-append c v ∙ omega (arith, w .counted, en) in
         record {
           so-far = f .next;

@@ -1,0 +1,65 @@
+-- `strings::joined::put_segments` meets its contract. The loop's invariant, `JoinsAt`: the segments before the cursor mean n bytes, which are put where there is
+-- room. The measure is what is left behind the cursor. Assumes nothing.
+use Prim.Native.Nat.{_+_, _-_, _≤_}
+use native.Mathlib.Omega.{arith}
+use borrow.Author.Needs.{needs}
+use denote.Ref.{now}
+use lib.ListN.{length}
+use Rattle.strings.proofs.Joinings.{JoinsAt, joins-start, joins-end, joins-remainder, segment-ordered, segment-inside, cursor-less, joins-turn}
+use Rattle.strings.proofs.Joinings.{joins-fits, refused-fits, joins-refused}
+use Rattle.strings.proofs.joined.put_segments.Statement.{statement}
+use Rattle.strings.proofs.joined.put_segments.Tie as tie
+
+abbrev Inv-loop : tie.InvT-loop
+Inv-loop text settings out₀ cursor₀ n₀ out cursor n = JoinsAt settings text out₀ out (cursor .at) n
+
+abbrev μ-loop : tie.MeasureT-loop
+μ-loop text settings out₀ cursor₀ n₀ out cursor n = length text - cursor .at
+
+add-n : tie.Need-add-n Inv-loop μ-loop
+add-n c = let h = joins-fits (c .before .before .before .before .before .before .before .before .before .before .before .before .before .loop .inv) _ (c .before .before .before .before .before .before .before .before .before .before .before .before .next .ensures) _ _ _ _ (c .before .before .before .before .before .before .before .before .before .before .start .given .1) _ (c .before .before .before .before .before .before .before .before .least .ensures) _ _ (c .before .before .before .before .before .put-segment .ensures) _ (c .before .k .given .1) in omega (arith, h, c .before .before .before .before .before .before .before .before .before .before .before .before .before .before .before .before .before .good .0 .0)
+
+add-t22 : tie.Need-add-t22 Inv-loop μ-loop
+add-t22 c = let h = refused-fits (c .before .before .before .before .before .before .before .before .before .before .before .before .before .loop .inv) _ (c .before .before .before .before .before .before .before .before .before .before .before .before .next .ensures) _ _ _ _ (c .before .before .before .before .before .before .before .before .before .before .start .given .1) _ (c .before .before .before .before .before .before .before .before .least .ensures) _ _ (c .before .before .before .before .before .put-segment .ensures) _ (c .before .p .given .1) in omega (arith, h, c .before .before .before .before .before .before .before .before .before .before .before .before .before .before .before .before .before .good .0 .0)
+
+loop-again : tie.Need-loop-again Inv-loop μ-loop
+loop-again c = joins-turn (c .before .before .before .before .before .before .before .before .before .before .before .before .before .loop .inv) _ (c .before .before .before .before .before .before .before .before .before .before .before .before .next .ensures) _ _ _ _ (c .before .before .before .before .before .before .before .before .before .before .start .given .1) _ (c .before .before .before .before .before .before .before .before .least .ensures) _ _ (c .before .before .before .before .before .put-segment .ensures) _ (c .before .k .given .1) (search needs)
+
+same-length-2 : tie.Need-same-length-2 Inv-loop μ-loop
+same-length-2 c = c .before .before .before .loop .inv .same
+
+same-length-3 : tie.Need-same-length-3 Inv-loop μ-loop
+same-length-3 c = c .before .before .before .loop .inv .same
+
+pub put-segments-spec : {M : Type 1} → statement M
+put-segments-spec =
+    tie.close
+    (tie.spec
+    Inv-loop
+    μ-loop
+    (λ c κs. search needs)
+    (λ c. search joins-start)
+    (λ c κs. search needs)
+    (λ c. search needs)
+    (λ c κs. search needs)
+    (λ c. search segment-ordered)
+    (λ c. search segment-ordered)
+    (λ c. search segment-inside)
+    (λ c. search needs)
+    (λ c. search needs)
+    (λ c. search needs)
+    (λ c κs. search needs)
+    (λ c. search needs)
+    add-n
+    (λ c. search needs)
+    add-t22
+    (λ c. search needs)
+    (λ c. search joins-refused)
+    (λ c. search cursor-less)
+    loop-again
+    (λ c. search needs)
+    same-length-2
+    (λ c. search joins-end)
+    (λ c. search needs)
+    same-length-3
+    (λ c. search joins-remainder))
