@@ -1,66 +1,98 @@
 -- The test of a UESCAPE argument and the two validators, way out by way out: text outside the spelling, and the body's course.
 -- Assumes nothing.
-use mathlib.Core.Path.{_≡_, refl, ap, sym, _∙_}
+use mathlib.Core.Path.{_≡_, refl, ap, sym, _∙_, subst}
 use mathlib.Core.Bool.{Bool, true, false, _&&_, _||_, not, and-true, and-false, or-false, false≢true}
 use mathlib.Core.List.{List, [], _∷_}
-use Prim.Native.Nat.{ℕ, suc, _-_}
+use Prim.Native.Nat.{ℕ, suc, _+_, _-_}
 use native.Mathlib.Omega.{arith}
-use lib.Dec.{eqb, ltb}
+use lib.Dec.{eqb, leb, ltb}
 use lib.ListN.{length, take, drop}
 use borrow.Author.Tests.{lt-ltb, not-true, not-false}
-use Rattle.meaning.specs.Bytes.{if_then_else_, _!_, part, quote, backslash}
+use Rattle.meaning.specs.declared.Read.{Read}
+use Rattle.meaning.specs.declared.Read.the-variants as Read′
+use Rattle.meaning.specs.Bytes.{if_then_else_, _!_, part, quote}
 use Rattle.meaning.specs.Chars.{utf8}
-use Rattle.meaning.specs.Walk.{Trace, ended, stopped, kept, gave, size, stops, plain, value}
+use Rattle.meaning.specs.Walk.{Trace, ended, stopped, kept, gave, walk, size, stops, plain, value}
+use Rattle.meaning.specs.Steps.{unicodeStep}
 use Rattle.meaning.specs.Spelling.{Spelling, unicode, encloses, argument, unicodeSpelling}
-use Rattle.meaning.specs.Helpers.{uescapeLegal, escapeValid, unicodeValid, unicodeValidAs}
+use Rattle.meaning.specs.Reading.{borrowed, written, refused, answer}
+use Rattle.meaning.specs.Reads.{readOf, Reads}
+use Rattle.meaning.specs.Helpers.{ifUnicode, uescapeLegal, escapeValid, unicodeValid, unicodeValidAs}
 use Rattle.laws.proofs.basics.Tests.{and-right}
 use Rattle.laws.proofs.questions.Ranges.{Bounds, enclosed-range}
 use Rattle.cutting.specs.declared.marks.Mark.the-variants.{Quote}
 use Rattle.uescape.specs.declared.Argument.{Argument}
 use Rattle.uescape.specs.declared.Argument.the-variants.{Legal, Illegal}
 use Rattle.uescape.specs.Clauses.{legalBy, argumentOf}
+use Rattle.escapes.specs.declared.units.Family.{Family}
 use Rattle.escapes.specs.declared.units.Family.the-variants as Family′
-use Rattle.escapes.specs.declared.measuring.Measured.{Measured}
-use Rattle.escapes.specs.declared.measuring.Measured.the-variants as Measured′
-use Rattle.escapes.specs.Families.{courseOf, measuredOf}
+use Rattle.escapes.specs.Families.{courseOf}
 use Rattle.spellings.specs.declared.spelling.Spelled.{Spelled}
-use Rattle.spellings.specs.declared.spelling.Spelled.the-variants.{Standard, Escape, Unicode, Dollar, Unspelt}
-use Rattle.spellings.specs.Spelled.{spelledOf, Spells}
-use Rattle.strings.proofs.Lexemes.{lexeme-default, lexeme-chosen}
+use Rattle.spellings.specs.declared.spelling.Spelled.the-variants as Spelled′
+use Rattle.spellings.specs.Spelled.{escapeOf, spellingBy, Lexes}
+use Rattle.strings.specs.Answers.{lexemeOf}
 
--- A BODY'S COURSE: whether it goes to its end, by its measure
-abbrev readsOn : Measured → Bool
-readsOn Measured′.Plain = true
-readsOn (Measured′.Length n) = true
-readsOn (Measured′.Refused p) = false
+-- A BODY'S COURSE goes to its end where reading it, into whatever buffer, is not refused
+abbrev isRead : Read → Bool
+isRead (Read′.Borrowed f u) = true
+isRead (Read′.Written n) = true
+isRead (Read′.Refused p) = false
+isRead (Read′.NoRoom n) = true
 
-reads-on : (r : Trace) → readsOn (measuredOf r) ≡ not (stops r)
-reads-on r = go (plain r) (stops r) refl refl
+goes-on : (f u m : ℕ) (c : Trace) → isRead (readOf m (answer f u c)) ≡ not (stops c)
+unfolding answer
+goes-on f u m c = go (plain c) (stops c) refl refl
   where
-    plain-goes : (r : Trace) → plain r ≡ true → stops r ≡ false
+    plain-goes : (c : Trace) → plain c ≡ true → stops c ≡ false
     plain-goes ended h = refl
     plain-goes stopped h = absurd (false≢true h)
-    plain-goes (kept b r) h = plain-goes r h
-    plain-goes (gave n out r) h = absurd (false≢true h)
+    plain-goes (kept b c) h = plain-goes c h
+    plain-goes (gave n out c) h = absurd (false≢true h)
 
-    go : (x y : Bool) → plain r ≡ x → stops r ≡ y
-        → readsOn (if x then Measured′.Plain else if y then Measured′.Refused (size r) else Measured′.Length (length (value r))) ≡ not y
-    go true y p s = ap not (sym (plain-goes r p) ∙ s)
+    room : (z : Bool) → isRead (if z then Read′.Written (length (value c)) else Read′.NoRoom (length (value c))) ≡ true
+    room true = refl
+    room false = refl
+
+    go : (x y : Bool) → plain c ≡ x → stops c ≡ y
+        → isRead (readOf m (if x then borrowed f u else if y then refused (f + size c) else written (value c))) ≡ not y
+    go true y p s = ap not (sym (plain-goes c p) ∙ s)
     go false true p s = refl
-    go false false p s = refl
+    go false false p s = room (leb (length (value c)) m)
 
-module _ (r : Trace) (m : Measured) (e : m ≡ measuredOf r) where
-  reads-by : (n : Measured) → m ≡ n → readsOn n ≡ not (stops r)
-  reads-by n q = ap readsOn (sym q ∙ e) ∙ reads-on r
+module _ (f u : ℕ) (c : Trace) (none after : List ℕ) (r : Read) (k : Reads (answer f u c) none r after) where
+  reads-by : (s : Read) → r ≡ s → isRead s ≡ not (stops c)
+  reads-by s q = ap isRead (sym q ∙ k .answer) ∙ goes-on f u (length none) c
 
-  pub reads-plain : m ≡ Measured′.Plain → true ≡ not (stops r)
-  reads-plain q = reads-by Measured′.Plain q
+  pub reads-borrowed : (a b : ℕ) → r ≡ Read′.Borrowed a b → true ≡ not (stops c)
+  reads-borrowed a b q = reads-by (Read′.Borrowed a b) q
 
-  pub reads-length : (n : ℕ) → m ≡ Measured′.Length n → true ≡ not (stops r)
-  reads-length n q = reads-by (Measured′.Length n) q
+  pub reads-written : (n : ℕ) → r ≡ Read′.Written n → true ≡ not (stops c)
+  reads-written n q = reads-by (Read′.Written n) q
 
-  pub reads-refused : (p : ℕ) → m ≡ Measured′.Refused p → false ≡ not (stops r)
-  reads-refused p q = reads-by (Measured′.Refused p) q
+  pub reads-short : (n : ℕ) → r ≡ Read′.NoRoom n → true ≡ not (stops c)
+  reads-short n q = reads-by (Read′.NoRoom n) q
+
+  pub reads-refused : (p : ℕ) → r ≡ Read′.Refused p → false ≡ not (stops c)
+  reads-refused p q = reads-by (Read′.Refused p) q
+
+-- a text that is spelled with U&
+record Spelt (t : List ℕ) : Type 0 where
+  character : List ℕ
+  from : ℕ
+  until : ℕ
+  is : unicodeSpelling quote t ≡ unicode character from until
+
+spelt : (t : List ℕ) (s : Spelled) → Lexes Quote t s → (s ≡ Spelled′.Unspelt → ⊥) → Spelt t
+spelt t (Spelled′.Body b) l n =
+    let e = escapeOf t (b .«escape_from») (b .«escape_until») in
+    record {
+      character = e;
+      from = b .from;
+      until = b .until;
+      is = sym (l .means) ∙ ap (λ (k : Family). spellingBy e k (b .from) (b .until)) (l .family);
+    }
+spelt t (Spelled′.Dollar f u) l n = absurd (l .family)
+spelt t Spelled′.Unspelt l n = absurd (n refl)
 
 -- WITH the test of the text's UTF-8
 module _ (t : List ℕ) (x : Bool) (ex : x ≡ utf8 t) where
@@ -92,32 +124,41 @@ module _ (t : List ℕ) (x : Bool) (ex : x ≡ utf8 t) where
       pub escape-body : (e : List ℕ) (r : Bool) → r ≡ not (stops (courseOf Family′.Escape e (take (length t - 1 - 2) (drop 2 t)))) → (x && r) ≡ escapeValid t
       escape-body e r k = ap (x &&_) k ∙ sym (escape-by ∙ rw (not-false spelled h))
 
-  -- a U& string, by its spelling
-  module _ (s : Spelled) (spells : Spells t s (unicodeSpelling quote t)) where
-    unicode-by : unicodeValid t ≡ (x && unicodeValidAs t (unicodeSpelling quote t))
-    unfolding unicodeValid
-    unicode-by = rw ex
+  -- a U& string, by its spelling and by what reading it said
+  unicode-by : unicodeValid t ≡ (x && unicodeValidAs t (unicodeSpelling quote t))
+  unfolding unicodeValid
+  unicode-by = rw ex
 
-    pub unicode-other : ((f u a z : ℕ) → s ≡ Unicode f u a z → ⊥) → x ≡ unicodeValid t
-    unicode-other k = sym (unicode-by ∙ ap (λ (w : Spelling). x && unicodeValidAs t w) (sym (spells .means)) ∙ rw (go s k, and-true))
-      where
-        go : (s : Spelled) → ((f u a z : ℕ) → s ≡ Unicode f u a z → ⊥) → unicodeValidAs t (spelledOf t s) ≡ true
-        go (Standard m f u) k = refl
-        go (Escape f u) k = refl
-        go (Unicode f u a z) k = absurd (k f u a z refl)
-        go (Dollar f u) k = refl
-        go Unspelt k = refl
+  module _ (s : Spelled) (l : Lexes Quote t s) where
+    pub unicode-outside : s ≡ Spelled′.Unspelt → x ≡ unicodeValid t
+    unicode-outside q =
+        let m = rw q at l in
+        sym (unicode-by ∙ ap (λ (w : Spelling). x && unicodeValidAs t w) (sym (m .means)) ∙ and-true x)
 
-    module _ (f u a z : ℕ) (e : s ≡ Unicode f u a z) (r : Bool) where
-      unicode-as : (w : List ℕ) → unicodeSpelling quote t ≡ unicode w f u → r ≡ not (stops (courseOf (Family′.Unicode Quote) w (part f u t)))
-          → (x && r) ≡ unicodeValid t
-      unicode-as w q k = ap (x &&_) k ∙ sym (unicode-by ∙ ap (λ (v : Spelling). x && unicodeValidAs t v) q)
+    module _ (o : s ≡ Spelled′.Unspelt → ⊥) (none after : List ℕ) (r : Read) (k : Reads (lexemeOf quote t) none r after) where
+      by-reading : (a : Read) → r ≡ a → (x && isRead a) ≡ unicodeValid t
+      unfolding lexemeOf
+      by-reading a q =
+          let p = spelt t s l o in
+          let c = walk (unicodeStep (p .character) quote) 0 (part (p .from) (p .until) t) in
+          let g : Reads (answer (p .from) (p .until) c) none r after =
+          subst (λ (w : Spelling). Reads (ifUnicode (λ e f u. answer f u (walk (unicodeStep e quote) 0 (part f u t))) (refused 0) w) none r after) (p .is) k in
+          sym (unicode-by ∙ ap (λ (w : Spelling). x && unicodeValidAs t w) (p .is) ∙ ap (x &&_) (sym (reads-by (p .from) (p .until) c none after r g a q)))
 
-      pub unicode-default : a ≡ z → r ≡ not (stops (courseOf (Family′.Unicode Quote) (backslash ∷ []) (part f u t))) → (x && r) ≡ unicodeValid t
-      unicode-default h = unicode-as (backslash ∷ []) (lexeme-default t quote s spells f u a z e h)
+      read : (a : Read) → r ≡ a → isRead a ≡ true → x ≡ unicodeValid t
+      read a q y = sym (and-true x) ∙ ap (x &&_) (sym y) ∙ by-reading a q
 
-      pub unicode-chosen : (a ≡ z → ⊥) → r ≡ not (stops (courseOf (Family′.Unicode Quote) (take (z - a) (drop a t)) (part f u t))) → (x && r) ≡ unicodeValid t
-      unicode-chosen h = unicode-as (take (z - a) (drop a t)) (lexeme-chosen t quote s spells f u a z e h)
+      pub unicode-borrowed : (f u : ℕ) → r ≡ Read′.Borrowed f u → x ≡ unicodeValid t
+      unicode-borrowed f u q = read (Read′.Borrowed f u) q refl
+
+      pub unicode-written : (n : ℕ) → r ≡ Read′.Written n → x ≡ unicodeValid t
+      unicode-written n q = read (Read′.Written n) q refl
+
+      pub unicode-short : (n : ℕ) → r ≡ Read′.NoRoom n → x ≡ unicodeValid t
+      unicode-short n q = read (Read′.NoRoom n) q refl
+
+      pub unicode-refused : (p : ℕ) → r ≡ Read′.Refused p → false ≡ unicodeValid t
+      unicode-refused p q = sym (and-false x) ∙ by-reading (Read′.Refused p) q
 
 pub argument-illegal : (t : List ℕ) (a : Argument) → a ≡ argumentOf t → a ≡ Illegal → false ≡ uescapeLegal t
 unfolding uescapeLegal argumentOf

@@ -1,8 +1,7 @@
 // [01 What is carried over; One segment] The helpers on bare text. The test of a UESCAPE argument and the two validators say no on text that isn't UTF-8, the
 // validators yes on other text outside their spelling; the test of an identifier reads bytes.
 use cutting::marks::Mark;
-use escapes::measuring::Measured;
-use escapes::measuring::measure;
+use escapes::reading::read_units;
 use escapes::units::Family;
 use leaves::bytes::byte_at;
 use leaves::texts::is_enclosed;
@@ -12,6 +11,7 @@ use spellings::spelling::Spelled;
 use spellings::spelling::is_unicode_lexeme;
 use spellings::spelling::unicode_lexeme;
 use strings::ident::read_ident;
+use strings::ident::read_lexeme;
 use uescape::Argument;
 use uescape::uescape_argument;
 use utf8::check::is_utf8;
@@ -38,10 +38,12 @@ pub fn uescape_argument_is_legal(text: &[u8]) -> bool
 fn is_readable(body: &[u8], family: Family, escape: &[u8]) -> bool
     ensures { λ r. ⌜ r ≡ not (stops (courseOf family (now (escape .entry)) (now (body .entry)))) ⌝ }
 {
-    match measure(body, family, escape) {
-        Measured::Plain => true,
-        Measured::Length(_) => true,
-        Measured::Refused(_) => false,
+    let mut none = [0u8; 0];
+    match read_units(body, family, escape, &mut none) {
+        Read::Borrowed { from: _, until: _ } => true,
+        Read::Written { len: _ } => true,
+        Read::Refused { place: _ } => false,
+        Read::NoRoom { needed: _ } => true,
     }
 }
 
@@ -57,7 +59,7 @@ pub fn postgres_escape_string_is_valid(text: &[u8]) -> bool
         return utf8;
     }
     let until = text.len() - 1;
-    utf8 & is_readable(&text[2..until], Family::Escape, text)
+    utf8 & is_readable(&text[2..until], Family::Escape, b"\\")
 }
 
 // Whether a U& string's body has only good escapes by its escape character. Yes for text outside this spelling, a bad UESCAPE clause included.
@@ -67,21 +69,16 @@ pub fn unicode_escape_string_is_valid(text: &[u8]) -> bool
 {
     let utf8 = is_utf8(text);
     let mark = Mark::Quote;
-    let Spelled::Unicode {
-        from,
-        until,
-        escape_from,
-        escape_until,
-    } = unicode_lexeme(text, mark)
-    else {
+    if let Spelled::Unspelt = unicode_lexeme(text, mark) {
         return utf8;
-    };
-    let family = Family::Unicode { mark };
-    let body = &text[from..until];
-    if escape_from == escape_until {
-        return utf8 & is_readable(body, family, b"\\");
     }
-    utf8 & is_readable(body, family, &text[escape_from..escape_until])
+    let mut none = [0u8; 0];
+    match read_lexeme(text, mark, &mut none) {
+        Read::Borrowed { from: _, until: _ } => utf8,
+        Read::Written { len: _ } => utf8,
+        Read::Refused { place: _ } => false,
+        Read::NoRoom { needed: _ } => utf8,
+    }
 }
 
 // Whether a text begins as a U& identifier: three bytes decide, UTF-8 or not.
