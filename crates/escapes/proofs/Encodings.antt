@@ -7,7 +7,7 @@ use native.Mathlib.Omega.{arith}
 use lib.Dec.{ltb}
 use lib.ListN.{length}
 use lib.Seq.{sets}
-use borrow.Author.Tests.{ltb-true, ltb-false}
+use borrow.Author.Tests.{ltb-true}
 use Rattle.meaning.specs.Bytes.{if_then_else_, within}
 use Rattle.meaning.specs.Chars.{Due, due, broken, fresh, pushes, whole, utf8, base, later, more, encode, isScalar}
 use Rattle.laws.proofs.basics.Tests.{within-below, within-above}

@@ -1,9 +1,9 @@
 -- The pass over a body by the pieces that are read: a piece takes and stands for what its step does, and every family's step is steady.
 -- A law for the start, for a turn and for each way out, as the code counts. Assumes nothing.
-use mathlib.Core.Path.{_≡_, refl, ap, sym, _∙_, subst}
+use mathlib.Core.Path.{_≡_, refl, ap, sym, _∙_}
 use mathlib.Core.Bool.{Bool, true, false, _&&_, false≢true}
 use mathlib.Core.List.{List, [], _++_}
-use Prim.Native.Nat.{ℕ, _+_, _-_, _≤_, _<_}
+use Prim.Native.Nat.{ℕ, _+_, _-_, _≤_}
 use native.Mathlib.Omega.{arith}
 use lib.Dec.{eqb}
 use lib.ListN.{length, take, drop, drop-of-length-le}
@@ -27,10 +27,9 @@ use Rattle.escapes.specs.declared.pieces.Piece.the-variants as Piece′
 use Rattle.escapes.specs.declared.units.Family.{Family}
 use Rattle.escapes.specs.declared.units.Family.the-variants.{Standard, Escape, Unicode}
 use Rattle.escapes.specs.declared.passing.Pass.{Pass}
-use Rattle.escapes.specs.declared.passing.Measured.{Measured}
 use Rattle.escapes.specs.declared.passing.Measured.the-variants.{Plain, Length, Refused}
 use Rattle.escapes.specs.Pieces.{meaningOf, moreOf, isKeep, bytesOf, IsBy, Lays}
-use Rattle.escapes.specs.Families.{stepOf, checks, dueBy, courseOf, measuredOf}
+use Rattle.escapes.specs.Families.{stepOf, checks, dueBy, courseOf}
 use Rattle.escapes.specs.Passing.{Counted, Passing, Ready, GoesOn, Passes}
 
 -- EVERY FAMILY's step is steady, since no mark is zero

@@ -12,7 +12,7 @@ use Rattle.meaning.specs.Cutting.{opening}
 use Rattle.meaning.specs.Spelling.{encloses, isUnicode, unicodeSpelling, delimiter, dollarBy, spelling}
 use Rattle.cutting.specs.declared.marks.Mark.the-variants.{Quote, DoubleQuote}
 use Rattle.cutting.proofs.Closes.{mark-other}
-use Rattle.escapes.specs.declared.units.Family.the-variants.{Standard, Escape, Unicode}
+use Rattle.escapes.specs.declared.units.Family.the-variants.{Standard, Escape}
 use Rattle.cutting.proofs.Cuts.{opened-mark}
 use Rattle.spellings.specs.declared.spelling.Spelled.{Spelled}
 use Rattle.spellings.specs.declared.spelling.Spelled.the-variants.{Body, Dollar, Unspelt}

@@ -1,6 +1,6 @@
 -- A segment's value is never longer than the segment, and the place of a refusal lies inside it: so no number that a pass counts exceeds the text's
--- length. And what a body that reads to its end means, borrowed or written. Assumes nothing.
-use mathlib.Core.Path.{_≡_, refl, ap, sym, _∙_}
+-- length. Assumes nothing.
+use mathlib.Core.Path.{_≡_, refl, ap}
 use mathlib.Core.Bool.{Bool, true, false, _&&_}
 use mathlib.Core.List.{List, [], _∷_}
 use Prim.Native.Nat.{ℕ, zero, suc, _+_, _-_, _≤_, _<_}
@@ -18,10 +18,9 @@ use Rattle.meaning.specs.Cutting.{opening}
 use Rattle.meaning.specs.Spelling.{Spelling, standard, escape, unicode, dollar, unspelt, encloses, isUnicode, unicodeSpelling, unicodeBy, chosen, closedUnicode}
 use Rattle.meaning.specs.Spelling.{delimiter, dollarBy, spelling}
 use Rattle.meaning.specs.Reading.{borrowed, written, refused, Value, means, fails, valueOf, answer, read-as, one, alone}
-use Rattle.laws.proofs.basics.Tests.{true→T, and-left, and-right}
-use Rattle.laws.proofs.walking.Walks.{walk-plain, FitsIn, fits-size}
+use Rattle.laws.proofs.basics.Tests.{and-left, and-right}
+use Rattle.laws.proofs.walking.Walks.{FitsIn, fits-size}
 use Rattle.laws.proofs.cutting.Openings.{opening-mark, apart-of-mark, mark-0}
-use Rattle.laws.proofs.cutting.BodyStops.{stops-fails}
 use Rattle.laws.proofs.questions.Ranges.{Bounds, BodyIn, spelling-body}
 use Rattle.laws.proofs.walking.StepBounds.{Bounded, Steady, standard-steady, escape-steady, unicode-steady}
 use Rattle.laws.proofs.walking.Passes.{courseBy, course-same}
@@ -75,30 +74,10 @@ abbrev pub Bound : Value → ℕ → Type 0
 Bound (means v) n = length v ≤ n
 Bound (fails p) n = p ≤ n
 
--- A BODY that reads to its end means its course's value
+-- A BODY
 module _ (x : Bool) (step : List ℕ → Step) (t : List ℕ) (f u : ℕ) where
   abbrev course : Trace
   course = courseBy x (walk step 0 (part f u t))
-
-  pub body-means : stops course ≡ false → valueOf t (answer f u course) ≡ means (value course)
-  unfolding answer
-  body-means h = go (plain course) refl
-    where
-      same : course ≡ walk step 0 (part f u t)
-      same = course-same x (walk step 0 (part f u t)) h
-
-      go : (y : Bool) → plain course ≡ y → valueOf t (answer f u course) ≡ means (value course)
-      go true p =
-          rw p (ap means (sym (ap value same ∙ walk-plain step (part f u t) (true→T (plain (walk step 0 (part f u t))) (sym (ap plain same) ∙ p)))))
-      go false p = rw (p, h)
-
-  -- and what means something reads to its end
-  pub body-goes : (v : List ℕ) → valueOf t (answer f u course) ≡ means v → stops course ≡ false
-  body-goes v e = go (stops course) refl
-    where
-      go : (y : Bool) → stops course ≡ y → y ≡ false
-      go true h = absurd (stops-fails t f u course v (true→T (stops course) h) e)
-      go false h = refl
 
   -- its numbers lie inside the text
   body-bound : Steady step → Bounds (length t) f u → Bound (valueOf t (answer f u course)) (length t)

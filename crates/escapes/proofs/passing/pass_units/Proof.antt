@@ -7,7 +7,7 @@ use borrow.Author.Needs.{needs}
 use borrow.Author.Tests.{not-true, not-false}
 use denote.Ref.{now}
 use lib.ListN.{length}
-use Rattle.escapes.specs.Passing.{Passing, Ready}
+use Rattle.escapes.specs.Passing.{Passing}
 use Rattle.escapes.proofs.Turns.{passing-none, passes-stop, passes-unfinished, passes-plain, passes-length}
 use Rattle.escapes.proofs.passing.pass_units.Statement.{statement}
 use Rattle.escapes.proofs.passing.pass_units.Tie as tie

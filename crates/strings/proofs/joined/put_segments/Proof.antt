@@ -1,9 +1,8 @@
 -- `strings::joined::put_segments` meets its contract. The loop's invariant, `JoinsAt`: the segments before the cursor mean n bytes, which are put where there is
 -- room. The measure is what is left behind the cursor. Assumes nothing.
-use Prim.Native.Nat.{_+_, _-_, _≤_}
+use Prim.Native.Nat.{_-_}
 use native.Mathlib.Omega.{arith}
 use borrow.Author.Needs.{needs}
-use denote.Ref.{now}
 use lib.ListN.{length}
 use Rattle.strings.proofs.Joinings.{JoinsAt, joins-start, joins-end, joins-remainder, segment-ordered, segment-inside, cursor-less, joins-turn}
 use Rattle.strings.proofs.Joinings.{joins-fits, refused-fits, joins-refused}
