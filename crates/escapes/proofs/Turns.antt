@@ -1,11 +1,12 @@
 -- The pass over a body by the pieces that are read: a piece takes and stands for what its step does, and every family's step is steady.
 -- A law for the start, for a turn and for each way out, as the code counts. Assumes nothing.
 use mathlib.Core.Path.{_≡_, refl, ap, sym, _∙_}
-use mathlib.Core.Bool.{Bool, true, false, _&&_, false≢true}
+use mathlib.Core.Bool.{Bool, true, false, _&&_, not, false≢true}
 use mathlib.Core.List.{List, [], _++_}
-use Prim.Native.Nat.{ℕ, _+_, _-_, _≤_}
+use Prim.Native.Nat.{ℕ, _+_, _-_, _≤_, _<_}
 use native.Mathlib.Omega.{arith}
 use lib.Dec.{eqb}
+use borrow.Author.Tests.{not-true, not-false}
 use lib.ListN.{length, take, drop, drop-of-length-le}
 use Rattle.meaning.specs.Bytes.{_!_}
 use Rattle.meaning.specs.Chars.{whole}
@@ -27,10 +28,12 @@ use Rattle.escapes.specs.declared.pieces.Piece.the-variants as Piece′
 use Rattle.escapes.specs.declared.units.Family.{Family}
 use Rattle.escapes.specs.declared.units.Family.the-variants.{Standard, Escape, Unicode}
 use Rattle.escapes.specs.declared.passing.Pass.{Pass}
+use Rattle.escapes.specs.declared.passing.Turn.{Turn}
+use Rattle.escapes.specs.declared.passing.Turn.the-variants as Turn′
 use Rattle.escapes.specs.declared.passing.Measured.the-variants.{Plain, Length, Refused}
 use Rattle.escapes.specs.Pieces.{meaningOf, moreOf, isKeep, bytesOf, IsBy, Lays}
 use Rattle.escapes.specs.Families.{stepOf, checks, dueBy, courseOf}
-use Rattle.escapes.specs.Passing.{Counted, Passing, Ready, GoesOn, Passes}
+use Rattle.escapes.specs.Passing.{Counted, Passing, Ready, GoesOn, Turns, Passes}
 
 -- EVERY FAMILY's step is steady, since no mark is zero
 mark-not-zero : (m : Mark) → eqb 0 (markOf m) ≡ false
@@ -142,28 +145,39 @@ pub passing-none : (f : Family) (e l d : List ℕ) → Passing f e l d d (record
 unfolding measuring-none so-far-none
 passing-none f e l d = record { counted = measuring-none (stepOf f e) (checks f) l; put = λ h. refl; same = refl }
 
-module _ (f : Family) (e l d out : List ℕ) where
-  pub passes-stop : (at : ℕ) → StopsAt (courseOf f e l) at → Passes (courseOf f e l) d (Refused at) out
-  passes-stop at s = record { answer = rw (s .marred, s .halts, s .place); buffer = λ g. absurd (false≢true (sym g ∙ s .halts)) }
+passes-stop : (f : Family) (e l d out : List ℕ) (at : ℕ) → StopsAt (courseOf f e l) at → Passes (courseOf f e l) d (Refused at) out
+passes-stop f e l d out at s = record { answer = rw (s .marred, s .halts, s .place); buffer = λ g. absurd (false≢true (sym g ∙ s .halts)) }
 
-  module _ (s : Pass) (w : Passing f e l d out s) (h : length l ≤ s .at) where
-    pub passes-unfinished : whole (dueOf (s .tail)) ≡ false → Passes (courseOf f e l) d (Refused (s .at)) out
-    passes-unfinished u = passes-stop (s .at) (measuring-unfinished (w .counted) h u)
+-- what a turn led to
+module _ (f : Family) (e l out : List ℕ) (p : Pass) (r : Turn) (after : List ℕ) (t : Turns f e l out p r after) where
+  pub turn-less : p .at < length l → (q : Pass) → r ≡ Turn′.On q → length l - q .at < length l - p .at
+  turn-less h q k = let g = rw k at t in omega (arith, g .further)
 
-    module _ (u : whole (dueOf (s .tail)) ≡ true) where
-      ends : EndsWith (courseOf f e l) (s .plain) (s .n)
-      ends = measuring-end (w .counted) h u
+  pub turn-again : (d : List ℕ) → Passing f e l d out p → (q : Pass) → r ≡ Turn′.On q → Passing f e l d after q
+  turn-again d w q k = let g = rw k at t in g .passes d w
 
-      written : length (value (courseOf f e l)) ≤ length d → out ≡ value (courseOf f e l) ++ drop (length (value (courseOf f e l))) d
-      written k =
-          let v : value (courseOf f e l) ≡ value (w .counted .so-far .course) =
-          ap value (course-same (checks f) (walk (stepOf f e) 0 l) (ends .goes) ∙ so-far-end (w .counted .so-far) h) in
-          let n : length (value (courseOf f e l)) ≡ s .n = ends .counted in
-          w .put (omega arith) ∙ ap (λ (x : ℕ). value (w .counted .so-far .course) ++ drop x d) (sym n)
-          ∙ ap (_++ drop (length (value (courseOf f e l))) d) (sym v)
+  pub turn-stops : (d : List ℕ) → r ≡ Turn′.Refused → Passes (courseOf f e l) d (Refused (p .at)) after
+  turn-stops d k = passes-stop f e l d after (p .at) (rw k at t)
 
-      pub passes-plain : s .plain ≡ true → Passes (courseOf f e l) d Plain out
-      passes-plain q = record { answer = rw (ends .plainly, q); buffer = λ g. written }
+-- nothing is left
+module _ (f : Family) (e l d out : List ℕ) (s : Pass) (w : Passing f e l d out s) (h : length l ≤ s .at) (x : Bool) (ex : x ≡ whole (dueOf (s .tail))) where
+  pub passes-unfinished : not x ≡ true → Passes (courseOf f e l) d (Refused (s .at)) out
+  passes-unfinished n = passes-stop f e l d out (s .at) (measuring-unfinished (w .counted) h (sym ex ∙ not-true x n))
 
-      pub passes-length : s .plain ≡ false → Passes (courseOf f e l) d (Length (s .n)) out
-      passes-length q = record { answer = rw (ends .plainly, q, ends .goes, ends .counted); buffer = λ g. written }
+  module _ (n : not x ≡ false) where
+    ends : EndsWith (courseOf f e l) (s .plain) (s .n)
+    ends = measuring-end (w .counted) h (sym ex ∙ not-false x n)
+
+    written : length (value (courseOf f e l)) ≤ length d → out ≡ value (courseOf f e l) ++ drop (length (value (courseOf f e l))) d
+    written k =
+        let v : value (courseOf f e l) ≡ value (w .counted .so-far .course) =
+        ap value (course-same (checks f) (walk (stepOf f e) 0 l) (ends .goes) ∙ so-far-end (w .counted .so-far) h) in
+        let c : length (value (courseOf f e l)) ≡ s .n = ends .counted in
+        w .put (omega arith) ∙ ap (λ (k : ℕ). value (w .counted .so-far .course) ++ drop k d) (sym c)
+        ∙ ap (_++ drop (length (value (courseOf f e l))) d) (sym v)
+
+    pub passes-plain : s .plain ≡ true → Passes (courseOf f e l) d Plain out
+    passes-plain q = record { answer = rw (ends .plainly, q); buffer = λ g. written }
+
+    pub passes-length : s .plain ≡ false → Passes (courseOf f e l) d (Length (s .n)) out
+    passes-length q = record { answer = rw (ends .plainly, q, ends .goes, ends .counted); buffer = λ g. written }

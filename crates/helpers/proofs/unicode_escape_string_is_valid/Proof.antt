@@ -13,16 +13,32 @@ is-spelt : (c : tie.At-match-keys2) → c .before .unicode-lexeme .result ≡ Un
 is-spelt c q = miss (0 ∷ 1 ∷ []) 2 tt (rw q at (c .match .keys2))
 
 returns-2 : tie.Need-returns-2
-returns-2 c = unicode-borrowed _ _ (c .before .before .before .before .before .before .before .is-utf8 .ensures) _ (c .before .before .before .before .before .before .unicode-lexeme .ensures) (is-spelt (c .before .before .before .before .before)) _ _ _ (c .before .before .before .read-lexeme .ensures) _ _ (c .enum-told2 .given .1)
+returns-2 c =
+    let r = c .before .before .before in
+    let s = r .before .before in
+    unicode-borrowed _ _ (s .before .before .is-utf8 .ensures) _ (s .before .unicode-lexeme .ensures) (is-spelt s) _ _ _ (r .read-lexeme .ensures)
+    _ _ (c .enum-told2 .given .1)
 
 returns-3 : tie.Need-returns-3
-returns-3 c = unicode-written _ _ (c .before .before .before .before .before .before .before .is-utf8 .ensures) _ (c .before .before .before .before .before .before .unicode-lexeme .ensures) (is-spelt (c .before .before .before .before .before)) _ _ _ (c .before .before .before .read-lexeme .ensures) _ (c .enum-told3 .given .1)
+returns-3 c =
+    let r = c .before .before .before in
+    let s = r .before .before in
+    unicode-written _ _ (s .before .before .is-utf8 .ensures) _ (s .before .unicode-lexeme .ensures) (is-spelt s) _ _ _ (r .read-lexeme .ensures)
+    _ (c .enum-told3 .given .1)
 
 returns-4 : tie.Need-returns-4
-returns-4 c = unicode-refused _ _ (c .before .before .before .before .before .before .before .is-utf8 .ensures) _ (c .before .before .before .before .before .before .unicode-lexeme .ensures) (is-spelt (c .before .before .before .before .before)) _ _ _ (c .before .before .before .read-lexeme .ensures) _ (c .enum-told4 .given .1)
+returns-4 c =
+    let r = c .before .before .before in
+    let s = r .before .before in
+    unicode-refused _ _ (s .before .before .is-utf8 .ensures) _ (s .before .unicode-lexeme .ensures) (is-spelt s) _ _ _ (r .read-lexeme .ensures)
+    _ (c .enum-told4 .given .1)
 
 returns-5 : tie.Need-returns-5
-returns-5 c = unicode-short _ _ (c .before .before .before .before .before .before .before .is-utf8 .ensures) _ (c .before .before .before .before .before .before .unicode-lexeme .ensures) (is-spelt (c .before .before .before .before .before)) _ _ _ (c .before .before .before .read-lexeme .ensures) _ (c .enum-told5 .given .1)
+returns-5 c =
+    let r = c .before .before .before in
+    let s = r .before .before in
+    unicode-short _ _ (s .before .before .is-utf8 .ensures) _ (s .before .unicode-lexeme .ensures) (is-spelt s) _ _ _ (r .read-lexeme .ensures)
+    _ (c .enum-told5 .given .1)
 
 pub unicode-escape-string-is-valid-spec : {M : Type 1} → statement M
 unicode-escape-string-is-valid-spec =

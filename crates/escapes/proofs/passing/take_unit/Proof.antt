@@ -20,26 +20,36 @@ returns : tie.Need-returns
 returns c = search turn-refused
 
 returns-2 : tie.Need-returns-2
-returns-2 c = turn-broken _ _ _ _ _ (c .before .before .before .before .unit-at .ensures) (c .before .before .before .before .before .before .before .before .before .pre) (not-refused (c .before .before .before)) _ (c .before .before .next-tail .ensures) (c .enum-told2 .given .1)
+returns-2 c =
+    let t = c .before .before in
+    let u = t .before in
+    turn-broken _ _ _ _ _ (u .before .unit-at .ensures) (u .before .before .before .before .before .before .pre) (not-refused u) _ (t .next-tail .ensures) (c .enum-told2 .given .1)
 
+-- behind the unit (u), its UTF-8 (t) and its bytes (p)
 add-t20 : tie.Need-add-t20
 add-t20 c =
     let u = c .before .before .before .before .before .before .before .before in
-    omega (arith, turn-fits _ _ _ _ _ (u .before .unit-at .ensures) (u .before .before .before .before .before .before .pre) (not-refused u), c .piece-more .ensures, u .before .before .before .before .before .before .good .0 .0)
+    let s = u .before .before .before .before .before .before in
+    omega (arith, turn-fits _ _ _ _ _ (u .before .unit-at .ensures) (s .pre) (not-refused u), c .piece-more .ensures, s .good .0 .0)
 
 add-t21 : tie.Need-add-t21
 add-t21 c =
     let u = c .before .before .before .before .before .before .before .before .before in
-    omega (arith, turn-room _ _ _ _ _ (u .before .unit-at .ensures) (u .before .before .before .before .before .before .pre) (not-refused u), c .before .before .before .before .lay-piece .ensures .answer, u .before .before .before .before .before .before .good .0 .0)
+    let s = u .before .before .before .before .before .before in
+    let r = turn-room _ _ _ _ _ (u .before .unit-at .ensures) (s .pre) (not-refused u) in
+    omega (arith, r, c .before .before .before .before .lay-piece .ensures .answer, s .good .0 .0)
 
 same-length : tie.Need-same-length
 same-length c = search needs
 
 returns-3 : tie.Need-returns-3
 returns-3 c =
-    turn-on _ _ _ _ _ (c .before .before .before .before .before .before .before .before .before .before .before .before .unit-at .ensures) (c .before .before .before .before .before .before .before .before .before .before .before .before .before .before .before .before .before .pre) (not-refused (c .before .before .before .before .before .before .before .before .before .before .before)) _ (c .before .before .before .before .before .before .before .before .before .before .next-tail .ensures) (not-broken (c .before .before .before .before .before .before .before .before .before)) _
-    (c .before .before .before .before .before .before .lay-piece .ensures .answer) _ _ _ (c .before .before .before .before .before .before .before .before .least .ensures) (c .before .before .before .before .before .before .lay-piece .ensures) (same-length c) _ (c .before .before .before .piece-more .ensures) _
-    (c .before .is-keep .ensures)
+    let p = c .before .before .before .before .before .before in
+    let t = p .before .before .before in
+    let u = t .before .before in
+    turn-on _ _ _ _ _ (u .before .unit-at .ensures) (u .before .before .before .before .before .before .pre) (not-refused u) _ (t .before .next-tail .ensures) (not-broken t) _
+    (p .lay-piece .ensures .answer) _ _ _ (p .before .before .least .ensures) (p .lay-piece .ensures) (same-length c) _
+    (c .before .before .before .piece-more .ensures) _ (c .before .is-keep .ensures)
 
 pub take-unit-spec : {M : Type 1} → statement M
 take-unit-spec =

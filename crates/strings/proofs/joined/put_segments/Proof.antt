@@ -15,14 +15,29 @@ Inv-loop text settings out₀ cursor₀ n₀ out cursor n = JoinsAt settings tex
 abbrev μ-loop : tie.MeasureT-loop
 μ-loop text settings out₀ cursor₀ n₀ out cursor n = length text - cursor .at
 
+-- in a turn: behind `put_segment`, and where the segment is found
 add-n : tie.Need-add-n Inv-loop μ-loop
-add-n c = let h = joins-fits (c .before .before .before .before .before .before .before .before .before .before .before .before .before .loop .inv) _ (c .before .before .before .before .before .before .before .before .before .before .before .before .next .ensures) _ _ _ _ (c .before .before .before .before .before .before .before .before .before .before .start .given .1) _ (c .before .before .before .before .before .before .before .before .least .ensures) _ _ (c .before .before .before .before .before .put-segment .ensures) _ (c .before .k .given .1) in omega (arith, h, c .before .before .before .before .before .before .before .before .before .before .before .before .before .before .before .before .before .good .0 .0)
+add-n c =
+    let p = c .before .before .before .before .before in
+    let s = p .before .before .before .before .before in
+    let h = joins-fits (s .before .before .before .loop .inv) _ (s .before .before .next .ensures) _ _ _ _ (s .start .given .1) _ (p .before .before .before .least .ensures) _ _ (p .put-segment .ensures) _
+    (c .before .k .given .1) in
+    omega (arith, h, s .before .before .before .before .before .before .before .good .0 .0)
 
 add-t22 : tie.Need-add-t22 Inv-loop μ-loop
-add-t22 c = let h = refused-fits (c .before .before .before .before .before .before .before .before .before .before .before .before .before .loop .inv) _ (c .before .before .before .before .before .before .before .before .before .before .before .before .next .ensures) _ _ _ _ (c .before .before .before .before .before .before .before .before .before .before .start .given .1) _ (c .before .before .before .before .before .before .before .before .least .ensures) _ _ (c .before .before .before .before .before .put-segment .ensures) _ (c .before .p .given .1) in omega (arith, h, c .before .before .before .before .before .before .before .before .before .before .before .before .before .before .before .before .before .good .0 .0)
+add-t22 c =
+    let p = c .before .before .before .before .before in
+    let s = p .before .before .before .before .before in
+    let h = refused-fits (s .before .before .before .loop .inv) _ (s .before .before .next .ensures) _ _ _ _ (s .start .given .1) _ (p .before .before .before .least .ensures) _ _ (p .put-segment .ensures) _
+    (c .before .p .given .1) in
+    omega (arith, h, s .before .before .before .before .before .before .before .good .0 .0)
 
 loop-again : tie.Need-loop-again Inv-loop μ-loop
-loop-again c = joins-turn (c .before .before .before .before .before .before .before .before .before .before .before .before .before .loop .inv) _ (c .before .before .before .before .before .before .before .before .before .before .before .before .next .ensures) _ _ _ _ (c .before .before .before .before .before .before .before .before .before .before .start .given .1) _ (c .before .before .before .before .before .before .before .before .least .ensures) _ _ (c .before .before .before .before .before .put-segment .ensures) _ (c .before .k .given .1) (search needs)
+loop-again c =
+    let p = c .before .before .before .before .before in
+    let s = p .before .before .before .before .before in
+    joins-turn (s .before .before .before .loop .inv) _ (s .before .before .next .ensures) _ _ _ _ (s .start .given .1) _ (p .before .before .before .least .ensures) _ _ (p .put-segment .ensures) _
+    (c .before .k .given .1) (search needs)
 
 same-length-2 : tie.Need-same-length-2 Inv-loop μ-loop
 same-length-2 c = c .before .before .before .loop .inv .same
