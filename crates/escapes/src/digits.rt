@@ -81,6 +81,7 @@ fn four_hexes(body: &[u8], at: usize) -> Hexes
 }
 
 // The number that four hex digits at a place make; 0 where they are not there.
+// Rules out: digits at the text's end not seen; digits told as none (must-fail: digits_not_read, one_byte_too_many_asked).
 pub fn four_at(body: &[u8], at: usize) -> u32
     ensures { λ r. ⌜ r ≡ hexBy 4 (drop at (now (body .entry))) ⌝ }
 {
@@ -95,6 +96,7 @@ pub fn four_at(body: &[u8], at: usize) -> u32
 }
 
 // The number that six hex digits at a place make; 0 where they are not there.
+// Rules out: digits at the text's end not seen; a digit read twice (must-fail: digits_not_read, one_byte_too_many_asked).
 pub fn six_at(body: &[u8], at: usize) -> u32
     ensures { λ r. ⌜ r ≡ hexBy 6 (drop at (now (body .entry))) ⌝ }
 {
@@ -110,7 +112,7 @@ pub fn six_at(body: &[u8], at: usize) -> u32
 }
 
 // The number that eight hex digits at a place make; 0 where they are not there.
-// Rules out: some of the first four digits read twice (must-fail: digits_read_twice).
+// Rules out: some of the first four digits read twice; digits at the text's end not seen (must-fail: digits_read_twice, one_byte_too_many_asked).
 pub fn eight_at(body: &[u8], at: usize) -> u32
     ensures { λ r. ⌜ r ≡ hexBy 8 (drop at (now (body .entry))) ⌝ }
 {

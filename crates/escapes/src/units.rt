@@ -111,6 +111,7 @@ fn scalar_unit(more: usize, value: u32) -> Piece
 }
 
 // One of two bytes. A choice, and no jump, so that letters in any order are read at one pace.
+// Rules out: the same for both; neither (must-fail: nothing_chosen, one_for_both).
 pub fn choose(test: bool, yes: u8, no: u8) -> u8
     ensures { λ r. ⌜ r ≡ (if test then yes else no) ⌝ }
 {
@@ -121,7 +122,7 @@ pub fn choose(test: bool, yes: u8, no: u8) -> u8
 }
 
 // The byte that a letter behind E's backslash stands for: by the table, or the letter itself.
-// Rules out: \t read as \n (must-fail: letter_of_another).
+// Rules out: \t read as \n; \c read as \b (must-fail: c_read_as_b, letter_of_another).
 pub fn escape_letter(letter: u8) -> u8
     ensures { λ r. ⌜ r ≡ letterOf letter ⌝ }
 {
@@ -133,6 +134,7 @@ pub fn escape_letter(letter: u8) -> u8
 }
 
 // Whether a byte is an octal digit.
+// Rules out: 8 taken for one; 0 taken for none (must-fail: eight_is_octal, zero_is_not_octal).
 pub fn is_octal(byte: u8) -> bool
     ensures { λ r. ⌜ r ≡ ltb (digit byte) 8 ⌝ }
 {
@@ -140,6 +142,7 @@ pub fn is_octal(byte: u8) -> bool
 }
 
 // What follows E's backslash, at a place behind it. Most letters leave by the last line, behind tests that are seldom true.
+// Rules out: three octal digits modulo 255; one hex digit for two (must-fail: octal_modulo_255, one_hex_digit_for_two).
 pub fn escaped_unit(body: &[u8], at: usize) -> Piece
     ensures { λ r. ⌜ Is r (escaped (drop at (now (body .entry)))) ⌝ }
 {

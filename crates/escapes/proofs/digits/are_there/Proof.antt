@@ -4,11 +4,5 @@ use borrow.Author.Needs.{needs}
 use Rattle.escapes.proofs.digits.are_there.Statement.{statement}
 use Rattle.escapes.proofs.digits.are_there.Tie as tie
 
-returns : tie.Need-returns
-returns c = search there-none
-
-returns-2 : tie.Need-returns-2
-returns-2 c = search there-by
-
 pub are-there-spec : {M : Type 1} → statement M
-are-there-spec = tie.close (tie.spec returns (λ c. search needs) returns-2)
+are-there-spec = tie.close (tie.spec (λ c. search there-none) (λ c. search needs) (λ c. search there-by))

@@ -26,35 +26,8 @@ fits c =
     let p = In c .before .before .before .pre in
     running-fits (In c .loop .inv) _ (c .before .hex-value .ensures) (omega arith) (omega arith) (c .if3 .left) (p .0) (p .1)
 
-returns : tie.Need-returns Inv-loop μ-loop
-returns c = let a = c .before .before .args in running-over (running-none _ _ (now (a .body)) (a .at)) (omega arith)
-
-loop-holds : tie.Need-loop-holds Inv-loop μ-loop
-loop-holds c = running-none _ _ _ _
-
-returns-2 : tie.Need-returns-2 Inv-loop μ-loop
-returns-2 c = running-over (c .before .before .loop .inv) (c .if2 .taken)
-
-hex-value-requires : tie.Need-hex-value-requires Inv-loop μ-loop
-hex-value-requires c κs = tt
-
 returns-3 : tie.Need-returns-3 Inv-loop μ-loop
 returns-3 c = running-other (c .before .before .before .before .before .loop .inv) _ (c .before .hex-value .ensures) (c .if3 .taken)
-
-mul-value : tie.Need-mul-value Inv-loop μ-loop
-mul-value c = omega (arith, fits c)
-
-cast-value : tie.Need-cast-value Inv-loop μ-loop
-cast-value c = omega (arith, fits c)
-
-add-value : tie.Need-add-value Inv-loop μ-loop
-add-value c = omega (arith, fits c)
-
-loop-again : tie.Need-loop-again Inv-loop μ-loop
-loop-again c = turn c
-
-returns-4 : tie.Need-returns-4 Inv-loop μ-loop
-returns-4 c = running-full (c .before .loop .inv) (c .loop-test .left)
 
 pub digits-at-spec : {M : Type 1} → statement M
 digits-at-spec =
@@ -62,18 +35,18 @@ digits-at-spec =
     (tie.spec
     Inv-loop
     μ-loop
-    returns
+    (λ c. let a = c .before .before .args in running-over (running-none _ _ (now (a .body)) (a .at)) (omega arith))
     (λ c. omega arith)
-    loop-holds
-    returns-2
+    (λ c. running-none _ _ _ _)
+    (λ c. running-over (c .before .before .loop .inv) (c .if2 .taken))
     (λ c. omega arith)
     (λ c. omega arith)
-    hex-value-requires
+    (λ c κs. tt)
     returns-3
-    mul-value
-    cast-value
-    add-value
+    (λ c. omega (arith, fits c))
+    (λ c. omega (arith, fits c))
+    (λ c. omega (arith, fits c))
     (λ c. omega arith)
     (λ c. omega arith)
-    loop-again
-    returns-4)
+    (λ c. turn c)
+    (λ c. running-full (c .before .loop .inv) (c .loop-test .left)))

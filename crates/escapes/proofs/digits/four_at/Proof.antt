@@ -12,15 +12,6 @@ returns : tie.Need-returns
 returns c = let a = c .before .before .before .args in
     hex-short 4 (now (a .body)) (a .at) (omega arith) (sym (c .before .are-there .ensures) ∙ not-true _ (c .if1 .taken))
 
-four-hexes-requires : tie.Need-four-hexes-requires
-four-hexes-requires c κs = leb-true _ _ (sym (c .before .are-there .ensures) ∙ not-false _ (c .if1 .left))
-
-returns-2 : tie.Need-returns-2
-returns-2 c = hex-whole (c .before .four-hexes .ensures) (c .if2 .taken)
-
-returns-3 : tie.Need-returns-3
-returns-3 c = hex-none (c .before .four-hexes .ensures) (c .if2 .left)
-
 pub four-at-spec : {M : Type 1} → statement M
 four-at-spec =
-    tie.close (tie.spec (λ c κs. search needs) returns four-hexes-requires returns-2 returns-3)
+    tie.close (tie.spec (λ c κs. search needs) returns (λ c κs. leb-true _ _ (sym (c .before .are-there .ensures) ∙ not-false _ (c .if1 .left))) (λ c. hex-whole (c .before .four-hexes .ensures) (c .if2 .taken)) (λ c. hex-none (c .before .four-hexes .ensures) (c .if2 .left)))

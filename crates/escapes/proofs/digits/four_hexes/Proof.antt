@@ -6,9 +6,6 @@ use borrow.Author.Needs.{needs}
 use Rattle.escapes.proofs.digits.four_hexes.Statement.{statement}
 use Rattle.escapes.proofs.digits.four_hexes.Tie as tie
 
-mul-t7 : tie.Need-mul-t7
-mul-t7 c = omega (arith, group-two-most (c .before .before .before .before .two-hexes .ensures))
-
 add-t8 : tie.Need-add-t8
 add-t8 c = omega (
   arith,
@@ -26,4 +23,4 @@ returns c =
 pub four-hexes-spec : {M : Type 1} → statement M
 four-hexes-spec =
     tie.close
-    (tie.spec (λ c κs. search needs) (λ c. search needs) (λ c κs. search needs) mul-t7 add-t8 returns)
+    (tie.spec (λ c κs. search needs) (λ c. search needs) (λ c κs. search needs) (λ c. omega (arith, group-two-most (c .before .before .before .before .two-hexes .ensures))) add-t8 returns)

@@ -32,18 +32,6 @@ returns : tie.Need-returns
 returns c = let a = c .before .before .before .args in
     hex-short 6 (now (a .body)) (a .at) (omega arith) (sym (c .before .are-there .ensures) ∙ not-true _ (c .if1 .taken))
 
-two-hexes-requires : tie.Need-two-hexes-requires
-two-hexes-requires c κs = omega (arith, there c)
-
-add-four-hexes : tie.Need-add-four-hexes
-add-four-hexes c = omega (arith, there (c .before))
-
-four-hexes-requires : tie.Need-four-hexes-requires
-four-hexes-requires c κs = omega (arith, there (c .before))
-
-mul-result : tie.Need-mul-result
-mul-result c = omega (arith, group-two-most (c .before .before .before .before .before .two-hexes .ensures))
-
 add-result : tie.Need-add-result
 add-result c = omega (
   arith,
@@ -54,22 +42,16 @@ add-result c = omega (
       (c .before .before .before .before .before .four-hexes .result .whole) (c .before .before .if2 .taken)),
 )
 
-returns-2 : tie.Need-returns-2
-returns-2 c = hex-whole (group (c .before .before .before .before .before)) (c .before .before .if2 .taken)
-
-returns-3 : tie.Need-returns-3
-returns-3 c = hex-none (group (c .before .before .before)) (c .if2 .left)
-
 pub six-at-spec : {M : Type 1} → statement M
 six-at-spec =
     tie.close
     (tie.spec
     (λ c κs. search needs)
     returns
-    two-hexes-requires
-    add-four-hexes
-    four-hexes-requires
-    mul-result
+    (λ c κs. omega (arith, there c))
+    (λ c. omega (arith, there (c .before)))
+    (λ c κs. omega (arith, there (c .before)))
+    (λ c. omega (arith, group-two-most (c .before .before .before .before .before .two-hexes .ensures)))
     add-result
-    returns-2
-    returns-3)
+    (λ c. hex-whole (group (c .before .before .before .before .before)) (c .before .before .if2 .taken))
+    (λ c. hex-none (group (c .before .before .before)) (c .if2 .left)))

@@ -3,10 +3,7 @@ use borrow.Author.Needs.{needs}
 use Rattle.escapes.proofs.passing.next_tail.Statement.{statement}
 use Rattle.escapes.proofs.passing.next_tail.Tie as tie
 
-returns-2 : tie.Need-returns-2
-returns-2 c = rw (c .before .enum-told2 .given .1) (c .piece-tail .ensures)
-
 pub next-tail-spec : {M : Type 1} → statement M
 next-tail-spec =
     tie.close
-    (tie.spec (λ c. search needs) (λ c. search needs) (λ c κs. search needs) (λ c. search needs) (λ c. search needs) returns-2 (λ c. search needs))
+    (tie.spec (λ c. search needs) (λ c. search needs) (λ c κs. search needs) (λ c. search needs) (λ c. search needs) (λ c. rw (c .before .enum-told2 .given .1) (c .piece-tail .ensures)) (λ c. search needs))

@@ -14,29 +14,14 @@ Inv-loop body family escape out₀ pass₀ out pass = Passing family escape body
 abbrev μ-loop : tie.MeasureT-loop
 μ-loop body family escape out₀ pass₀ out pass = length body - pass .at
 
-loop-holds : tie.Need-loop-holds Inv-loop μ-loop
-loop-holds c = passing-none _ _ _ _
-
-take-unit-requires : tie.Need-take-unit-requires Inv-loop μ-loop
-take-unit-requires c κs = record { counted = c .before .before .before .loop .inv .counted; inside = c .before .if1 .taken }
-
-same-length-2 : tie.Need-same-length-2 Inv-loop μ-loop
-same-length-2 c = c .before .before .before .before .loop .inv .same
-
-same-length-3 : tie.Need-same-length-3 Inv-loop μ-loop
-same-length-3 c = c .before .before .before .before .before .loop .inv .same
-
-same-length-4 : tie.Need-same-length-4 Inv-loop μ-loop
-same-length-4 c = c .before .before .before .before .before .loop .inv .same
-
 pub pass-units-spec : {M : Type 1} → statement M
 pass-units-spec =
     tie.close
     (tie.spec
     Inv-loop
     μ-loop
-    loop-holds
-    take-unit-requires
+    (λ c. passing-none _ _ _ _)
+    (λ c κs. record { counted = c .before .before .before .loop .inv .counted; inside = c .before .if1 .taken })
     (λ c. search needs)
     (λ c. search turn-less)
     (λ c. search turn-again)
@@ -44,9 +29,9 @@ pass-units-spec =
     (λ c. search needs)
     (λ c. search turn-stops)
     (λ c κs. search needs)
-    same-length-2
+    (λ c. c .before .before .before .before .loop .inv .same)
     (λ c. search passes-unfinished)
-    same-length-3
+    (λ c. c .before .before .before .before .before .loop .inv .same)
     (λ c. search passes-plain)
-    same-length-4
+    (λ c. c .before .before .before .before .before .loop .inv .same)
     (λ c. search passes-length))

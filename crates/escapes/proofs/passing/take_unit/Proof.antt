@@ -16,9 +16,6 @@ not-refused c q = miss (0 ∷ 1 ∷ 2 ∷ 3 ∷ 4 ∷ []) 5 tt (rw q at (c .matc
 not-broken : (c : tie.At-match2-keys2) → c .before .next-tail .result ≡ Broken → ⊥
 not-broken c q = miss (0 ∷ 1 ∷ 2 ∷ 3 ∷ 4 ∷ 5 ∷ 6 ∷ 7 ∷ []) 8 tt (rw q at (c .match2 .keys2))
 
-returns : tie.Need-returns
-returns c = search turn-refused
-
 returns-2 : tie.Need-returns-2
 returns-2 c =
     let t = c .before .before in
@@ -58,7 +55,7 @@ take-unit-spec =
     (λ c. search needs)
     (λ c κs. search needs)
     (λ c. search needs)
-    returns
+    (λ c. search turn-refused)
     (λ c κs. search needs)
     (λ c. search needs)
     returns-2

@@ -6,15 +6,6 @@ use borrow.Author.Needs.{needs}
 use Rattle.escapes.proofs.pieces.lay_piece.Statement.{statement}
 use Rattle.escapes.proofs.pieces.lay_piece.Tie as tie
 
-returns : tie.Need-returns
-returns c = rw (c .before .before .before .before .enum-told .given .1) (c .before .before .lay-byte .ensures)
-
-returns-2 : tie.Need-returns-2
-returns-2 c = rw (c .before .before .before .before .before .piece .given .1) (c .before .before .lay-byte2 .ensures)
-
-returns-3 : tie.Need-returns-3
-returns-3 c = rw (c .before .before .before .before .before .piece2 .given .1) (c .before .before .lay-two .ensures)
-
 returns-4 : tie.Need-returns-4
 returns-4 c =
     let q = c .before .before .before .before .before .before .piece3 .given .1 in
@@ -22,9 +13,6 @@ returns-4 c =
 
 returns-5 : tie.Need-returns-5
 returns-5 c = rw (c .before .before .before .before .enum-told2 .given .1) (record { answer = refl; buffer = c .before .before .put-bytes .ensures .buffer })
-
-returns-6 : tie.Need-returns-6
-returns-6 c = rw (c .enum-told3 .given .1) (record { answer = refl; buffer = puts-nothing _ .buffer })
 
 pub lay-piece-spec : {M : Type 1} → statement M
 lay-piece-spec =
@@ -43,13 +31,13 @@ lay-piece-spec =
     (λ c κs. search needs)
     (λ c. search needs)
     (λ c. search needs)
-    returns
+    (λ c. rw (c .before .before .before .before .enum-told .given .1) (c .before .before .lay-byte .ensures))
     (λ c. search needs)
-    returns-2
+    (λ c. rw (c .before .before .before .before .before .piece .given .1) (c .before .before .lay-byte2 .ensures))
     (λ c. search needs)
-    returns-3
+    (λ c. rw (c .before .before .before .before .before .piece2 .given .1) (c .before .before .lay-two .ensures))
     (λ c. search needs)
     returns-4
     (λ c. search needs)
     returns-5
-    returns-6)
+    (λ c. rw (c .enum-told3 .given .1) (record { answer = refl; buffer = puts-nothing _ .buffer })))

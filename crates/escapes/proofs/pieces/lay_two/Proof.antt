@@ -5,11 +5,5 @@ use borrow.Author.Needs.{needs}
 use Rattle.escapes.proofs.pieces.lay_two.Statement.{statement}
 use Rattle.escapes.proofs.pieces.lay_two.Tie as tie
 
-returns : tie.Need-returns
-returns c = lays-none (_ ∷ _ ∷ []) _ (c .if1 .taken)
-
-returns-2 : tie.Need-returns-2
-returns-2 c = lays-sets (_ ∷ _ ∷ []) _ (search needs)
-
 pub lay-two-spec : {M : Type 1} → statement M
-lay-two-spec = tie.close (tie.spec returns (λ c. search needs) (λ c. search needs) (λ c. search needs) returns-2)
+lay-two-spec = tie.close (tie.spec (λ c. lays-none (_ ∷ _ ∷ []) _ (c .if1 .taken)) (λ c. search needs) (λ c. search needs) (λ c. search needs) (λ c. lays-sets (_ ∷ _ ∷ []) _ (search needs)))

@@ -9,9 +9,6 @@ use borrow.Author.Needs.{needs}
 use Rattle.escapes.proofs.units.escaped_unit.Statement.{statement}
 use Rattle.escapes.proofs.units.escaped_unit.Tie as tie
 
-returns : tie.Need-returns
-returns c = escaped-end _ _ (c .if1 .taken)
-
 returns-2 : tie.Need-returns-2
 returns-2 c =
     let a = c .before .before .before .before .before .before .before .before .args in
@@ -61,7 +58,7 @@ pub escaped-unit-spec : {M : Type 1} → statement M
 escaped-unit-spec =
     tie.close
     (tie.spec
-    returns
+    (λ c. escaped-end _ _ (c .if1 .taken))
     (λ c. search needs)
     (λ c κs. search needs)
     (λ c κs. search needs)

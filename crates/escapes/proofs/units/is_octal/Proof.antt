@@ -3,8 +3,5 @@ use Rattle.escapes.proofs.UnitLaws.{octal-test}
 use Rattle.escapes.proofs.units.is_octal.Statement.{statement}
 use Rattle.escapes.proofs.units.is_octal.Tie as tie
 
-returns : tie.Need-returns
-returns c = octal-test (c .args .byte)
-
 pub is-octal-spec : {M : Type 1} → statement M
-is-octal-spec = tie.close (tie.spec returns)
+is-octal-spec = tie.close (tie.spec (λ c. octal-test (c .args .byte)))

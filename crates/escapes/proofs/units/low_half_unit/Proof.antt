@@ -32,9 +32,6 @@ returns-3 c = let a = c .before .before .before .before .before .before .before 
     (sym (c .before .before .before .before .stands-at .ensures) ∙ not-false _ (c .before .before .before .if1 .left)) _ (c .before .before .four-at .ensures)
     (c .if3 .taken)
 
-add-t10 : tie.Need-add-t10
-add-t10 c = omega (arith, there c)
-
 returns-4 : tie.Need-returns-4
 returns-4 c =
     let a = c .before .before .before .before .before .before .before .args in
@@ -54,7 +51,7 @@ low-half-unit-spec =
     (λ c κs. search needs)
     returns-2
     returns-3
-    add-t10
+    (λ c. omega (arith, there c))
     (λ c. search needs)
     (λ c. search needs)
     (λ c. search needs)

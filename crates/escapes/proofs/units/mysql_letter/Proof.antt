@@ -5,24 +5,6 @@ use Rattle.escapes.proofs.UnitLaws.{other-none}
 use Rattle.escapes.proofs.units.mysql_letter.Statement.{statement}
 use Rattle.escapes.proofs.units.mysql_letter.Tie as tie
 
-returns : tie.Need-returns
-returns c = sym (ap (byteOf mysqlTable) (c .match .keys1))
-
-returns-2 : tie.Need-returns-2
-returns-2 c = sym (ap (byteOf mysqlTable) (c .match .keys2))
-
-returns-3 : tie.Need-returns-3
-returns-3 c = sym (ap (byteOf mysqlTable) (c .match .keys3))
-
-returns-4 : tie.Need-returns-4
-returns-4 c = sym (ap (byteOf mysqlTable) (c .match .keys4))
-
-returns-5 : tie.Need-returns-5
-returns-5 c = sym (ap (byteOf mysqlTable) (c .match .keys5))
-
-returns-6 : tie.Need-returns-6
-returns-6 c = sym (ap (byteOf mysqlTable) (c .match .keys6))
-
 returns-7 : tie.Need-returns-7
 returns-7 c =
     let r = c .match .rest in
@@ -30,4 +12,4 @@ returns-7 c =
 
 pub mysql-letter-spec : {M : Type 1} → statement M
 mysql-letter-spec =
-    tie.close (tie.spec returns returns-2 returns-3 returns-4 returns-5 returns-6 returns-7)
+    tie.close (tie.spec (λ c. sym (ap (byteOf mysqlTable) (c .match .keys1))) (λ c. sym (ap (byteOf mysqlTable) (c .match .keys2))) (λ c. sym (ap (byteOf mysqlTable) (c .match .keys3))) (λ c. sym (ap (byteOf mysqlTable) (c .match .keys4))) (λ c. sym (ap (byteOf mysqlTable) (c .match .keys5))) (λ c. sym (ap (byteOf mysqlTable) (c .match .keys6))) returns-7)

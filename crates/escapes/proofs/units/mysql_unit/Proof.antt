@@ -4,12 +4,6 @@ use borrow.Author.Needs.{needs}
 use Rattle.escapes.proofs.units.mysql_unit.Statement.{statement}
 use Rattle.escapes.proofs.units.mysql_unit.Tie as tie
 
-returns : tie.Need-returns
-returns c = mysql-end _ _ (c .if1 .taken)
-
-returns-2 : tie.Need-returns-2
-returns-2 c = mysql-letter _ _ (c .before .before .before .if1 .left) _ (c .before .mysql-letter .ensures) (c .if2 .taken)
-
 returns-3 : tie.Need-returns-3
 returns-3 c =
     mysql-kept _ _ (c .before .before .before .before .if1 .left) _ (c .before .before .mysql-letter .ensures) (c .before .if2 .left) (c .if3 .taken)
@@ -22,10 +16,10 @@ pub mysql-unit-spec : {M : Type 1} → statement M
 mysql-unit-spec =
     tie.close
     (tie.spec
-    returns
+    (λ c. mysql-end _ _ (c .if1 .taken))
     (λ c. search needs)
     (λ c κs. search needs)
     (λ c. search needs)
-    returns-2
+    (λ c. mysql-letter _ _ (c .before .before .before .if1 .left) _ (c .before .mysql-letter .ensures) (c .if2 .taken))
     returns-3
     returns-4)

@@ -38,12 +38,6 @@ returns-3 c =
     (sym (c .before .before .before .before .before .stands-at .ensures) ∙ c .before .before .before .before .if1 .left)
     (sym (c .before .before .before .byte-at .ensures) ∙ c .before .before .if3 .taken) _ (c .before .six-at .ensures) (c .if4 .taken)
 
-add-scalar-unit : tie.Need-add-scalar-unit
-add-scalar-unit c = omega (arith, wide-there c)
-
-sub-scalar-unit : tie.Need-sub-scalar-unit
-sub-scalar-unit c = omega (arith, wide-there c)
-
 returns-4 : tie.Need-returns-4
 returns-4 c =
     let a = c .before .before .before .before .before .before .before .before .before .args in
@@ -60,9 +54,6 @@ returns-5 c =
     uescaped-none (now (a .escape)) (now (a .body)) (a .at)
     (sym (c .before .before .before .before .before .stands-at .ensures) ∙ c .before .before .before .before .if1 .left)
     (λ e. c .before .before .if3 .left (c .before .before .before .byte-at .ensures ∙ e)) _ (c .before .four-at .ensures) (c .if5 .taken)
-
-add-low-half-unit : tie.Need-add-low-half-unit
-add-low-half-unit c = omega (arith, there (c .before))
 
 low-half-unit-requires : tie.Need-low-half-unit-requires
 low-half-unit-requires c κs =
@@ -82,12 +73,6 @@ returns-6 c =
     (sym (c .before .before .before .before .before .before .before .stands-at .ensures) ∙ c .before .before .before .before .before .before .if1 .left)
     (λ e. c .before .before .before .before .if3 .left (c .before .before .before .before .before .byte-at .ensures ∙ e)) _
     (c .before .before .before .four-at .ensures) (c .before .if6 .taken) _ (c .low-half-unit .ensures)
-
-add-scalar-unit-2 : tie.Need-add-scalar-unit-2
-add-scalar-unit-2 c = omega (arith, there (c .before))
-
-sub-scalar-unit-2 : tie.Need-sub-scalar-unit-2
-sub-scalar-unit-2 c = omega (arith, there (c .before))
 
 returns-7 : tie.Need-returns-7
 returns-7 c =
@@ -112,16 +97,16 @@ uescaped-unit-spec =
     (λ c. search needs)
     (λ c κs. search needs)
     returns-3
-    add-scalar-unit
-    sub-scalar-unit
+    (λ c. omega (arith, wide-there c))
+    (λ c. omega (arith, wide-there c))
     (λ c κs. search needs)
     returns-4
     (λ c κs. search needs)
     returns-5
-    add-low-half-unit
+    (λ c. omega (arith, there (c .before)))
     low-half-unit-requires
     returns-6
-    add-scalar-unit-2
-    sub-scalar-unit-2
+    (λ c. omega (arith, there (c .before)))
+    (λ c. omega (arith, there (c .before)))
     (λ c κs. search needs)
     returns-7)

@@ -4,8 +4,5 @@ use Rattle.escapes.proofs.Turns.{unit-past}
 use Rattle.escapes.proofs.units.unit_at.Statement.{statement}
 use Rattle.escapes.proofs.units.unit_at.Tie as tie
 
-returns : tie.Need-returns
-returns c = search unit-past
-
 pub unit-at-spec : {M : Type 1} → statement M
-unit-at-spec = tie.close (tie.spec returns (λ c κs. search needs) (λ c. search needs))
+unit-at-spec = tie.close (tie.spec (λ c. search unit-past) (λ c κs. search needs) (λ c. search needs))
