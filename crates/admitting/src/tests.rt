@@ -7,7 +7,7 @@ use meaning::Span;
 use utf8::check::is_utf8;
 ghost use mathlib.Core.Path.{_≡_};
 ghost use Rattle.meaning.specs.Questions.{cutsCharacter, badSpan, sourceText, tested};
-ghost use Rattle.admitting.specs.Tests.{Tests};
+ghost use Rattle.admitting.specs.Tests.{Tests, Locates};
 
 // The text of a literal, from a place of the source up to another; or why there is none.
 pub enum Tested {
@@ -35,10 +35,9 @@ fn is_bad_span(span: Span, source: &[u8]) -> bool
         | cuts_character(source, end)
 }
 
-// The tests 2, 3 and 4: the literal stands in a source, its span is one of the source, and its text is UTF-8.
-// Rules out: the text's end given for its start; another reason for a literal that stands in no source (must-fail: end_for_start, two_told_as_one).
-pub fn test_source(literal: Literal, source: &[u8]) -> Tested
-    ensures { λ r. ⌜ Tests literal (now (source .entry)) r (sourceText literal (now (source .entry))) ⌝ }
+// The tests 2 and 3: the literal stands in a source, and its span is one of the source.
+fn place(literal: Literal, source: &[u8]) -> Tested
+    ensures { λ r. ⌜ Locates literal (now (source .entry)) r (sourceText literal (now (source .entry))) ⌝ }
 {
     let span = literal.span;
     if literal.synthetic {
@@ -49,10 +48,36 @@ pub fn test_source(literal: Literal, source: &[u8]) -> Tested
     }
     let start = span.start as usize;
     let end = span.end as usize;
-    if is_utf8(&source[start..end]) {
-        return Tested::Passes { start, end };
+    Tested::Passes { start, end }
+}
+
+// The tests 1 to 3: `right` says whether the kind fits the question, which expects `expected`. Whoever reads the text tests 4.
+// Rules out: the kind passed over; another family told (must-fail: located_for_another, located_whatever_its_kind).
+pub fn locate(right: bool, expected: LiteralExpected, literal: Literal, source: &[u8]) -> Tested
+    ensures { λ r. ⌜ Locates literal (now (source .entry)) r (tested right expected literal (now (source .entry))) ⌝ }
+{
+    if !right {
+        let found = literal.kind;
+        return Tested::Barred(Refusal::WrongKind(expected, found));
     }
-    Tested::Barred(Refusal::NotUtf8(span))
+    place(literal, source)
+}
+
+// The tests 2, 3 and 4: the literal stands in a source, its span is one of the source, and its text is UTF-8.
+// Rules out: the text's end given for its start; another reason for a literal that stands in no source (must-fail: end_for_start, two_told_as_one).
+pub fn test_source(literal: Literal, source: &[u8]) -> Tested
+    ensures { λ r. ⌜ Tests literal (now (source .entry)) r (sourceText literal (now (source .entry))) ⌝ }
+{
+    match place(literal, source) {
+        Tested::Passes { start, end } => {
+            if is_utf8(&source[start..end]) {
+                return Tested::Passes { start, end };
+            }
+            let span = literal.span;
+            Tested::Barred(Refusal::NotUtf8(span))
+        }
+        Tested::Barred(refusal) => Tested::Barred(refusal),
+    }
 }
 
 // The tests 1 to 4: `right` says whether the kind fits the question, which expects `expected`.

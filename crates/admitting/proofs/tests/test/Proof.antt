@@ -1,11 +1,8 @@
 -- `admitting::tests::test` meets its contract, by whether the kind fits. Assumes nothing.
-use Rattle.admitting.proofs.Passing.{fitting, unfitting}
 use borrow.Author.Needs.{needs}
+use Rattle.admitting.proofs.Passing.{fitting, unfitting}
 use Rattle.admitting.proofs.tests.test.Statement.{statement}
 use Rattle.admitting.proofs.tests.test.Tie as tie
-
-test-source-requires : tie.Need-test-source-requires
-test-source-requires c κs = search needs
 
 returns : tie.Need-returns
 returns c = search fitting
@@ -14,4 +11,4 @@ returns-2 : tie.Need-returns-2
 returns-2 c = search unfitting
 
 pub test-spec : {M : Type 1} → statement M
-test-spec = tie.close (tie.spec test-source-requires returns returns-2)
+test-spec = tie.close (tie.spec (λ c κs. search needs) returns returns-2)
