@@ -5,7 +5,7 @@ use leaves::texts::starts_at;
 use meaning::Read;
 use meaning::Settings;
 use spellings::spelling::dollar_open_delim_len;
-use strings::joined::read_string;
+use strings::reading::read_bytes;
 ghost use mathlib.Core.Path.{_≡_};
 ghost use lib.ListN.{drop};
 ghost use Rattle.meaning.specs.Kinds.{firstOf, pastLast, found, dollarToken, tokenStart, quoteToken, temporalToken, temporal};
@@ -137,7 +137,7 @@ pub fn read_temporal(text: &[u8], out: &mut [u8]) -> Read
 {
     match temporal_token(text) {
         Token::Found { from, until } => {
-            match read_string(&text[from..until], Settings { backslash: false }, out) {
+            match read_bytes(&text[from..until], Settings { backslash: false }, out) {
                 Read::Borrowed {
                     from: start,
                     until: end,

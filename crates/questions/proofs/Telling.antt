@@ -1,8 +1,8 @@
 -- The questions whose answer is a text: what the code told of the tests and of the reading is the definition's outcome, and no sum wraps. Assumes nothing.
-use mathlib.Core.Path.{_≡_}
-use mathlib.Core.Bool.{_&&_}
+use mathlib.Core.Path.{_≡_, refl, sym, subst}
+use mathlib.Core.Bool.{Bool, _&&_}
 use mathlib.Core.List.{List}
-use Prim.Native.Nat.{ℕ, _<_, _^_}
+use Prim.Native.Nat.{ℕ, _≤_, _<_, _^_}
 use lib.Dec.{eqb, leb, ltb}
 use lib.ListN.{length}
 use Rattle.meaning.specs.declared.Settings.{Settings}
@@ -10,10 +10,11 @@ use Rattle.meaning.specs.declared.Literal.{Literal}
 use Rattle.meaning.specs.declared.LiteralExpected.the-variants as Expected
 use Rattle.meaning.specs.declared.Read.{Read}
 use Rattle.meaning.specs.declared.Refusal.{Refusal}
-use Rattle.meaning.specs.declared.Refusal.the-variants.{InvalidInteger, InvalidString, InvalidBitString}
+use Rattle.meaning.specs.declared.Refusal.the-variants.{NotUtf8, InvalidInteger, InvalidString, InvalidBitString}
 use Rattle.meaning.specs.declared.Text.{Text}
 use Rattle.meaning.specs.declared.Text.the-variants.{Refused}
 use Rattle.meaning.specs.Bytes.{part}
+use Rattle.meaning.specs.Chars.{utf8}
 use Rattle.meaning.specs.Reading.{read}
 use Rattle.meaning.specs.Reads.{Reads}
 use Rattle.meaning.specs.Numbers.{decimalOf}
@@ -24,7 +25,11 @@ use Rattle.meaning.specs.Questions.{tested, stringQuestion, decimalQuestion, bi
 use Rattle.laws.proofs.questions.Ranges.{read-inside}
 use Rattle.admitting.specs.declared.tests.Tested.{Tested}
 use Rattle.admitting.specs.declared.tests.Tested.the-variants.{Passes, Barred}
-use Rattle.admitting.specs.Tests.{Tests}
+use Rattle.admitting.specs.Tests.{Tests, Locates}
+use Rattle.admitting.proofs.Passing.{passed, undecoded, ordered, inside, barred-too}
+use Rattle.strings.specs.declared.reading.Checked.{Checked}
+use Rattle.strings.specs.declared.reading.Checked.the-variants as Checked′
+use Rattle.strings.specs.Driving.{ChecksBy, Checks}
 use Rattle.questions.specs.Told.{toldBy, InText, bitBaseBy}
 use Rattle.questions.proofs.Moved.{fits-text, told-meets, told-barred}
 use Rattle.bits.proofs.Inside.{bits-inside}
@@ -86,3 +91,37 @@ module _ {l : Literal} {S : List ℕ} {r : Tested} {code : ℕ} (c : code ≡ ki
     pub temporal-barred : (out : List ℕ) (w : Refusal) → r ≡ Barred w → Meets (temporalQuestion l S out) (Refused w) out
     unfolding temporalQuestion
     temporal-barred out w q = rw (← c) (told-barred temporal InvalidString v out w q)
+
+-- THE STRING'S TEXT is tested to be UTF-8 by who reads it
+module _ {l : Literal} {S : List ℕ} {r : Tested} {code : ℕ} (c : code ≡ kindCode (l .kind)) (σ : Settings)
+    (g : Locates l S r (tested (eqb code 4) Expected.String l S)) where
+  module _ (s e : ℕ) (q : r ≡ Passes s e) (out after : List ℕ) where
+    abbrev u : Bool
+    u = utf8 (part s e S)
+
+    pub checked-fits : length S < 2 ^ 64 → (k : Checked) → Checks u (read σ (part s e S)) out k after → (d : Read) → k ≡ Checked′.Text d → InText s d
+    checked-fits h k x d ec =
+        let y = subst (λ (z : Checked). ChecksBy u (read σ (part s e S)) out z after) ec (x .by) in
+        string-fits (passed l S r g s e q u refl (y .0)) s e refl h σ (y .1)
+
+    pub checked-told : (k : Checked) → Checks u (read σ (part s e S)) out k after → (d : Read) → k ≡ Checked′.Text d → (a : Text)
+        → a ≡ toldBy (InvalidString (l .span)) s d → Meets (stringQuestion l S σ out) a after
+    checked-told k x d ec a o =
+        let y = subst (λ (z : Checked). ChecksBy u (read σ (part s e S)) out z after) ec (x .by) in
+        string-told c σ (passed l S r g s e q u refl (y .0)) s e refl out after d (y .1) a o
+
+    pub checked-not : (k : Checked) → Checks u (read σ (part s e S)) out k after → k ≡ Checked′.NotUtf8
+        → Meets (stringQuestion l S σ out) (Refused (NotUtf8 (l .span))) after
+    checked-not k x ec =
+        let y = subst (λ (z : Checked). ChecksBy u (read σ (part s e S)) out z after) ec (x .by) in
+        subst (λ (b : List ℕ). Meets (stringQuestion l S σ out) (Refused (NotUtf8 (l .span))) b) (sym (y .1))
+        (string-barred c σ (undecoded l S r g s e q u refl (y .0)) out (NotUtf8 (l .span)) refl)
+
+    pub located-ordered : s ≤ e
+    located-ordered = ordered l S r g s e q
+
+    pub located-inside : e ≤ length S
+    located-inside = inside l S r g s e q
+
+  pub located-barred : (out : List ℕ) (w : Refusal) → r ≡ Barred w → Meets (stringQuestion l S σ out) (Refused w) out
+  located-barred out w q = string-barred c σ (barred-too l S r g w q) out w refl

@@ -1,6 +1,7 @@
 // Questions whose answer is a text, a part of the source or written into the buffer: string, decimal, bits, temporal.
 use admitting::kinds::kind_code;
 use admitting::tests::Tested;
+use admitting::tests::locate;
 use admitting::tests::test;
 use bits::reading::read_bits;
 use decimals::decimal::read_decimal;
@@ -11,7 +12,8 @@ use meaning::Read;
 use meaning::Refusal;
 use meaning::Settings;
 use meaning::Text;
-use strings::joined::read_string;
+use strings::reading::Checked;
+use strings::reading::read_string;
 ghost use mathlib.Core.Path.{_≡_};
 ghost use Rattle.meaning.specs.Answers.{Meets};
 ghost use Rattle.meaning.specs.Questions.{stringQuestion, plainQuestion, decimalQuestion, bitsQuestion, temporalQuestion};
@@ -41,10 +43,12 @@ pub fn as_str_in(literal: Literal, source: &[u8], settings: Settings, out: &mut 
     let kind = literal.kind;
     let span = literal.span;
     let right = kind_code(kind) == 4;
-    match test(right, LiteralExpected::String, literal, source) {
+    match locate(right, LiteralExpected::String, literal, source) {
         Tested::Passes { start, end } => {
-            let read = read_string(&source[start..end], settings, out);
-            text_of(read, start, Refusal::InvalidString(span))
+            match read_string(&source[start..end], settings, out) {
+                Checked::Text(read) => text_of(read, start, Refusal::InvalidString(span)),
+                Checked::NotUtf8 => Text::Refused(Refusal::NotUtf8(span)),
+            }
         }
         Tested::Barred(refusal) => Text::Refused(refusal),
     }

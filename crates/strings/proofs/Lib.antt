@@ -5,3 +5,14 @@ pub mod Segments
 pub mod Joinings
 pub mod Wholes
 pub mod Plains
+pub mod AsciiRows
+pub mod RunCopies
+pub mod TakenUnits
+pub mod SpelledBytes
+pub mod ChunkTurns
+pub mod Storages
+pub mod Fillings
+pub mod Families
+pub mod Segmenting
+pub mod Restings
+pub mod QuickAnswers

@@ -99,7 +99,7 @@ module _ (q : ℕ) (t : List ℕ) (h : encloses 0 q t ≡ true) where
       ltb-true 1 (length t)
       (and-left (ltb 1 (length t)) (eqb (t ! 0) q) (and-left (ltb 1 (length t) && eqb (t ! 0) q) (eqb (t ! (length t - 1)) q) h))
 
-  enclosed-is : t ≡ q ∷ (part 1 (length t - 1) t ++ (q ∷ []))
+  pub enclosed-is : t ≡ q ∷ (part 1 (length t - 1) t ++ (q ∷ []))
   unfolding encloses
   enclosed-is =
       let n = enclosed-long in

@@ -1,2 +1,5 @@
 pub mod Answers
 pub mod Plain
+pub mod Quick
+pub mod Storing
+pub mod Driving

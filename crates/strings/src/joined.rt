@@ -1,6 +1,5 @@
 // [01 Cutting, String reading] Joined text, by its segments, each of which is read alone; and the reading of a string's text.
 use crate::alone::read_alone;
-use crate::plain::is_plain;
 use cutting::cursor::Cursor;
 use cutting::cursor::Next;
 use cutting::segments::Segment;
@@ -108,24 +107,11 @@ fn read_joined(text: &[u8], settings: Settings, out: &mut [u8]) -> Read
 
 // Reads a string's text by units: joined, or as one.
 // Rules out: the setting lost, for cutting or for reading as one (must-fail: cut_with_the_setting_off, one_with_the_setting_on).
-pub fn read_by_units(text: &[u8], settings: Settings, out: &mut [u8]) -> Read
+pub(crate) fn read_by_units(text: &[u8], settings: Settings, out: &mut [u8]) -> Read
     ensures { λ r. ⌜ Reads (read settings (now (text .entry))) (now (out .entry)) r (now (out .exit)) ⌝ }
 {
     if is_joined(text, settings) {
         return read_joined(text, settings, out);
     }
     read_alone(text, settings, out)
-}
-
-// Reads a string's text: a part of it, so many bytes at the buffer's start, the place where reading stops, or the length for which there is no room. Of most
-// texts one scan tells that their body is the value.
-// Rules out: a plain body shown with its mark, or from its mark on (must-fail: plain_from_its_mark, plain_with_its_mark).
-pub fn read_string(text: &[u8], settings: Settings, out: &mut [u8]) -> Read
-    ensures { λ r. ⌜ Reads (read settings (now (text .entry))) (now (out .entry)) r (now (out .exit)) ⌝ }
-{
-    if is_plain(text, settings) {
-        let until = text.len() - 1;
-        return Read::Borrowed { from: 1, until };
-    }
-    read_by_units(text, settings, out)
 }

@@ -1,5 +1,12 @@
-// [01 Cutting, One segment] Reading strings: one segment, an identifier, joined text. Every public function answers for every input.
+// [01 Cutting, One segment] Reading strings by two readings. The quick one cuts and expands a text in one walk; it answers, or it does not. The one by units is
+// short and decides everything else: one segment, joined text, an identifier, and every refusal with its place. Every public function answers for every input.
 mod alone;
+mod chunks;
 pub mod ident;
-pub mod joined;
+mod joined;
 mod plain;
+mod quick;
+pub mod reading;
+mod runs;
+mod storing;
+mod taking;

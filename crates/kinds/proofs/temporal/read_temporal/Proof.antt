@@ -29,17 +29,17 @@ temporal-token-requires c κs = search needs
 enum-known-from : tie.Need-enum-known-from
 enum-known-from c = search needs
 
-sub-read-string : tie.Need-sub-read-string
-sub-read-string c = search token-ordered
+sub-read-bytes : tie.Need-sub-read-bytes
+sub-read-bytes c = search token-ordered
 
-part-read-string-start : tie.Need-part-read-string-start
-part-read-string-start c = search token-ordered
+part-read-bytes-start : tie.Need-part-read-bytes-start
+part-read-bytes-start c = search token-ordered
 
-part-read-string-end : tie.Need-part-read-string-end
-part-read-string-end c = search token-inside
+part-read-bytes-end : tie.Need-part-read-bytes-end
+part-read-bytes-end c = search token-inside
 
-read-string-requires : tie.Need-read-string-requires
-read-string-requires c κs = search needs
+read-bytes-requires : tie.Need-read-bytes-requires
+read-bytes-requires c κs = search needs
 
 enum-known-start : tie.Need-enum-known-start
 enum-known-start c = search needs
@@ -98,10 +98,10 @@ read-temporal-spec =
     (tie.spec
     temporal-token-requires
     enum-known-from
-    sub-read-string
-    part-read-string-start
-    part-read-string-end
-    read-string-requires
+    sub-read-bytes
+    part-read-bytes-start
+    part-read-bytes-end
+    read-bytes-requires
     enum-known-start
     add-t21
     add-t22

@@ -4,21 +4,6 @@ use borrow.Author.Needs.{needs}
 use Rattle.strings.proofs.alone.placed.Statement.{statement}
 use Rattle.strings.proofs.alone.placed.Tie as tie
 
-add-t8 : tie.Need-add-t8
-add-t8 c = omega (arith, rw (c .before .answer2 .given .1) at (c .before .before .before .pre))
-
-returns : tie.Need-returns
-returns c = rw (c .enum-told .given .1)
-
-returns-2 : tie.Need-returns-2
-returns-2 c = rw (c .before .answer .given .1)
-
-returns-3 : tie.Need-returns-3
-returns-3 c = rw (c .before .answer2 .given .1)
-
-returns-4 : tie.Need-returns-4
-returns-4 c = rw (c .before .answer3 .given .1)
-
 pub placed-spec : {M : Type 1} → statement M
 placed-spec =
     tie.close
@@ -26,9 +11,9 @@ placed-spec =
     (λ c. search needs)
     (λ c. search needs)
     (λ c. search needs)
-    add-t8
+    (λ c. omega (arith, rw (c .before .answer2 .given .1) at (c .before .before .before .pre)))
     (λ c. search needs)
-    returns
-    returns-2
-    returns-3
-    returns-4)
+    (λ c. rw (c .enum-told .given .1))
+    (λ c. rw (c .before .answer .given .1))
+    (λ c. rw (c .before .answer2 .given .1))
+    (λ c. rw (c .before .answer3 .given .1)))

@@ -39,12 +39,6 @@ loop-again c =
     joins-turn (s .before .before .before .loop .inv) _ (s .before .before .next .ensures) _ _ _ _ (s .start .given .1) _ (p .before .before .before .least .ensures) _ _ (p .put-segment .ensures) _
     (c .before .k .given .1) (search needs)
 
-same-length-2 : tie.Need-same-length-2 Inv-loop μ-loop
-same-length-2 c = c .before .before .before .loop .inv .same
-
-same-length-3 : tie.Need-same-length-3 Inv-loop μ-loop
-same-length-3 c = c .before .before .before .loop .inv .same
-
 pub put-segments-spec : {M : Type 1} → statement M
 put-segments-spec =
     tie.close
@@ -72,8 +66,8 @@ put-segments-spec =
     (λ c. search cursor-less)
     loop-again
     (λ c. search needs)
-    same-length-2
+    (λ c. c .before .before .before .loop .inv .same)
     (λ c. search joins-end)
     (λ c. search needs)
-    same-length-3
+    (λ c. c .before .before .before .loop .inv .same)
     (λ c. search joins-remainder))

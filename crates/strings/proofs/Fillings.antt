@@ -1,0 +1,117 @@
+-- A body that is read on, chunk by chunk. Assumes nothing.
+use mathlib.Core.Path.{_≡_, refl, ap, ap₂, sym, _∙_, subst}
+use mathlib.Core.Bool.{Bool, true, false, _&&_}
+use mathlib.Core.List.{List, [], _∷_, _++_, append-assoc, append-nil}
+use Prim.Native.Nat.{ℕ, zero, suc, _+_, _-_, _≤_, _<_}
+use native.Mathlib.Nat.{le-of-eq}
+use native.Mathlib.Omega.{arith}
+use lib.Dec.{eqb}
+use lib.ListN.{length, getD, take, drop, length-append, length-take, length-drop, drop-of-length-le}
+use lib.Seq.{take-add, take-append-le, take-append-add, length-take-le, getD-drop}
+use Rattle.meaning.specs.Bytes.{_!_, backslash}
+use Rattle.laws.proofs.basics.Lists.{part-tail}
+use Rattle.laws.proofs.walking.Fronts.{Front, front-none, front-more, front-brief}
+use Rattle.laws.proofs.utf8.Abreast.{Abreast, abreast-same, abreast-more}
+use Rattle.laws.proofs.cutting.Fronted.{Lone}
+use Rattle.escapes.specs.declared.units.Family.{Family}
+use Rattle.escapes.specs.Families.{checks}
+use Rattle.escapes.proofs.Turns.{steady}
+use Rattle.strings.specs.declared.chunks.End.{End}
+use Rattle.strings.specs.declared.chunks.End.the-variants.{Closed, Full}
+use Rattle.strings.specs.declared.chunks.Part.{Part}
+use Rattle.strings.specs.declared.storing.Store.{Store}
+use Rattle.strings.specs.declared.storing.Body.{Body}
+use Rattle.strings.specs.Quick.{stepBy, markBy, Expands}
+use Rattle.strings.specs.Storing.{Stored, Empties, Reading, Fills, Reads-body}
+use Rattle.strings.proofs.Storages.{stored-more}
+
+-- a mark alone, counted from another place
+lone-at : (t : List ℕ) (i k q : ℕ) → i ≤ length t → Lone (drop i t) k q → Lone t (i + k) q
+lone-at t i k q h m =
+    let s : i + suc k ≡ suc (i + k) = omega arith in
+    record {
+      inside = omega (arith, m .inside, length-drop i t);
+      here = sym (getD-drop i t k 0) ∙ m .here;
+      alone = ap (λ (b : ℕ). eqb b q) (ap (t !_) (sym s) ∙ sym (getD-drop i t (suc k) 0)) ∙ m .alone;
+    }
+
+module _ (f : Family) (text : List ℕ) (b : Body) (chunk out : List ℕ) (ready : Store) (out′ : List ℕ) (part : Part) (last : List ℕ)
+    (size : length chunk ≡ 272) (n : b .n ≤ 272) (inside : b .at ≤ length text)
+    (e : Empties (record { total = b .total; n = b .n }) chunk out ready out′)
+    (x′ : Expands f (take (length text - b .at) (drop (b .at) text)) (take (length chunk - ready .n) (drop (ready .n) chunk)) part last) where
+  abbrev chunk′ : List ℕ
+  chunk′ = take (ready .n) chunk ++ (last ++ drop (length chunk - ready .n) (drop (ready .n) chunk))
+
+  abbrev result : Body
+  result = record { at = b .at + part .at; plain = b .plain && part .plain; total = ready .total; n = ready .n + part .n; end = part .end }
+
+  x : Expands f (drop (b .at) text) (drop (ready .n) chunk) part last
+  x = subst (λ (y : List ℕ). Expands f y (drop (ready .n) chunk) part last) (part-tail text (b .at))
+      (subst (λ (y : List ℕ). Expands f (take (length text - b .at) (drop (b .at) text)) y part last) (part-tail chunk (ready .n)) x′)
+
+  last-length : length last ≡ 272 - ready .n
+  last-length = x .same ∙ length-drop (ready .n) chunk ∙ omega (arith, size)
+
+  few : ready .n + part .n ≤ 272
+  few = omega (arith, x .room, x .same, last-length, e .small)
+
+  chunk-is : chunk′ ≡ take (ready .n) chunk ++ last
+  chunk-is = ap (λ (y : List ℕ). take (ready .n) chunk ++ (last ++ y))
+      (drop-of-length-le (drop (ready .n) chunk) (le-of-eq (length-drop (ready .n) chunk))) ∙ ap (take (ready .n) chunk ++_) (append-nil last)
+
+  front-length : length (take (ready .n) chunk) ≡ ready .n
+  front-length = length-take-le (ready .n) chunk (omega (arith, e .small, size))
+
+  held : take (ready .n + part .n) chunk′ ≡ take (ready .n) chunk ++ take (part .n) last
+  held =
+      ap (take (ready .n + part .n)) chunk-is
+      ∙ ap (λ (i : ℕ). take (i + part .n) (take (ready .n) chunk ++ last)) (sym front-length)
+      ∙ take-append-add (take (ready .n) chunk) last (part .n)
+
+  value-length : length (take (part .n) last) ≡ part .n
+  value-length = length-take-le (part .n) last (omega (arith, x .room, x .same))
+
+  brief : part .n ≤ part .at
+  brief = omega (arith, front-brief (steady f (backslash ∷ [])) (x .front), value-length)
+
+  reaches : b .at + part .at ≤ length text
+  reaches = omega (arith, x .front .so-far .inside, length-drop (b .at) text)
+
+  onward : (s : Store) (c o : List ℕ) → Reading f text s c o b chunk out → Reading f text s c o result chunk′ out′
+  onward s c o r = record {
+    v = r .v ++ take (part .n) last;
+    front = front-more (r .front) (part .at) (take (part .n) last) (part .plain) (x .front);
+    abreast = λ h.
+        subst (λ (y : List ℕ). Abreast y (r .v ++ take (part .n) last)) (sym (take-add (b .at) (part .at) text))
+        (abreast-more (take (b .at) text) (r .v) (take (part .at) (drop (b .at) text)) (take (part .n) last) (r .abreast h) (x .abreast h));
+    stores = λ d w st.
+        subst (λ (y : List ℕ). Stored d y chunk′ out′ (ready .total) (ready .n + part .n)) (append-assoc w (r .v) (take (part .n) last))
+        (stored-more (e .stores d (w ++ r .v) (r .stores d w st)) (take (part .n) last) chunk′ (part .n) value-length held);
+    sum = omega (arith, r .sum, e .sum, brief);
+    inside = reaches;
+    few = few;
+    chunk-same = ap length chunk-is ∙ length-append (take (ready .n) chunk) last ∙ omega (arith, front-length, last-length, size, e .small, r .chunk-same);
+    out-same = e .same ∙ r .out-same;
+  }
+
+  pub fills : Fills f text b chunk out result chunk′ out′
+  fills = record {
+    onward = onward;
+    closed = λ h. lone-at text (b .at) (part .at) (markBy f) inside (x .closed h);
+    goes = λ h. omega (arith, x .goes h);
+  }
+
+-- nothing read yet
+pub reading-none : (f : Family) (text : List ℕ) (s : Store) (chunk out : List ℕ) (end : End) → s .n ≤ 272
+    → Reading f text s chunk out (record { at = 0; plain = true; total = s .total; n = s .n; end = end }) chunk out
+reading-none f text s chunk out end h = record {
+  v = [];
+  front = front-none (stepBy f) text;
+  abreast = λ e. abreast-same [];
+  stores = λ d w st. subst (λ (y : List ℕ). Stored d y chunk out (s .total) (s .n)) (sym (append-nil w)) st;
+  sum = omega arith;
+  inside = omega arith;
+  few = h;
+  chunk-same = refl;
+  out-same = refl;
+}

@@ -1,0 +1,27 @@
+-- `strings::runs::block_of` meets its contract. The loop's invariant: the first j bytes are in the block. The measure is what is left of sixteen. Assumes nothing.
+use Prim.Native.Nat.{_-_}
+use native.Mathlib.Omega.{arith}
+use borrow.Author.Needs.{needs}
+use Rattle.strings.proofs.RunCopies.{Sixteen, sixteen-none, sixteen-turn, block-made}
+use Rattle.strings.proofs.runs.block_of.Statement.{statement}
+use Rattle.strings.proofs.runs.block_of.Tie as tie
+
+abbrev Inv-loop : tie.InvT-loop
+Inv-loop text block₀ j₀ block j = Sixteen text block₀ block j
+
+abbrev μ-loop : tie.MeasureT-loop
+μ-loop text block₀ j₀ block j = 16 - j
+
+pub block-of-spec : {M : Type 1} → statement M
+block-of-spec =
+    tie.close
+    (tie.spec
+    Inv-loop
+    μ-loop
+    (λ c. sixteen-none _ _ (search needs) (omega arith))
+    (λ c. omega arith)
+    (λ c. omega arith)
+    (λ c. omega arith)
+    (λ c. omega arith)
+    (λ c. search sixteen-turn)
+    (λ c. search block-made))

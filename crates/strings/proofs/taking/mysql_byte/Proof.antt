@@ -1,0 +1,29 @@
+-- `strings::taking::mysql_byte` meets its contract: six choices, as the table has them. Assumes nothing.
+use borrow.Author.Needs.{needs}
+use Rattle.strings.proofs.TakenUnits.{mysql-of}
+use Rattle.strings.proofs.taking.mysql_byte.Statement.{statement}
+use Rattle.strings.proofs.taking.mysql_byte.Tie as tie
+
+returns : tie.Need-returns
+returns c =
+    rw (
+      c .choose6 .ensures,
+      c .before .choose5 .ensures,
+      c .before .before .choose4 .ensures,
+      c .before .before .before .choose3 .ensures,
+      c .before .before .before .before .choose2 .ensures,
+      c .before .before .before .before .before .choose .ensures,
+    )
+    (mysql-of (c .before .before .before .before .before .before .args .letter))
+
+pub mysql-byte-spec : {M : Type 1} → statement M
+mysql-byte-spec =
+    tie.close
+    (tie.spec
+    (λ c κs. search needs)
+    (λ c κs. search needs)
+    (λ c κs. search needs)
+    (λ c κs. search needs)
+    (λ c κs. search needs)
+    (λ c κs. search needs)
+    returns)
