@@ -11,10 +11,6 @@ use Rattle.leaves.specs.declared.blocks.Stops.{Stops}
 unfoldable pub freeOf : Stops → ℕ → Bool
 freeOf k b = not (eqb b (k .first)) && not (eqb b (k .second)) && not (eqb b (k .third))
 
--- what no plain string in ' holds between its marks: the mark, the backslash and NUL
-abbrev pub plainStops : Stops
-plainStops = record { first = 39; second = 92; third = 0 }
-
 -- the first n bytes are there, and each passes a test
 abbrev pub passes : (ℕ → Bool) → ℕ → List ℕ → Bool
 passes p zero t = true

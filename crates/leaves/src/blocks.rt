@@ -4,7 +4,7 @@ ghost use mathlib.Core.Path.{_≡_};
 ghost use Prim.Native.Nat.{_+_, _≤_, _<_};
 ghost use lib.ListN.{length, drop};
 ghost use Rattle.meaning.specs.Bytes.{if_then_else_, span};
-ghost use Rattle.leaves.specs.Blocks.{freeOf, plainStops, passes, Past};
+ghost use Rattle.leaves.specs.Blocks.{freeOf, passes, Past};
 
 // Three bytes that a text is searched for; they may be the same.
 pub struct Stops {
@@ -126,47 +126,4 @@ pub fn free_run(text: &[u8], at: usize, stops: Stops) -> usize
         i += 1;
     }
     i - at
-}
-
-// The place behind the blocks of eight bytes, from a place on, that hold no ', no backslash and no NUL. The compiler is told the three here.
-fn past_plain(text: &[u8], at: usize) -> usize
-    requires { ⌜ at ≤ length (now text) ⌝ }
-    ensures { λ r. ⌜ Past (freeOf plainStops) (now (text .entry)) at r ⌝ }
-{
-    let stops = Stops {
-        first: 39,
-        second: 92,
-        third: 0,
-    };
-    let mut i = at;
-    while 8 <= text.len() - i {
-        if !is_free_block(text, i, 8, stops) {
-            return i;
-        }
-        i += 8;
-    }
-    i
-}
-
-// How many bytes at a place are no ', no backslash and no NUL.
-// Rules out: every other byte passed over; the place told for the number (must-fail: bytes_passed_over, other_place).
-pub fn plain_run(text: &[u8], at: usize) -> usize
-    ensures { λ r. ⌜ r ≡ span (freeOf plainStops) (drop at (now (text .entry))) ⌝ }
-{
-    if text.len() <= at {
-        return 0;
-    }
-    let stops = Stops {
-        first: 39,
-        second: 92,
-        third: 0,
-    };
-    let mut end = past_plain(text, at);
-    while end < text.len() {
-        if !is_other(text[end], stops) {
-            return end - at;
-        }
-        end += 1;
-    }
-    end - at
 }
