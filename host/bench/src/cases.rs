@@ -164,12 +164,39 @@ fn read() -> Vec<Case> {
         Case::numbers("i64, any length", Question::I64, signed),
         Case::numbers("i64, hex", Question::I64, |rng| format!("0x{:x}", rng.next() >> (1 + rng.below(62)))),
     ];
+    cases.extend(sparse());
     cases.extend(
         [1, 3, 6, 9, 12, 15, 18, 19].map(|digits| {
             Case::numbers(&format!("i64, digits: {digits}"), Question::I64, |rng| digit_text(rng, digits))
         }),
     );
     cases
+}
+
+/// Long bodies with one short escape in so many bytes.
+fn sparse() -> impl Iterator<Item = Case> {
+    const SHORT: [&str; 5] = ["\\n", "\\t", "\\\\", "\\'", "''"];
+    const KINDS: [(&str, &str, u32, &[&str]); 3] =
+        [("E", "E'", 0, &SHORT), ("MySQL", "'", 1, &SHORT), ("doubled marks", "'", 0, &["''"])];
+    KINDS.into_iter().flat_map(|(name, open, setting, escapes)| {
+        [8, 20, 50, 200].map(|every| {
+            let name = format!("{name}, one in {every} bytes");
+            Case::of(&name, Task::Read(Question::Str), setting, [thin(open, every, escapes)])
+        })
+    })
+}
+
+/// A text of 64 KiB: runs of ASCII, on the average so long that an escape stands once in `every` bytes.
+fn thin(open: &str, every: usize, escapes: &[&str]) -> String {
+    let mut rng = Rng::new(64);
+    let mut text = String::from(open);
+    while text.len() < LONG {
+        for _ in 0..rng.within(0, 2 * (every - 2)) {
+            text.push_str(rng.one(&PLAIN));
+        }
+        text.push_str(rng.one(escapes));
+    }
+    text + "'"
 }
 
 fn written() -> impl Iterator<Item = Case> {

@@ -2,6 +2,7 @@
 #![cfg(at_hand)]
 
 mod comparing;
+mod edges;
 mod frames;
 mod lent;
 mod ours;

@@ -3,7 +3,7 @@
 use crate::comparing::{Comparing, Outcome};
 use crate::rng::Rng;
 use crate::texts::Texts;
-use crate::{frames, random, report, sweep};
+use crate::{edges, frames, random, report, sweep};
 use std::process::ExitCode;
 use std::time::Instant;
 
@@ -58,6 +58,11 @@ fn parts(comparing: &mut Comparing, arguments: &Arguments) -> Outcome {
     sweep::run(comparing)?;
     frames::report("kinds, marks, settings and spans", comparing, 0, 0);
     frames::run(comparing, arguments.pieces)?;
+    if arguments.pieces != 0 {
+        let (texts, before) = (comparing.tally.texts, comparing.tally.comparisons());
+        edges::run(comparing)?;
+        frames::report("around the edges of blocks and chunks", comparing, texts, before);
+    }
     let (texts, before) = (comparing.tally.texts, comparing.tally.comparisons());
     random::run(comparing, &mut Texts { rng: Rng::new(!arguments.seed) }, before + arguments.count)?;
     frames::report("random texts", comparing, texts, before);
