@@ -64,7 +64,7 @@ pub fn locate(right: bool, expected: LiteralExpected, literal: Literal, source: 
 }
 
 // The tests 2, 3 and 4: the literal stands in a source, its span is one of the source, and its text is UTF-8.
-// Rules out: the text's end given for its start; another reason for a literal that stands in no source (must-fail: end_for_start, two_told_as_one).
+// Rules out: the text's end given for its start; a text that is not UTF-8 told as one without a source (must-fail: end_for_start, two_told_as_one).
 pub fn test_source(literal: Literal, source: &[u8]) -> Tested
     ensures { λ r. ⌜ Tests literal (now (source .entry)) r (sourceText literal (now (source .entry))) ⌝ }
 {
