@@ -11,7 +11,7 @@ use borrow.Author.Tests.{eqb-true}
 use Rattle.meaning.specs.declared.Settings.{Settings}
 use Rattle.meaning.specs.Bytes.{if_then_else_, _!_, part, ascii, has, quote, isMark, allDigits}
 use Rattle.meaning.specs.Walk.{Step, keep, give, stop, after, walk, stops, value}
-use Rattle.meaning.specs.Cutting.{off, opening, segment, segmentBy, segmentStep}
+use Rattle.meaning.specs.Cutting.{opening, segment, segmentBy, segmentStep}
 use Rattle.meaning.specs.Reading.{means, fails, each}
 use Rattle.meaning.specs.Kinds.{bitBody, firstBits, laterBits}
 use Rattle.laws.proofs.basics.Tests.{if-suc}
@@ -62,35 +62,35 @@ later-body β s v h =
     go false q = absurd (fails≢means 0 v q)
 
 -- so the bodies of later segments are what these mean
-pub each-bodies : (β k : ℕ) (t w : List ℕ) → each (laterBits β) (walk (segmentStep off) k t) ≡ means w
-    → (stops (walk bodyStep k t) ≡ false) × (value (walk bodyStep k t) ≡ w)
+pub each-bodies : (σ : Settings) (β k : ℕ) (t w : List ℕ) → each (laterBits β) (walk (segmentStep σ) k t) ≡ means w
+    → (stops (walk (bodyStep σ) k t) ≡ false) × (value (walk (bodyStep σ) k t) ≡ w)
 unfolding bodyStep
-each-bodies β zero [] w h = (refl, cc)
-each-bodies β (suc k) [] w h = (refl, cc)
-each-bodies β (suc k) (b ∷ t) w h = each-bodies β k t w h
-each-bodies β zero (b ∷ t) w h = go (segmentStep off (b ∷ t)) h (λ k v. each-bodies β k t v)
+each-bodies σ β zero [] w h = (refl, cc)
+each-bodies σ β (suc k) [] w h = (refl, cc)
+each-bodies σ β (suc k) (b ∷ t) w h = each-bodies σ β k t w h
+each-bodies σ β zero (b ∷ t) w h = go (segmentStep σ (b ∷ t)) h (λ k v. each-bodies σ β k t v)
   where
-    go : (x : Step) → each (laterBits β) (after x b (λ n. walk (segmentStep off) n t)) ≡ means w
-        → ((k : ℕ) (v : List ℕ) → each (laterBits β) (walk (segmentStep off) k t) ≡ means v
-        → (stops (walk bodyStep k t) ≡ false) × (value (walk bodyStep k t) ≡ v))
-        → (stops (after (bodyBy x) b (λ n. walk bodyStep n t)) ≡ false) × (value (after (bodyBy x) b (λ n. walk bodyStep n t)) ≡ w)
+    go : (x : Step) → each (laterBits β) (after x b (λ n. walk (segmentStep σ) n t)) ≡ means w
+        → ((k : ℕ) (v : List ℕ) → each (laterBits β) (walk (segmentStep σ) k t) ≡ means v
+        → (stops (walk (bodyStep σ) k t) ≡ false) × (value (walk (bodyStep σ) k t) ≡ v))
+        → (stops (after (bodyBy x) b (λ n. walk (bodyStep σ) n t)) ≡ false) × (value (after (bodyBy x) b (λ n. walk (bodyStep σ) n t)) ≡ w)
     go keep q ih = absurd (fails≢means 0 w q)
     go stop q ih = absurd (fails≢means 0 w q)
     go (give n s) q ih =
-        let m = both-means (laterBits β s) (each (laterBits β) (walk (segmentStep off) n t)) (suc n) w q in
+        let m = both-means (laterBits β s) (each (laterBits β) (walk (segmentStep σ) n t)) (suc n) w q in
         let r = ih n (m .1) (m .3) in
-        (r .0, ap (_++ value (walk bodyStep n t)) (later-body β s (m .0) (m .2)) ∙ ap (m .0 ++_) (r .1) ∙ sym (m .4))
+        (r .0, ap (_++ value (walk (bodyStep σ) n t)) (later-body β s (m .0) (m .2)) ∙ ap (m .0 ++_) (r .1) ∙ sym (m .4))
 
 -- a body is there, and is no longer than what its segment takes
-pub body-steady : Steady bodyStep
+pub body-steady : (σ : Settings) → Steady (bodyStep σ)
 unfolding bodyStep segmentStep
-body-steady b t = go (segment off (b ∷ t)) refl
+body-steady σ b t = go (segment σ (b ∷ t)) refl
   where
-    go : (n : ℕ) → segment off (b ∷ t) ≡ n → Bounded (bodyBy (segmentBy (b ∷ t) n)) (length t)
+    go : (n : ℕ) → segment σ (b ∷ t) ≡ n → Bounded (bodyBy (segmentBy (b ∷ t) n)) (length t)
     go zero e = tt
     go (suc n) e =
         let s = take (suc n) (b ∷ t) in
-        let f = segment-fits off (b ∷ t) n e in (
+        let f = segment-fits σ (b ∷ t) n e in (
           omega (arith, f, gap-fits (drop n t), length-drop n t),
           omega (arith, length-take (length s - 1 - opening s) (drop (opening s) s), length-drop (opening s) s, length-take (suc n) (b ∷ t)),
         )

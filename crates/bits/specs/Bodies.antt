@@ -4,9 +4,10 @@ use mathlib.Core.Bool.{false}
 use mathlib.Core.List.{List}
 use Prim.Native.Nat.{ℕ, _-_, _≤_}
 use lib.ListN.{length}
+use Rattle.meaning.specs.declared.Settings.{Settings}
 use Rattle.meaning.specs.Bytes.{part}
 use Rattle.meaning.specs.Walk.{Step, keep, give, stop, walk, stops, value}
-use Rattle.meaning.specs.Cutting.{off, opening, segmentStep, cut}
+use Rattle.meaning.specs.Cutting.{opening, segmentStep, cut}
 use Rattle.meaning.specs.Reading.{Answer, Value, means, fails, onward, both, each, asWritten}
 use Rattle.meaning.specs.Kinds.{laterBits}
 use Rattle.bits.specs.declared.later.Later.{Later}
@@ -31,20 +32,20 @@ bodyBy keep = keep
 bodyBy (give n s) = give n (part (opening s) (length s - 1) s)
 bodyBy stop = stop
 
-unfoldable pub bodyStep : List ℕ → Step
-bodyStep t = bodyBy (segmentStep off t)
+unfoldable pub bodyStep : Settings → List ℕ → Step
+bodyStep σ t = bodyBy (segmentStep σ t)
 
-abbrev pub bodies : List ℕ → List ℕ
-bodies t = value (walk bodyStep 0 t)
+abbrev pub bodies : Settings → List ℕ → List ℕ
+bodies σ t = value (walk (bodyStep σ) 0 t)
 
 -- segments to the end of a text, and n bytes that hold their bodies
-pub record BodiesFit (t : List ℕ) (n : ℕ) : Type 0 where
-  pub goes : stops (walk bodyStep 0 t) ≡ false
-  pub fits : length (bodies t) ≤ n
+pub record BodiesFit (σ : Settings) (t : List ℕ) (n : ℕ) : Type 0 where
+  pub goes : stops (walk (bodyStep σ) 0 t) ≡ false
+  pub fits : length (bodies σ t) ≤ n
 
 -- a first segment's digits, and those of the segments of t, which stands at the place i
-abbrev pub joinedBits : ℕ → List ℕ → ℕ → List ℕ → Answer
-joinedBits β v i t = asWritten (both (means v) (onward i (each (laterBits β) (cut off t))))
+abbrev pub joinedBits : Settings → ℕ → List ℕ → ℕ → List ℕ → Answer
+joinedBits σ β v i t = asWritten (both (means v) (onward i (each (laterBits β) (cut σ t))))
 
 -- the bounds of a first body, the place behind it and its gap, and a text's end
 pub record Ordered (from last at n : ℕ) : Type 0 where

@@ -7,7 +7,7 @@ use leaves::puts::put_bytes;
 use meaning::Settings;
 ghost use mathlib.Core.Path.{_≡_};
 ghost use lib.ListN.{length};
-ghost use Rattle.meaning.specs.Cutting.{off, cut};
+ghost use Rattle.meaning.specs.Cutting.{cut};
 ghost use Rattle.meaning.specs.Reading.{each};
 ghost use Rattle.meaning.specs.Kinds.{laterBits};
 ghost use Rattle.meaning.specs.Answers.{filled};
@@ -21,13 +21,13 @@ pub(crate) enum Later {
 
 // Asks each segment for its mark and its digits, and counts them.
 // Rules out: a prefix before a later segment; a remainder passed over; a place counted from the segment (must-fail: later_prefix_accepted).
-pub(crate) fn measure_later(text: &[u8], base: u8) -> Later
-    ensures { λ r. ⌜ Measures (each (laterBits base) (cut off (now (text .entry)))) (length (now (text .entry))) r ⌝ }
+pub(crate) fn measure_later(text: &[u8], base: u8, settings: Settings) -> Later
+    ensures { λ r. ⌜ Measures (each (laterBits base) (cut settings (now (text .entry)))) (length (now (text .entry))) r ⌝ }
 {
     let mut cursor = Cursor::new();
     let mut n: usize = 0;
     loop {
-        match cursor.next(text, Settings { backslash: false }) {
+        match cursor.next(text, settings) {
             Next::Segment {
                 start,
                 open,
@@ -53,14 +53,14 @@ pub(crate) fn measure_later(text: &[u8], base: u8) -> Later
 }
 
 // Writes the bodies of all segments, for which there is room: the tail of the buffer is lent on to the copy of each.
-pub(crate) fn write_later(text: &[u8], out: &mut [u8])
-    requires { ⌜ BodiesFit (now text) (length (now out)) ⌝ }
-    ensures { λ r. ⌜ now (out .exit) ≡ filled (bodies (now (text .entry))) (now (out .entry)) ⌝ }
+pub(crate) fn write_later(text: &[u8], settings: Settings, out: &mut [u8])
+    requires { ⌜ BodiesFit settings (now text) (length (now out)) ⌝ }
+    ensures { λ r. ⌜ now (out .exit) ≡ filled (bodies settings (now (text .entry))) (now (out .entry)) ⌝ }
 {
     let mut cursor = Cursor::new();
     let mut n: usize = 0;
     loop {
-        match cursor.next(text, Settings { backslash: false }) {
+        match cursor.next(text, settings) {
             Next::Segment {
                 start,
                 open,

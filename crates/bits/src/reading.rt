@@ -17,12 +17,21 @@ ghost use Rattle.meaning.specs.Reads.{Reads};
 ghost use Rattle.bits.specs.Bodies.{joinedBits, Ordered};
 
 // The digits from one place to another, and those of the segments from a third place on: nothing is written before all are measured.
-// Rules out: room asked for the later digits alone; a place counted from the third place (must-fail: written_too_early).
-fn join_bits(text: &[u8], from: usize, last: usize, at: usize, base: u8, out: &mut [u8]) -> Read
+// Rules out: room asked for the later digits alone; a place counted from the third place; measured at another setting than written
+// (must-fail: setting_lost, written_too_early).
+fn join_bits(
+    text: &[u8],
+    from: usize,
+    last: usize,
+    at: usize,
+    base: u8,
+    settings: Settings,
+    out: &mut [u8],
+) -> Read
     requires { ⌜ Ordered from last at (length (now text)) ⌝ }
-    ensures { λ r. ⌜ Reads (joinedBits base (part from last (now (text .entry))) at (drop at (now (text .entry)))) (now (out .entry)) r (now (out .exit)) ⌝ }
+    ensures { λ r. ⌜ Reads (joinedBits settings base (part from last (now (text .entry))) at (drop at (now (text .entry)))) (now (out .entry)) r (now (out .exit)) ⌝ }
 {
-    match measure_later(&text[at..], base) {
+    match measure_later(&text[at..], base, settings) {
         Later::Length(n) => {
             let first = last - from;
             let len = first + n;
@@ -30,20 +39,20 @@ fn join_bits(text: &[u8], from: usize, last: usize, at: usize, base: u8, out: &m
                 return Read::NoRoom { needed: len };
             }
             put_bytes(&text[from..last], out);
-            write_later(&text[at..], &mut out[first..]);
+            write_later(&text[at..], settings, &mut out[first..]);
             Read::Written { len }
         }
         Later::Refused(place) => Read::Refused { place: at + place },
     }
 }
 
-// Reads a bit string's text, its digits by the base: a part of the text if it is one segment, else so many bytes at the buffer's start; the place where
-// reading stops, or the length for which there is no room. Refused, borrowed and without room the buffer is as it was lent.
-// Rules out: digits chosen by the letter; the first segment alone kept (must-fail: digits_by_letter, first_segment_only).
-pub fn read_bits(text: &[u8], base: u8, out: &mut [u8]) -> Read
-    ensures { λ r. ⌜ Reads (bits base (now (text .entry))) (now (out .entry)) r (now (out .exit)) ⌝ }
+// Reads a bit string's text, cut at the setting, its digits by the base: a part of the text if it is one segment, else so many bytes at the buffer's start;
+// the place where reading stops, or the length for which there is no room. Refused, borrowed and without room the buffer is as it was lent.
+// Rules out: digits chosen by the letter; the first segment alone kept; the setting lost (must-fail: digits_by_letter, first_segment_only, setting_on).
+pub fn read_bits(text: &[u8], base: u8, settings: Settings, out: &mut [u8]) -> Read
+    ensures { λ r. ⌜ Reads (bits settings base (now (text .entry))) (now (out .entry)) r (now (out .exit)) ⌝ }
 {
-    match Cursor::new().next(text, Settings { backslash: false }) {
+    match Cursor::new().next(text, settings) {
         Next::Segment {
             start: _,
             open,
@@ -61,7 +70,7 @@ pub fn read_bits(text: &[u8], base: u8, out: &mut [u8]) -> Read
                     until: last,
                 };
             }
-            join_bits(text, open, last, next.at, base, out)
+            join_bits(text, open, last, next.at, base, settings, out)
         }
         Next::End => Read::Refused { place: 0 },
         Next::Remainder => Read::Refused { place: 0 },

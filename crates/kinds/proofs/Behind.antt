@@ -10,7 +10,6 @@ use Rattle.meaning.specs.declared.Settings.{Settings}
 use Rattle.meaning.specs.declared.Read.{Read}
 use Rattle.meaning.specs.declared.Read.the-variants as Read′
 use Rattle.meaning.specs.Bytes.{if_then_else_, part}
-use Rattle.meaning.specs.Cutting.{off}
 use Rattle.meaning.specs.Reading.{Answer, borrowed, written, refused, read}
 use Rattle.meaning.specs.Kinds as kinds
 use Rattle.meaning.specs.Kinds.{temporalToken, behind, temporal}
@@ -53,9 +52,9 @@ moved-buffer out f (written v) = refl
 moved-buffer out f (refused p) = refl
 
 module _ (t : List ℕ) (k : Token) (ek : k ≡ tokenOf (temporalToken t)) where
-  pub temporal-nothing : (out : List ℕ) → k ≡ Nothing → Reads (temporal t) out (Read′.Refused 0) out
+  pub temporal-nothing : (σ : Settings) (out : List ℕ) → k ≡ Nothing → Reads (temporal σ t) out (Read′.Refused 0) out
   unfolding temporal
-  temporal-nothing out q = rw (of-nothing (temporalToken t) (sym ek ∙ q)) (record { answer = refl; buffer = refl })
+  temporal-nothing σ out q = rw (of-nothing (temporalToken t) (sym ek ∙ q)) (record { answer = refl; buffer = refl })
 
   module _ (f u : ℕ) (q : k ≡ Found f u) where
     its : temporalToken t ≡ kinds.token f u
@@ -85,23 +84,22 @@ module _ (t : List ℕ) (k : Token) (ek : k ≡ tokenOf (temporalToken t)) where
       pub refused-inside : (p : ℕ) → r ≡ Read′.Refused p → f + p ≤ length t
       refused-inside p e = omega (arith, bounds (Read′.Refused p) e, room)
 
-    -- and, at the setting off, is what the text means
-    module _ {out after : List ℕ} {r : Read} (v : Reads (read off (take (u - f) (drop f t))) out r after) where
-      moved : (s : Read) → r ≡ s → Reads (temporal t) out (movedOn f s) after
+      -- and is what the text means at that setting
+      moved : (s : Read) → r ≡ s → Reads (temporal σ t) out (movedOn f s) after
       unfolding temporal
       moved s e = rw its (record {
-        answer = ap (movedOn f) (sym e ∙ v .answer) ∙ moved-answer (length out) f (read off (part f u t));
-        buffer = v .buffer ∙ moved-buffer out f (read off (part f u t));
+        answer = ap (movedOn f) (sym e ∙ v .answer) ∙ moved-answer (length out) f (read σ (part f u t));
+        buffer = v .buffer ∙ moved-buffer out f (read σ (part f u t));
       })
 
-      pub temporal-borrowed : (g w : ℕ) → r ≡ Read′.Borrowed g w → Reads (temporal t) out (Read′.Borrowed (f + g) (f + w)) after
+      pub temporal-borrowed : (g w : ℕ) → r ≡ Read′.Borrowed g w → Reads (temporal σ t) out (Read′.Borrowed (f + g) (f + w)) after
       temporal-borrowed g w e = moved (Read′.Borrowed g w) e
 
-      pub temporal-written : (n : ℕ) → r ≡ Read′.Written n → Reads (temporal t) out (Read′.Written n) after
+      pub temporal-written : (n : ℕ) → r ≡ Read′.Written n → Reads (temporal σ t) out (Read′.Written n) after
       temporal-written n e = moved (Read′.Written n) e
 
-      pub temporal-refused : (p : ℕ) → r ≡ Read′.Refused p → Reads (temporal t) out (Read′.Refused (f + p)) after
+      pub temporal-refused : (p : ℕ) → r ≡ Read′.Refused p → Reads (temporal σ t) out (Read′.Refused (f + p)) after
       temporal-refused p e = moved (Read′.Refused p) e
 
-      pub temporal-short : (n : ℕ) → r ≡ Read′.NoRoom n → Reads (temporal t) out (Read′.NoRoom n) after
+      pub temporal-short : (n : ℕ) → r ≡ Read′.NoRoom n → Reads (temporal σ t) out (Read′.NoRoom n) after
       temporal-short n e = moved (Read′.NoRoom n) e

@@ -1,4 +1,4 @@
-// [01 Numbers and the other kinds, Temporal] The string in a temporal text, and its reading with the setting off.
+// [01 Numbers and the other kinds, Temporal] The string in a temporal text, and its reading at a setting.
 use leaves::bytes::byte_at;
 use leaves::names::is_dollar_tag_continue;
 use leaves::texts::starts_at;
@@ -130,14 +130,14 @@ fn temporal_token(text: &[u8]) -> Token
     quote_token(text, quote)
 }
 
-// Reads a temporal text: its string token, read as a string with the setting off, at the token's place of the text.
-// Rules out: a backslash active in '..'; a range told within the token (must-fail: range_within_the_token, setting_on).
-pub fn read_temporal(text: &[u8], out: &mut [u8]) -> Read
-    ensures { λ r. ⌜ Reads (temporal (now (text .entry))) (now (out .entry)) r (now (out .exit)) ⌝ }
+// Reads a temporal text: its string token, read as a string at the setting, at the token's place of the text.
+// Rules out: the setting lost, on or off; a range told within the token (must-fail: range_within_the_token, setting_lost, setting_on).
+pub fn read_temporal(text: &[u8], settings: Settings, out: &mut [u8]) -> Read
+    ensures { λ r. ⌜ Reads (temporal settings (now (text .entry))) (now (out .entry)) r (now (out .exit)) ⌝ }
 {
     match temporal_token(text) {
         Token::Found { from, until } => {
-            match read_bytes(&text[from..until], Settings { backslash: false }, out) {
+            match read_bytes(&text[from..until], settings, out) {
                 Read::Borrowed {
                     from: start,
                     until: end,

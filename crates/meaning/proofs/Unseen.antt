@@ -8,6 +8,7 @@ use Prim.Native.String.{String}
 use lib.Dec.{T, eqb}
 use lib.IntN.{negsuc}
 use denote.Ref.{RefT}
+use Rattle.meaning.specs.declared.Settings.{Settings}
 use Rattle.meaning.specs.declared.TimeZone.the-variants as Zone
 use Rattle.meaning.specs.declared.IntervalFields.{IntervalFields}
 use Rattle.meaning.specs.declared.IntervalFields.the-variants as Field
@@ -34,7 +35,7 @@ use Rattle.meaning.specs.declared.Nullness.the-variants as Nullness′
 use Rattle.meaning.specs.Bytes.{ascii, same, within, isMark, isLetter, isDecimal, inName, startsTag, inTag, digit, allDigits}
 use Rattle.meaning.specs.Chars.{lead, utf8, more, encode, isScalar, isSpace}
 use Rattle.meaning.specs.Steps.{doubled, oneByte, mayEscape, scalarBy, pair, lowHalf, uescaped}
-use Rattle.meaning.specs.Cutting.{named, segment, segmentStep, cut, complete, continues}
+use Rattle.meaning.specs.Cutting.{off, on, named, segment, segmentStep, cut, complete, continues}
 use Rattle.meaning.specs.Spelling.{encloses, argument, upper, isUnicode, unicodeSpelling, delimiter, spelling}
 use Rattle.meaning.specs.Reading.{Answer, borrowed, written, refused, answer, one, read}
 use Rattle.meaning.specs.Kinds.{bitBody, bits, tokenStart, quoteToken, temporalToken, temporal}
@@ -50,7 +51,7 @@ pub data Fact : Type 0 where
   cuts : Bool → String → Bool → Fact
   -- at a setting a string's text, and a temporal text, is refused at a place
   breaks : Bool → String → ℕ → Fact
-  breaks-inside : String → ℕ → Fact
+  breaks-inside : Bool → String → ℕ → Fact
   -- a number is a white-space character, or it is none
   blank : ℕ → Bool → Fact
   -- a quoted argument of UESCAPE gives the bytes of an escape character; no bytes: it is no legal argument
@@ -70,10 +71,15 @@ refusedAt p (borrowed f u) = false
 refusedAt p (written v) = false
 refusedAt p (refused q) = eqb p q
 
+-- the setting on, or off
+abbrev pub set : Bool → Settings
+set true = on
+set false = off
+
 abbrev pub holds : Fact → Bool
-holds (cuts b t x) = equal (complete (record { backslash = b }) (ascii t)) x
-holds (breaks b t p) = refusedAt p (read (record { backslash = b }) (ascii t))
-holds (breaks-inside t p) = refusedAt p (temporal (ascii t))
+holds (cuts b t x) = equal (complete (set b) (ascii t)) x
+holds (breaks b t p) = refusedAt p (read (set b) (ascii t))
+holds (breaks-inside b t p) = refusedAt p (temporal (set b) (ascii t))
 holds (blank c x) = equal (isSpace c) x
 holds (argues a e) = same (argument (ascii a)) (ascii e)
 holds (kind k vs) = same (kindCode k ∷ payload k) vs
@@ -107,7 +113,8 @@ places =
     breaks false "E'ab\\xC3z'" 8 ∷ breaks false "E'\\xC3\\n'" 6 ∷ breaks false "E'a'b\\400'" 3 ∷ breaks false "U&'a\\D83D\\0041'" 4 ∷
     breaks false "U&'a''\\x'" 6 ∷ breaks false "U&'a!004'UESCAPE'!'" 4 ∷ breaks false "$$a$" 0 ∷
     breaks false "'a' 'b' E'\\400'" 10 ∷ breaks false "'a' 'b' x" 8 ∷ breaks false "'a'  'b" 5 ∷ breaks false "'a' 'b' B'0'" 8 ∷ breaks false "E'\\0' 'b' x" 2 ∷
-    breaks-inside "DATE" 0 ∷ breaks-inside "DATE E'\\400'" 7 ∷ breaks-inside "DATE 'a' 'b" 9 ∷ breaks-inside "$a" 0 ∷ []
+    breaks-inside false "DATE" 0 ∷ breaks-inside false "DATE E'\\400'" 7 ∷ breaks-inside false "DATE 'a' 'b" 9 ∷ breaks-inside false "$a" 0 ∷
+    breaks-inside true "DATE '\\'''" 8 ∷ []
 
 -- [01 Cutting] "9-D, 20, 85, A0, 1680, 2000-200A, 2028-2029, 202F, 205F, 3000": each end, and its neighbours
 abbrev pub blanks : List Fact

@@ -5,9 +5,10 @@ use Prim.Native.Nat.{ℕ, zero, suc, _+_, _-_}
 use Prim.Native.Char.{code}
 use lib.Dec.{eqb, ltb}
 use lib.ListN.{length, take, drop}
+use Rattle.meaning.specs.declared.Settings.{Settings}
 use Rattle.meaning.specs.Bytes.{if_then_else_, _!_, part, ascii, has, starts, span, quote, inTag, allDigits}
 use Rattle.meaning.specs.Walk.{Trace, ended, stopped, kept, gave}
-use Rattle.meaning.specs.Cutting.{off, opening, cut}
+use Rattle.meaning.specs.Cutting.{opening, cut}
 use Rattle.meaning.specs.Spelling.{delimiter}
 use Rattle.meaning.specs.Reading.{Answer, borrowed, written, refused, Value, means, fails, onward, both, each, asWritten, read}
 
@@ -35,8 +36,8 @@ bitsBy β t ended = refused 0
 bitsBy β t stopped = refused 0
 bitsBy β t (kept b r) = refused 0
 
-unfoldable pub bits : ℕ → List ℕ → Answer
-bits β t = bitsBy β t (cut off t)
+unfoldable pub bits : Settings → ℕ → List ℕ → Answer
+bits σ β t = bitsBy β t (cut σ t)
 
 -- MONEY. "the text after $, unchecked"
 unfoldable pub money : List ℕ → Answer
@@ -98,13 +99,13 @@ behind f (borrowed g u) = borrowed (f + g) (f + u)
 behind f (written v) = written v
 behind f (refused p) = refused (f + p)
 
--- "setting off"
-abbrev pub readToken : List ℕ → Token → Answer
-readToken t (token f u) = behind f (read off (part f u t))
-readToken t noToken = refused 0
+-- what stands in a token is read as a string, at a setting
+abbrev pub readToken : Settings → List ℕ → Token → Answer
+readToken σ t (token f u) = behind f (read σ (part f u t))
+readToken σ t noToken = refused 0
 
-unfoldable pub temporal : List ℕ → Answer
-temporal t = readToken t (temporalToken t)
+unfoldable pub temporal : Settings → List ℕ → Answer
+temporal σ t = readToken σ t (temporalToken t)
 
 -- CHARSET. One past the name that stands between the first _ and a mark; 0 if none does. Nothing is asked of what follows
 unfoldable pub charsetEnd : List ℕ → ℕ

@@ -102,12 +102,13 @@ plainQuestion l source out = stringQuestion l source off out
 unfoldable pub decimalQuestion : Literal → List ℕ → List ℕ → Outcome Text
 decimalQuestion l source out = told decimalOf InvalidInteger l out (tested (isNumber (l .kind)) Expected.DecimalText l source)
 
+-- bits and temporal texts are read with the setting off
 unfoldable pub bitsQuestion : Literal → List ℕ → List ℕ → Outcome Text
 bitsQuestion l source out =
-    told (bits (bitBase (l .kind))) InvalidBitString l out (tested (ltb 0 (bitBase (l .kind))) Expected.BitString l source)
+    told (bits off (bitBase (l .kind))) InvalidBitString l out (tested (ltb 0 (bitBase (l .kind))) Expected.BitString l source)
 
 unfoldable pub temporalQuestion : Literal → List ℕ → List ℕ → Outcome Text
-temporalQuestion l source out = told temporal InvalidString l out (tested (isTemporal (l .kind)) Expected.Temporal l source)
+temporalQuestion l source out = told (temporal off) InvalidString l out (tested (isTemporal (l .kind)) Expected.Temporal l source)
 
 -- PARTS of the source: neither question writes. `source_text` tests no kind, and is refused by the tests alone
 abbrev pub rangeAs : Refusal → ℕ → Answer → Range

@@ -8,8 +8,8 @@ use Prim.Native.Char.{code}
 use native.Mathlib.Omega.{arith}
 use lib.Dec.{eqb}
 use lib.ListN.{length, drop, length-drop, length-take}
+use Rattle.meaning.specs.declared.Settings.{Settings}
 use Rattle.meaning.specs.Bytes.{if_then_else_, _!_, part, has}
-use Rattle.meaning.specs.Cutting.{off}
 use Rattle.meaning.specs.Reading.{Answer, borrowed, written, refused, read}
 use Rattle.meaning.specs.Numbers.{Parsed, none, int, baseOf, separated, strip, radixValue, printedBy, decimalOf}
 use Rattle.meaning.specs.Kinds.{money, Token, token, noToken, temporalToken, behind, readToken, temporal}
@@ -35,12 +35,12 @@ behind-inside t f u h (borrowed g w) i =
 behind-inside t f u h (written v) i = tt
 behind-inside t f u h (refused p) i = tt
 
-pub temporal-inside : (t : List ℕ) → AnswerIn (length t) (temporal t)
+pub temporal-inside : (σ : Settings) (t : List ℕ) → AnswerIn (length t) (temporal σ t)
 unfolding temporal
-temporal-inside t = go (temporalToken t) (token-in t)
+temporal-inside σ t = go (temporalToken t) (token-in t)
   where
-    go : (k : Token) → TokenIn (length t) k → AnswerIn (length t) (readToken t k)
-    go (token f u) h = behind-inside t f u h (read off (part f u t)) (read-inside off (part f u t))
+    go : (k : Token) → TokenIn (length t) k → AnswerIn (length t) (readToken σ t k)
+    go (token f u) h = behind-inside t f u h (read σ (part f u t)) (read-inside σ (part f u t))
     go noToken h = tt
 
 -- a byte that is not 0 stands in the text

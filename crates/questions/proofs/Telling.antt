@@ -15,6 +15,7 @@ use Rattle.meaning.specs.declared.Text.{Text}
 use Rattle.meaning.specs.declared.Text.the-variants.{Refused}
 use Rattle.meaning.specs.Bytes.{part}
 use Rattle.meaning.specs.Chars.{utf8}
+use Rattle.meaning.specs.Cutting.{off}
 use Rattle.meaning.specs.Reading.{read}
 use Rattle.meaning.specs.Reads.{Reads}
 use Rattle.meaning.specs.Numbers.{decimalOf}
@@ -44,11 +45,11 @@ module _ {l : Literal} {S : List ℕ} {r : Tested} {x : Definition.Tested} (v : 
   pub decimal-fits : Reads (decimalOf (part s e S)) out d after → InText s d
   decimal-fits k = fits-text decimalOf InvalidInteger v s e q decimal-inside h (length out) d (k .answer)
 
-  pub bits-fits : (β : ℕ) → Reads (bits β (part s e S)) out d after → InText s d
-  bits-fits β k = fits-text (bits β) InvalidBitString v s e q (bits-inside β) h (length out) d (k .answer)
+  pub bits-fits : (σ : Settings) (β : ℕ) → Reads (bits σ β (part s e S)) out d after → InText s d
+  bits-fits σ β k = fits-text (bits σ β) InvalidBitString v s e q (bits-inside σ β) h (length out) d (k .answer)
 
-  pub temporal-fits : Reads (temporal (part s e S)) out d after → InText s d
-  temporal-fits k = fits-text temporal InvalidString v s e q temporal-inside h (length out) d (k .answer)
+  pub temporal-fits : (σ : Settings) → Reads (temporal σ (part s e S)) out d after → InText s d
+  temporal-fits σ k = fits-text (temporal σ) InvalidString v s e q (temporal-inside σ) h (length out) d (k .answer)
 
 -- WHAT IS TOLD, by the code of the kind
 module _ {l : Literal} {S : List ℕ} {r : Tested} {code : ℕ} (c : code ≡ kindCode (l .kind)) where
@@ -73,24 +74,24 @@ module _ {l : Literal} {S : List ℕ} {r : Tested} {code : ℕ} (c : code ≡ ki
     decimal-barred out w q = rw (← c) (told-barred decimalOf InvalidInteger v out w q)
 
   module _ (β : ℕ) (b : β ≡ bitBaseBy code) (v : Tests l S r (tested (ltb 0 β) Expected.BitString l S)) where
-    pub bits-told : (s e : ℕ) → r ≡ Passes s e → (out after : List ℕ) (d : Read) → Reads (bits β (part s e S)) out d after → (a : Text)
+    pub bits-told : (s e : ℕ) → r ≡ Passes s e → (out after : List ℕ) (d : Read) → Reads (bits off β (part s e S)) out d after → (a : Text)
         → a ≡ toldBy (InvalidBitString (l .span)) s d → Meets (bitsQuestion l S out) a after
     unfolding bitsQuestion
-    bits-told s e q out after d k a o = rw (← c, ← b) (told-meets (bits β) InvalidBitString v s e q out after d k a o)
+    bits-told s e q out after d k a o = rw (← c, ← b) (told-meets (bits off β) InvalidBitString v s e q out after d k a o)
 
     pub bits-barred : (out : List ℕ) (w : Refusal) → r ≡ Barred w → Meets (bitsQuestion l S out) (Refused w) out
     unfolding bitsQuestion
-    bits-barred out w q = rw (← c, ← b) (told-barred (bits β) InvalidBitString v out w q)
+    bits-barred out w q = rw (← c, ← b) (told-barred (bits off β) InvalidBitString v out w q)
 
   module _ (v : Tests l S r (tested (leb 8 code && leb code 11) Expected.Temporal l S)) where
-    pub temporal-told : (s e : ℕ) → r ≡ Passes s e → (out after : List ℕ) (d : Read) → Reads (temporal (part s e S)) out d after → (a : Text)
+    pub temporal-told : (s e : ℕ) → r ≡ Passes s e → (out after : List ℕ) (d : Read) → Reads (temporal off (part s e S)) out d after → (a : Text)
         → a ≡ toldBy (InvalidString (l .span)) s d → Meets (temporalQuestion l S out) a after
     unfolding temporalQuestion
-    temporal-told s e q out after d k a o = rw (← c) (told-meets temporal InvalidString v s e q out after d k a o)
+    temporal-told s e q out after d k a o = rw (← c) (told-meets (temporal off) InvalidString v s e q out after d k a o)
 
     pub temporal-barred : (out : List ℕ) (w : Refusal) → r ≡ Barred w → Meets (temporalQuestion l S out) (Refused w) out
     unfolding temporalQuestion
-    temporal-barred out w q = rw (← c) (told-barred temporal InvalidString v out w q)
+    temporal-barred out w q = rw (← c) (told-barred (temporal off) InvalidString v out w q)
 
 -- THE STRING'S TEXT is tested to be UTF-8 by who reads it
 module _ {l : Literal} {S : List ℕ} {r : Tested} {code : ℕ} (c : code ≡ kindCode (l .kind)) (σ : Settings)

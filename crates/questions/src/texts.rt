@@ -92,7 +92,7 @@ fn bit_base(code: u32) -> u8
     0
 }
 
-// A bit string's digits.
+// A bit string's digits, its text cut with the setting off.
 // Rules out: 6 for 7; hex digits asked of every bit string (must-fail: one_for_another, another_kind_asked).
 pub fn as_bit_text(literal: Literal, source: &[u8], out: &mut [u8]) -> Text
     ensures { λ r. ⌜ Meets (bitsQuestion literal (now (source .entry)) (now (out .entry))) r (now (out .exit)) ⌝ }
@@ -104,14 +104,19 @@ pub fn as_bit_text(literal: Literal, source: &[u8], out: &mut [u8]) -> Text
     let right = 0 < base;
     match test(right, LiteralExpected::BitString, literal, source) {
         Tested::Passes { start, end } => {
-            let read = read_bits(&source[start..end], base, out);
+            let read = read_bits(
+                &source[start..end],
+                base,
+                Settings { backslash: false },
+                out,
+            );
             text_of(read, start, Refusal::InvalidBitString(span))
         }
         Tested::Barred(refusal) => Text::Refused(refusal),
     }
 }
 
-// What a temporal literal's token means.
+// What a temporal literal's token means with the setting off.
 // Rules out: intervals refused; strings asked (must-fail: off_by_one, another_kind_asked).
 pub fn as_temporal_text(literal: Literal, source: &[u8], out: &mut [u8]) -> Text
     ensures { λ r. ⌜ Meets (temporalQuestion literal (now (source .entry)) (now (out .entry))) r (now (out .exit)) ⌝ }
@@ -122,7 +127,7 @@ pub fn as_temporal_text(literal: Literal, source: &[u8], out: &mut [u8]) -> Text
     let right = (8 <= code) & (code <= 11);
     match test(right, LiteralExpected::Temporal, literal, source) {
         Tested::Passes { start, end } => {
-            let read = read_temporal(&source[start..end], out);
+            let read = read_temporal(&source[start..end], Settings { backslash: false }, out);
             text_of(read, start, Refusal::InvalidString(span))
         }
         Tested::Barred(refusal) => Text::Refused(refusal),

@@ -24,6 +24,7 @@ use Rattle.meaning.specs.declared.Writing.{Writing}
 use Rattle.meaning.specs.declared.Writing.the-variants as Writing′
 use Rattle.meaning.specs.Bytes.{if_then_else_, has}
 use Rattle.meaning.specs.Chars.{utf8}
+use Rattle.meaning.specs.Cutting.{off}
 use Rattle.meaning.specs.Reading.{Answer, borrowed, written, refused, read}
 use Rattle.meaning.specs.Numbers.{decimalOf}
 use Rattle.meaning.specs.Kinds.{bits, temporal}
@@ -105,11 +106,11 @@ module _ (l : Literal) (S out : List ℕ) where
   pub bitsQuestion-leaves : TextLeaves out (bitsQuestion l S out .answer) (bitsQuestion l S out .buffer)
   unfolding bitsQuestion
   bitsQuestion-leaves =
-      told-leaves (bits (bitBase (l .kind))) InvalidBitString l out (tested (ltb 0 (bitBase (l .kind))) Expected.BitString l S)
+      told-leaves (bits off (bitBase (l .kind))) InvalidBitString l out (tested (ltb 0 (bitBase (l .kind))) Expected.BitString l S)
 
   pub temporalQuestion-leaves : TextLeaves out (temporalQuestion l S out .answer) (temporalQuestion l S out .buffer)
   unfolding temporalQuestion
-  temporalQuestion-leaves = told-leaves temporal InvalidString l out (tested (isTemporal (l .kind)) Expected.Temporal l S)
+  temporalQuestion-leaves = told-leaves (temporal off) InvalidString l out (tested (isTemporal (l .kind)) Expected.Temporal l S)
 
 identifierAs-leaves : (out : List ℕ) (a : Answer) → IdentifierLeaves out (identifierAs out a .answer) (identifierAs out a .buffer)
 identifierAs-leaves out (borrowed f u) = refl

@@ -9,6 +9,7 @@ use Rattle.meaning.specs.declared.LiteralExpected.{LiteralExpected}
 use Rattle.meaning.specs.declared.Literal.{Literal}
 use Rattle.meaning.specs.declared.Refusal.the-variants.{InvalidString, InvalidInteger, InvalidBitString, InvalidMoney}
 use Rattle.meaning.specs.Bytes.{part}
+use Rattle.meaning.specs.Cutting.{off}
 use Rattle.meaning.specs.Reading.{read}
 use Rattle.meaning.specs.Numbers.{decimalOf}
 use Rattle.meaning.specs.Kinds.{bits, money, temporal}
@@ -42,11 +43,11 @@ module _ (l : Literal) (S S′ : List ℕ) (a : Agree l S S′) where
 
   pub bitsQuestion-same : (out : List ℕ) → bitsQuestion l S out ≡ bitsQuestion l S′ out
   unfolding bitsQuestion
-  bitsQuestion-same out = ap (told (bits (bitBase (l .kind))) InvalidBitString l out) (tested-same _ _)
+  bitsQuestion-same out = ap (told (bits off (bitBase (l .kind))) InvalidBitString l out) (tested-same _ _)
 
   pub temporalQuestion-same : (out : List ℕ) → temporalQuestion l S out ≡ temporalQuestion l S′ out
   unfolding temporalQuestion
-  temporalQuestion-same out = ap (told temporal InvalidString l out) (tested-same _ _)
+  temporalQuestion-same out = ap (told (temporal off) InvalidString l out) (tested-same _ _)
 
   pub sourceQuestion-same : sourceQuestion l S ≡ sourceQuestion l S′
   unfolding sourceQuestion

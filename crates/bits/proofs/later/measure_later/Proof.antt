@@ -10,10 +10,10 @@ use Rattle.bits.proofs.later.measure_later.Statement.{statement}
 use Rattle.bits.proofs.later.measure_later.Tie as tie
 
 abbrev Inv-loop : tie.InvT-loop
-Inv-loop text base cursor₀ n₀ cursor n = LaterAt base text (cursor .at) n
+Inv-loop text base settings cursor₀ n₀ cursor n = LaterAt settings base text (cursor .at) n
 
 abbrev μ-loop : tie.MeasureT-loop
-μ-loop text base cursor₀ n₀ cursor n = length text - cursor .at
+μ-loop text base settings cursor₀ n₀ cursor n = length text - cursor .at
 
 new-requires : tie.Need-new-requires Inv-loop μ-loop
 new-requires c κs = search needs
@@ -28,7 +28,7 @@ enum-known-start : tie.Need-enum-known-start Inv-loop μ-loop
 enum-known-start c = search needs
 
 add-from : tie.Need-add-from Inv-loop μ-loop
-add-from c = let h = body-opens _ _ _ (c .before .before .before .next .ensures) _ _ _ _ (c .before .start .given .1) in omega (arith, h)
+add-from c = let h = body-opens _ _ _ _ (c .before .before .before .next .ensures) _ _ _ _ (c .before .start .given .1) in omega (arith, h)
 
 sub-last : tie.Need-sub-last Inv-loop μ-loop
 sub-last c = search segment-some

@@ -26,7 +26,7 @@ sub-first c = search needs
 add-len : tie.Need-add-len
 add-len c =
     let start = c .before .before .before .before .before .before .before in
-    let h = joined-fits _ (start .args .text .now) _ _ _ (start .pre) _ (c .before .before .before .measure-later .ensures) _ (c .before .n .given .1) in
+    let h = joined-fits _ _ (start .args .text .now) _ _ _ (start .pre) _ (c .before .before .before .measure-later .ensures) _ (c .before .n .given .1) in
     omega (arith, h)
 
 returns : tie.Need-returns
@@ -68,10 +68,10 @@ write-later-requires c κs = search rest-room
 enum-known-place : tie.Need-enum-known-place
 enum-known-place c = search needs
 
-add-t32 : tie.Need-add-t32
-add-t32 c =
+add-t33 : tie.Need-add-t33
+add-t33 c =
     let start = c .before .before .before .before .before .before .before in
-    let h = place-fits _ (start .args .text .now) _ _ _ (start .pre) _ (c .before .before .before .measure-later .ensures) _ (c .before .place .given .1) in
+    let h = place-fits _ _ (start .args .text .now) _ _ _ (start .pre) _ (c .before .before .before .measure-later .ensures) _ (c .before .place .given .1) in
     omega (arith, h)
 
 same-length : tie.Need-same-length
@@ -107,7 +107,7 @@ join-bits-spec =
     part-write-later-end-2
     write-later-requires
     enum-known-place
-    add-t32
+    add-t33
     same-length
     returns-2
     returns-3)
