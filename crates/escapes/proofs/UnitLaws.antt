@@ -89,11 +89,6 @@ pub one-byte : (k b : ℕ) → (b ≡ 0 → ⊥) → Is (Byte b k) (oneByte k b)
 unfolding oneByte
 one-byte k b h = record { means = λ e. rw (ne-eqb b 0 h); sound = tt }
 
--- a run is inside the body
-pub run-there : (β w : ℕ) (l : List ℕ) (at : ℕ) (d : Digits) → Run β w (drop at l) d → (d .count ≤ w) × (d .count ≤ length l - at)
-run-there β w l at d r =
-    omega (arith, r .count, digits-le β w (drop at l), digits-length β w (drop at l), length-drop at l)
-
 -- a scalar by hex digits, of which the number is told
 pub scalar-by : (w n : ℕ) (t : List ℕ) → scalarBy w n t ≡ scalarOf n (hexBy w t)
 unfolding scalarBy scalarOf hexBy mayEscape

@@ -4,7 +4,7 @@ use Prim.Native.Nat.{_+_}
 use native.Mathlib.Omega.{arith}
 use borrow.Author.Tests.{ltb-true, ltb-false}
 use denote.Ref.{now}
-use Rattle.escapes.proofs.UnitLaws.{run-there, escaped-end, escaped-octal, escaped-hex, escaped-x, escaped-four, escaped-eight, escaped-letter}
+use Rattle.escapes.proofs.UnitLaws.{escaped-end, escaped-octal, escaped-hex, escaped-x, escaped-four, escaped-eight, escaped-letter}
 use borrow.Author.Needs.{needs}
 use Rattle.escapes.proofs.units.escaped_unit.Statement.{statement}
 use Rattle.escapes.proofs.units.escaped_unit.Tie as tie
@@ -15,11 +15,6 @@ returns-2 c =
     escaped-octal (now (a .body)) (a .at) (c .before .before .before .before .before .before .if1 .left)
     (ltb-true _ _ (sym (c .before .before .before .before .is-octal .ensures) ∙ c .before .before .before .if2 .taken)) _
     (c .before .before .digits-at .ensures) _ (c .byte-unit .ensures)
-
-add-byte-unit : tie.Need-add-byte-unit
-add-byte-unit c =
-    let a = c .before .before .before .before .before .before .before .before .args in
-    omega (arith, run-there 16 2 (now (a .body)) (a .at + 1) (c .before .digits-at2 .result) (c .before .digits-at2 .ensures) .0)
 
 returns-3 : tie.Need-returns-3
 returns-3 c =
@@ -67,7 +62,7 @@ escaped-unit-spec =
     returns-2
     (λ c. search needs)
     (λ c κs. search needs)
-    add-byte-unit
+    (λ c. search needs)
     (λ c. search needs)
     (λ c κs. search needs)
     returns-3
