@@ -6,7 +6,7 @@ use Prim.Native.Nat.{ℕ, zero, suc, _+_, _-_, _*_, _%_, _^_, _≤_, _<_}
 use native.Mathlib.Nat.{lt-of-lt-of-le, mod-eq-of-lt, mod-lt, pow-zero, pow-succ', pow-le-pow-right}
 use native.Mathlib.Numerals.{add-one}
 use native.Mathlib.Omega.{arith}
-use borrow.Author.Tests.{ne-eqb, ltb-true}
+use borrow.Author.Tests.{ne-eqb, ltb-true, ltb-false}
 use mir.Syntax.{w32}
 use mir.Val.{Fits}
 use lib.Dec.{eqb, ltb, eqb·suc-suc}
@@ -34,6 +34,14 @@ hex-past w l at h = rw (drop-of-length-le l h) (go w)
 
 pub hex-short : (w : ℕ) (l : List ℕ) (at : ℕ) → at < length l → length l - at < w → 0 ≡ hexBy w (drop at l)
 hex-short w l at h k = hex-none w (drop at l) (rw length-drop k)
+
+-- digits that make a number are inside
+pub hex-inside : (w : ℕ) (l : List ℕ) (at v : ℕ) → v ≡ hexBy w (drop at l) → 0 < v → at ≤ length l → at + w ≤ length l
+hex-inside w l at v e o h = go (ltb (length (drop at l)) w) refl
+  where
+    go : (x : Bool) → ltb (length (drop at l)) w ≡ x → at + w ≤ length l
+    go true k = absurd (omega (arith, hex-none w (drop at l) (ltb-true (length (drop at l)) w k), e))
+    go false k = omega (arith, ltb-false (length (drop at l)) w k, length-drop at l)
 
 -- ONE BYTE MORE
 whole-suc : (β n : ℕ) (t : List ℕ) → n < length t → (eqb (digits β n t) n && ltb (digit (t ! n)) β) ≡ eqb (digits β (suc n) t) (suc n)
