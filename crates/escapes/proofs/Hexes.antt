@@ -2,19 +2,19 @@
 use mathlib.Core.Path.{_≡_, refl, ap, sym, _∙_}
 use mathlib.Core.Bool.{Bool, true, false, _&&_}
 use mathlib.Core.List.{List, [], _∷_}
-use Prim.Native.Nat.{ℕ, zero, suc, _+_, _-_, _*_, _%_, _^_, _≤_, _<_}
-use native.Mathlib.Nat.{lt-of-lt-of-le, mod-eq-of-lt, mod-lt, pow-zero, pow-succ', pow-le-pow-right}
+use Prim.Native.Nat.{ℕ, zero, suc, _+_, _-_, _*_, _^_, _≤_, _<_}
+use native.Mathlib.Nat.{lt-of-lt-of-le, pow-succ', pow-le-pow-right}
 use native.Mathlib.Numerals.{add-one}
 use native.Mathlib.Omega.{arith}
-use borrow.Author.Tests.{ne-eqb, ltb-true, ltb-false}
-use mir.Syntax.{w32}
+use borrow.Author.Tests.{ne-eqb, eqb-true, ltb-true, ltb-false}
+use mir.Syntax.{w32, w64}
 use mir.Val.{Fits}
 use lib.Dec.{eqb, ltb, eqb·suc-suc}
 use lib.ListN.{length, drop, length-drop, drop-of-length-le}
 use lib.Seq.{getD-drop}
-use Rattle.meaning.specs.Bytes.{if_then_else_, _!_, digit, digits, number}
-use Rattle.laws.proofs.basics.Tests.{and-left, and-right}
-use Rattle.laws.proofs.basics.Digits.{digits-length, number-suc}
+use Rattle.meaning.specs.Bytes.{if_then_else_, _!_, within, digit, digits, number}
+use Rattle.laws.proofs.basics.Tests.{within-bounds}
+use Rattle.laws.proofs.basics.Digits.{digits-length, number-suc, number-digits-lt}
 use Rattle.escapes.specs.Digits.{hexBy}
 
 -- TOO FEW bytes
@@ -59,53 +59,92 @@ whole-suc β (suc n) (b ∷ t) h = go (ltb (digit b) β) (whole-suc β n t (omeg
         ap (_&& ltb (digit (t ! n)) β) (eqb·suc-suc (digits β n t) n) ∙ e ∙ sym (eqb·suc-suc (digits β (suc n) t) (suc n))
     go false e = rw (ne-eqb 0 (suc n) (λ e. omega arith), ne-eqb 0 (suc (suc n)) (λ e. omega arith))
 
--- SO FAR: of the n bytes from a place on, i are read; y says whether each is a digit, and v is then their number
-pub record Hexing (l : List ℕ) (at n i : ℕ) (y : Bool) (v : ℕ) : Type 0 where
-  pub inside : at + n ≤ length l
-  pub most : i ≤ n
-  pub whole : y ≡ eqb (digits 16 i (drop at l)) i
-  pub made : y ≡ true → v ≡ number 16 i 0 (drop at l)
-  pub small : v < 16 ^ i
+-- no byte counts more than 16
+digit-most : (b : ℕ) → digit b ≤ 16
+unfolding digit
+digit-most b = go (within 48 57 b) (within 65 70 b) (within 97 102 b) refl refl refl
+  where
+    go : (x y z : Bool) → within 48 57 b ≡ x → within 65 70 b ≡ y → within 97 102 b ≡ z
+        → (if x then b - 48 else if y then b - 55 else if z then b - 87 else 16) ≤ 16
+    go true y z e f g = let h = within-bounds 48 57 b e in omega arith
+    go false true z e f g = let h = within-bounds 65 70 b f in omega arith
+    go false false true e f g = let h = within-bounds 97 102 b g in omega arith
+    go false false false e f g = omega arith
 
-pub hexing-none : (l : List ℕ) (at n : ℕ) → at < length l → n ≤ length l - at → Hexing l at n 0 true 0
-hexing-none l at n h k = record { inside = omega arith; most = omega arith; whole = refl; made = λ e. refl; small = rw (pow-zero 16) (omega arith) }
+-- SO FAR: of the n pairs from a place on, i are read; y says whether each byte is a digit, and v is the number that they make
+pub record Hexing (l : List ℕ) (at n i : ℕ) (y : Bool) (v : ℕ) : Type 0 where
+  pub inside : at + (n + n) ≤ length l
+  pub most : i ≤ n
+  pub whole : y ≡ eqb (digits 16 (i + i) (drop at l)) (i + i)
+  pub made : v ≡ number 16 (i + i) 0 (drop at l)
+  pub small : v + 2 ≤ 2 * 256 ^ i
+
+pub hexing-none : (l : List ℕ) (at n : ℕ) → at < length l → n + n ≤ length l - at → Hexing l at n 0 true 0
+hexing-none l at n h k = record { inside = omega arith; most = omega arith; whole = refl; made = refl; small = omega arith }
 
 module _ {l : List ℕ} {at n i : ℕ} {y : Bool} {v : ℕ} (x : Hexing l at n i y v) where
-  module _ (h : i < n) (d : ℕ) (e : d ≡ digit (l ! (at + i))) where
-    pub hexing-turn : Hexing l at n (i + 1) (y && ltb d 16) (v * 16 + d % 16)
+  module _ (h : i < n) (d e : ℕ) (ed : d ≡ digit (l ! (at + i + i))) (ee : e ≡ digit (l ! (at + i + i + 1))) where
+    pub hexing-turn : Hexing l at n (i + 1) (y && (ltb d 16 && ltb e 16)) (v * 256 + (d * 16 + e))
     hexing-turn =
         let t = drop at l in
-        let k : d ≡ digit (t ! i) = e ∙ ap digit (sym (getD-drop at l i 0)) in
-        let j : i < length t = omega (arith, x .inside, length-drop at l) in
-        rw (add-one i)
-        (record {
+        let m = i + i in
+        let p : at + i + i ≡ at + m = omega arith in
+        let q : at + i + i + 1 ≡ at + suc m = omega arith in
+        let a : d ≡ digit (t ! m) = ed ∙ ap (λ (k : ℕ). digit (l ! k)) p ∙ ap digit (sym (getD-drop at l m 0)) in
+        let b : e ≡ digit (t ! suc m) = ee ∙ ap (λ (k : ℕ). digit (l ! k)) q ∙ ap digit (sym (getD-drop at l (suc m) 0)) in
+        let j : suc m < length t = omega (arith, x .inside, length-drop at l) in
+        let k : m < length t = omega arith in
+        let z : i + 1 + (i + 1) ≡ suc (suc m) = omega arith in
+        let u = whole-suc 16 m t k in
+        let w = whole-suc 16 (suc m) t j in
+        let f = number-suc 16 m 0 t k in
+        let g = number-suc 16 (suc m) 0 t j in
+        record {
           inside = x .inside;
           most = omega arith;
-          whole = rw (x .whole, k) (whole-suc 16 i t j);
-          made = λ q.
-              let m : d % 16 ≡ digit (t ! i) = mod-eq-of-lt (ltb-true d 16 (and-right y (ltb d 16) q)) ∙ k in
-              rw (m, x .made (and-left y (ltb d 16) q), number-suc 16 i 0 t j);
-          small = let o : 0 < 16 = omega arith in rw (pow-succ' 16 i) (omega (arith, x .small, mod-lt d o));
-        })
+          whole =
+              rw (z, a, b)
+              (ap (_&& (ltb (digit (t ! m)) 16 && ltb (digit (t ! suc m)) 16)) (x .whole)
+              ∙ both (eqb (digits 16 m t) m) (ltb (digit (t ! m)) 16) (ltb (digit (t ! suc m)) 16)
+              ∙ ap (_&& ltb (digit (t ! suc m)) 16) u ∙ w);
+          made = rw (z, g, f) (omega (arith, x .made, a, b));
+          small = rw (add-one i, pow-succ' 256 i) (omega (arith, x .small, ed, ee, digit-most (l ! (at + i + i)), digit-most (l ! (at + i + i + 1))));
+        }
+      where
+        both : (x y z : Bool) → (x && (y && z)) ≡ ((x && y) && z)
+        both true y z = refl
+        both false y z = refl
 
-    -- eight digits fit 32 bits
-    fits : n ≤ 8 → v * 16 + d % 16 < 2 ^ 32
+    -- four pairs fit 64 bits, digits or not
+    fits : n ≤ 4 → v * 256 + (d * 16 + e) < 2 ^ 64
     fits z =
-        let m : i + 1 ≤ 8 = omega arith in
-        let o : 0 < 16 = omega arith in
-        lt-of-lt-of-le (hexing-turn .small) (pow-le-pow-right o m)
+        let m : i + 1 ≤ 4 = omega arith in
+        let o : 0 < 256 = omega arith in
+        omega (arith, hexing-turn .small, pow-le-pow-right o m)
 
-    pub hexing-adds : n ≤ 8 → Fits w32 (v * 16 + d % 16)
+    pub hexing-adds : n ≤ 4 → Fits w64 (v * 256 + (d * 16 + e))
     hexing-adds z = record { fits = fits z }
 
-    pub hexing-scales : n ≤ 8 → Fits w32 (v * 16)
-    hexing-scales z = let f = fits z in record { fits = omega arith }
+  pub hexing-scales : i < n → n ≤ 4 → Fits w64 (v * 256)
+  hexing-scales h z =
+      let m : i ≤ 3 = omega arith in
+      let o : 0 < 256 = omega arith in
+      record { fits = omega (arith, x .small, pow-le-pow-right o m) }
 
   module _ (h : n ≤ i) where
-    pub hexing-all : y ≡ true → v ≡ hexBy n (drop at l)
-    unfolding hexBy
-    hexing-all e = let k : i ≡ n = omega (arith, x .most) in rw (← k, ← x .whole, e) (x .made e)
-
-    pub hexing-some : y ≡ false → 0 ≡ hexBy n (drop at l)
+    pub hexing-some : y ≡ false → 0 ≡ hexBy (n + n) (drop at l)
     unfolding hexBy
     hexing-some e = let k : i ≡ n = omega (arith, x .most) in rw (← k, ← x .whole, e)
+
+    module _ (e : y ≡ true) where
+      pub hexing-all : v ≡ hexBy (n + n) (drop at l)
+      unfolding hexBy
+      hexing-all = let k : i ≡ n = omega (arith, x .most) in rw (← k, ← x .whole, e) (x .made)
+
+      -- eight digits fit 32 bits
+      pub hexing-fits : n ≤ 4 → Fits w32 v
+      hexing-fits z =
+          let k : digits 16 (i + i) (drop at l) ≡ i + i = eqb-true (digits 16 (i + i) (drop at l)) (i + i) (sym (x .whole) ∙ e) in
+          let m : i + i ≤ 8 = omega (arith, x .most) in
+          let o : 0 < 16 = omega arith in
+          record { fits = rw (x .made) (lt-of-lt-of-le (number-digits-lt 16 (i + i) (i + i) (drop at l) (omega arith)) (pow-le-pow-right o m)) }

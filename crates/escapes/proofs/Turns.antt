@@ -11,7 +11,7 @@ use types.Run.{OneOf, miss}
 use lib.Dec.{eqb, ltb, leb}
 use lib.ListN.{length, take, drop, length-append, drop-of-length-le}
 use lib.Seq.{take-append-seam, length-take-le}
-use Rattle.meaning.specs.Bytes.{if_then_else_, _!_}
+use Rattle.meaning.specs.Bytes.{_!_}
 use Rattle.meaning.specs.Chars.{broken, whole, encode, isScalar}
 use Rattle.meaning.specs.Walk.{give, stop, walk, value}
 use Rattle.meaning.specs.Steps.{mayEscape, standardStep, escapeStep, unicodeStep}
@@ -41,7 +41,7 @@ use Rattle.escapes.specs.declared.passing.Turn.the-variants as Turn′
 use Rattle.escapes.specs.declared.passing.Measured.the-variants.{Plain, Length, Refused}
 use Rattle.escapes.specs.Pieces.{scalarOf, meaningOf, Is, IsBy}
 use Rattle.escapes.specs.Families.{stepOf, checks, dueBy, courseOf}
-use Rattle.escapes.specs.Passing.{Counted, Passing, Near, Moved, Moves, Ready, GoesOn, Turns, Passes}
+use Rattle.escapes.specs.Passing.{Counted, Passing, Near, Moved, Moves, Ready, Turns, Passes}
 use Rattle.escapes.proofs.UnitLaws.{cut}
 
 -- EVERY FAMILY's step is steady, since no mark is zero
