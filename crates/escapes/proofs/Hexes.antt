@@ -1,66 +1,63 @@
--- Hex digits by a number of them: one byte more, two groups beside each other, and too few bytes. Assumes nothing.
-use mathlib.Core.Path.{_≡_, refl, ap, ap₂, sym, _∙_, subst}
+-- Hex digits by a number of them, read from a place of a body on: so far, whether each byte is one, and the number that they make. Assumes nothing.
+use mathlib.Core.Path.{_≡_, refl, ap, sym, _∙_}
 use mathlib.Core.Bool.{Bool, true, false, _&&_}
 use mathlib.Core.List.{List, [], _∷_}
 use Prim.Native.Nat.{ℕ, zero, suc, _+_, _-_, _*_, _^_, _≤_, _<_}
-use native.Mathlib.Nat.{zero-add, suc-add, add-mul, mul-assoc, pow-succ', pow-zero}
+use native.Mathlib.Nat.{lt-of-lt-of-le, pow-succ', pow-le-pow-right}
+use native.Mathlib.Numerals.{add-one}
 use native.Mathlib.Omega.{arith}
-use borrow.Author.Tests.{ne-eqb, eqb-true, leb-true, leb-false, le-leb, lt-leb}
-use lib.Dec.{eqb, ltb, leb, eqb·suc-suc}
-use lib.ListN.{length, drop, length-drop}
-use lib.Seq.{drop-drop}
+use borrow.Author.Tests.{ne-eqb, eqb-true, ltb-true, ltb-false}
+use mir.Syntax.{w32, w64}
+use mir.Val.{Fits}
+use lib.Dec.{eqb, ltb, eqb·suc-suc}
+use lib.ListN.{length, drop, length-drop, drop-of-length-le}
+use lib.Seq.{getD-drop}
 use Rattle.meaning.specs.Bytes.{if_then_else_, _!_, within, digit, digits, number}
 use Rattle.laws.proofs.basics.Tests.{within-bounds}
-use Rattle.laws.proofs.basics.Digits.{digits-length, number-digits-lt}
-use Rattle.escapes.specs.declared.digits.Hexes.{Hexes}
-use Rattle.escapes.specs.Digits.{Group, hexBy}
-use Rattle.escapes.proofs.UnitLaws.{cut}
+use Rattle.laws.proofs.basics.Digits.{digits-length, number-suc, number-digits-lt}
+use Rattle.escapes.specs.Digits.{hexBy}
 
--- a bytes, and b more behind them: each is a digit, and their number
-none-whole : (m n : ℕ) (x : Bool) → eqb 0 (suc m) ≡ (eqb 0 (suc n) && x)
-none-whole m n x = rw (ne-eqb 0 (suc m) (λ e. omega arith), ne-eqb 0 (suc n) (λ e. omega arith))
+-- TOO FEW bytes
+hex-none : (w : ℕ) (t : List ℕ) → length t < w → 0 ≡ hexBy w t
+unfolding hexBy
+hex-none w t h =
+    let n : digits 16 w t ≡ w → ⊥ = λ q. omega (arith, digits-length 16 w t) in
+    rw (ne-eqb (digits 16 w t) w n)
 
-whole-split : (β a b : ℕ) (t : List ℕ) → eqb (digits β (a + b) t) (a + b) ≡ (eqb (digits β a t) a && eqb (digits β b (drop a t)) b)
-whole-split β zero b t = rw (zero-add b)
-whole-split β (suc a) b [] = rw (suc-add a b) (none-whole (a + b) a (eqb (digits β b []) b))
-whole-split β (suc a) b (x ∷ t) = rw (suc-add a b) (go (ltb (digit x) β) (whole-split β a b t))
+pub hex-past : (w : ℕ) (l : List ℕ) (at : ℕ) → length l ≤ at → 0 ≡ hexBy w (drop at l)
+unfolding hexBy
+hex-past w l at h = rw (drop-of-length-le l h) (go w)
   where
-    go : (y : Bool) → eqb (digits β (a + b) t) (a + b) ≡ (eqb (digits β a t) a && eqb (digits β b (drop a t)) b)
-        → eqb (if y then suc (digits β (a + b) t) else 0) (suc (a + b))
-        ≡ (eqb (if y then suc (digits β a t) else 0) (suc a) && eqb (digits β b (drop a t)) b)
-    go true h =
-        eqb·suc-suc (digits β (a + b) t) (a + b) ∙ h
-        ∙ ap (_&& eqb (digits β b (drop a t)) b) (sym (eqb·suc-suc (digits β a t) a))
-    go false h = none-whole (a + b) a (eqb (digits β b (drop a t)) b)
+    go : (w : ℕ) → 0 ≡ hexBy w []
+    go zero = refl
+    go (suc w) = hex-none (suc w) [] (omega arith)
 
-number-split : (β a b v : ℕ) (t : List ℕ) → a ≤ length t → number β (a + b) v t ≡ number β b (number β a v t) (drop a t)
-number-split β zero b v t h = rw (zero-add b)
-number-split β (suc a) b v [] h = absurd (omega arith)
-number-split β (suc a) b v (x ∷ t) h = rw (suc-add a b) (number-split β a b (v * β + digit x) t (omega arith))
+pub hex-short : (w : ℕ) (l : List ℕ) (at : ℕ) → at < length l → length l - at < w → 0 ≡ hexBy w (drop at l)
+hex-short w l at h k = hex-none w (drop at l) (rw length-drop k)
 
-number-behind : (β n v : ℕ) (t : List ℕ) → n ≤ length t → number β n v t ≡ v * β ^ n + number β n 0 t
-number-behind β zero v t h = let p = pow-zero β in rw p (omega arith)
-number-behind β (suc n) v [] h = absurd (omega arith)
-number-behind β (suc n) v (x ∷ t) h =
-    let a : number β n (v * β + digit x) t ≡ (v * β + digit x) * β ^ n + number β n 0 t = number-behind β n (v * β + digit x) t (omega arith) in
-    let b : number β n (0 * β + digit x) t ≡ (0 * β + digit x) * β ^ n + number β n 0 t = number-behind β n (0 * β + digit x) t (omega arith) in
-    let p : (v * β + digit x) * β ^ n ≡ v * (β * β ^ n) + digit x * β ^ n =
-    add-mul (v * β) (digit x) (β ^ n) ∙ ap (_+ digit x * β ^ n) (mul-assoc v β (β ^ n)) in
-    let q : (0 * β + digit x) * β ^ n ≡ digit x * β ^ n = ap (_* β ^ n) (omega arith) in
-    let r : v * β ^ suc n ≡ v * (β * β ^ n) = ap (v *_) (pow-succ' β n) in
-    omega arith
+-- digits that make a number are inside
+pub hex-inside : (w : ℕ) (l : List ℕ) (at v : ℕ) → v ≡ hexBy w (drop at l) → 0 < v → at ≤ length l → at + w ≤ length l
+hex-inside w l at v e o h = go (ltb (length (drop at l)) w) refl
+  where
+    go : (x : Bool) → ltb (length (drop at l)) w ≡ x → at + w ≤ length l
+    go true k = absurd (omega (arith, hex-none w (drop at l) (ltb-true (length (drop at l)) w k), e))
+    go false k = omega (arith, ltb-false (length (drop at l)) w k, length-drop at l)
 
--- HOW MANY are there
-module _ (l : List ℕ) (at n : ℕ) where
-  pub there-none : length l < n → false ≡ leb (at + n) (length l)
-  there-none h = let k : length l < at + n = omega arith in sym (lt-leb (at + n) (length l) k)
-
-  pub there-by : n ≤ length l → leb at (length l - n) ≡ leb (at + n) (length l)
-  there-by h = go (leb at (length l - n)) refl
-    where
-      go : (x : Bool) → leb at (length l - n) ≡ x → x ≡ leb (at + n) (length l)
-      go true e = let a = leb-true at (length l - n) e in let k : at + n ≤ length l = omega arith in sym (le-leb (at + n) (length l) k)
-      go false e = let a = leb-false at (length l - n) e in let k : length l < at + n = omega arith in sym (lt-leb (at + n) (length l) k)
+-- ONE BYTE MORE
+whole-suc : (β n : ℕ) (t : List ℕ) → n < length t → (eqb (digits β n t) n && ltb (digit (t ! n)) β) ≡ eqb (digits β (suc n) t) (suc n)
+whole-suc β n [] h = absurd (omega arith)
+whole-suc β zero (b ∷ t) h = go (ltb (digit b) β)
+  where
+    go : (x : Bool) → x ≡ eqb (if x then 1 else 0) 1
+    go true = refl
+    go false = refl
+whole-suc β (suc n) (b ∷ t) h = go (ltb (digit b) β) (whole-suc β n t (omega arith))
+  where
+    go : (x : Bool) → (eqb (digits β n t) n && ltb (digit (t ! n)) β) ≡ eqb (digits β (suc n) t) (suc n)
+        → (eqb (if x then suc (digits β n t) else 0) (suc n) && ltb (digit (t ! n)) β) ≡ eqb (if x then suc (digits β (suc n) t) else 0) (suc (suc n))
+    go true e =
+        ap (_&& ltb (digit (t ! n)) β) (eqb·suc-suc (digits β n t) n) ∙ e ∙ sym (eqb·suc-suc (digits β (suc n) t) (suc n))
+    go false e = rw (ne-eqb 0 (suc n) (λ e. omega arith), ne-eqb 0 (suc (suc n)) (λ e. omega arith))
 
 -- no byte counts more than 16
 digit-most : (b : ℕ) → digit b ≤ 16
@@ -74,61 +71,80 @@ digit-most b = go (within 48 57 b) (within 65 70 b) (within 97 102 b) refl refl 
     go false false true e f g = let h = within-bounds 97 102 b g in omega arith
     go false false false e f g = omega arith
 
-two-most : (t : List ℕ) → number 16 2 0 t ≤ 272
-two-most [] = omega arith
-two-most (a ∷ []) = omega (arith, digit-most a)
-two-most (a ∷ b ∷ t) = omega (arith, digit-most a, digit-most b)
+-- SO FAR: of the n pairs from a place on, i are read; y says whether each byte is a digit, and v is the number that they make
+pub record Hexing (l : List ℕ) (at n i : ℕ) (y : Bool) (v : ℕ) : Type 0 where
+  pub inside : at + (n + n) ≤ length l
+  pub most : i ≤ n
+  pub whole : y ≡ eqb (digits 16 (i + i) (drop at l)) (i + i)
+  pub made : v ≡ number 16 (i + i) 0 (drop at l)
+  pub small : v + 2 ≤ 2 * 256 ^ i
 
-pub group-two-most : {t : List ℕ} {x : Hexes} → Group 2 t x → x .value ≤ 272
-group-two-most {t} {x} g = omega (arith, g .value, two-most t)
+pub hexing-none : (l : List ℕ) (at n : ℕ) → at < length l → n + n ≤ length l - at → Hexing l at n 0 true 0
+hexing-none l at n h k = record { inside = omega arith; most = omega arith; whole = refl; made = refl; small = omega arith }
 
--- TWO bytes
-pub group-two : (l : List ℕ) (at d e : ℕ) → at + 2 ≤ length l → d ≡ digit (l ! at) → e ≡ digit (l ! (at + 1))
-    → Group 2 (drop at l) (record { whole = ltb d 16 && ltb e 16; value = d * 16 + e })
-group-two l at d e h p q =
-    let a : at < length l = omega arith in
-    let b : at + 1 < length l = omega arith in
-    let c : drop at l ≡ l ! at ∷ l ! (at + 1) ∷ drop (at + 1 + 1) l = cut l at a ∙ ap (λ (t : List ℕ). l ! at ∷ t) (cut l (at + 1) b) in
-    rw (c, p, q) (record { whole = go (ltb (digit (l ! at)) 16) (ltb (digit (l ! (at + 1))) 16); value = omega arith })
-  where
-    go : (x y : Bool) → (x && y) ≡ eqb (if x then suc (if y then suc 0 else 0) else 0) 2
-    go true true = refl
-    go true false = refl
-    go false y = refl
+module _ {l : List ℕ} {at n i : ℕ} {y : Bool} {v : ℕ} (x : Hexing l at n i y v) where
+  module _ (h : i < n) (d e : ℕ) (ed : d ≡ digit (l ! (at + i + i))) (ee : e ≡ digit (l ! (at + i + i + 1))) where
+    pub hexing-turn : Hexing l at n (i + 1) (y && (ltb d 16 && ltb e 16)) (v * 256 + (d * 16 + e))
+    hexing-turn =
+        let t = drop at l in
+        let m = i + i in
+        let p : at + i + i ≡ at + m = omega arith in
+        let q : at + i + i + 1 ≡ at + suc m = omega arith in
+        let a : d ≡ digit (t ! m) = ed ∙ ap (λ (k : ℕ). digit (l ! k)) p ∙ ap digit (sym (getD-drop at l m 0)) in
+        let b : e ≡ digit (t ! suc m) = ee ∙ ap (λ (k : ℕ). digit (l ! k)) q ∙ ap digit (sym (getD-drop at l (suc m) 0)) in
+        let j : suc m < length t = omega (arith, x .inside, length-drop at l) in
+        let k : m < length t = omega arith in
+        let z : i + 1 + (i + 1) ≡ suc (suc m) = omega arith in
+        let u = whole-suc 16 m t k in
+        let w = whole-suc 16 (suc m) t j in
+        let f = number-suc 16 m 0 t k in
+        let g = number-suc 16 (suc m) 0 t j in
+        record {
+          inside = x .inside;
+          most = omega arith;
+          whole =
+              rw (z, a, b)
+              (ap (_&& (ltb (digit (t ! m)) 16 && ltb (digit (t ! suc m)) 16)) (x .whole)
+              ∙ both (eqb (digits 16 m t) m) (ltb (digit (t ! m)) 16) (ltb (digit (t ! suc m)) 16)
+              ∙ ap (_&& ltb (digit (t ! suc m)) 16) u ∙ w);
+          made = rw (z, g, f) (omega (arith, x .made, a, b));
+          small = rw (add-one i, pow-succ' 256 i) (omega (arith, x .small, ed, ee, digit-most (l ! (at + i + i)), digit-most (l ! (at + i + i + 1))));
+        }
+      where
+        both : (x y z : Bool) → (x && (y && z)) ≡ ((x && y) && z)
+        both true y z = refl
+        both false y z = refl
 
--- TWO GROUPS beside each other are one
-pub group-beside : (a b : ℕ) (l : List ℕ) (at : ℕ) (x y : Hexes) → at + (a + b) ≤ length l → Group a (drop at l) x → Group b (drop (at + a) l) y
-    → Group (a + b) (drop at l) (record { whole = x .whole && y .whole; value = x .value * 16 ^ b + y .value })
-group-beside a b l at x y h p q =
-    let t = drop at l in
-    let e : drop (at + a) l ≡ drop a t = sym (drop-drop a at l) in
-    let r : Group b (drop a t) y = subst (λ (u : List ℕ). Group b u y) e q in
-    let n : length t ≡ length l - at = length-drop at l in
-    let m : length (drop a t) ≡ length t - a = length-drop a t in
-    record {
-      whole = ap₂ _&&_ (p .whole) (r .whole) ∙ sym (whole-split 16 a b t);
-      value =
-          ap₂ (λ (m n : ℕ). m * 16 ^ b + n) (p .value) (r .value)
-          ∙ sym (number-split 16 a b 0 t (omega arith) ∙ number-behind 16 b (number 16 a 0 t) (drop a t) (omega arith));
-    }
+    -- four pairs fit 64 bits, digits or not
+    fits : n ≤ 4 → v * 256 + (d * 16 + e) < 2 ^ 64
+    fits z =
+        let m : i + 1 ≤ 4 = omega arith in
+        let o : 0 < 256 = omega arith in
+        omega (arith, hexing-turn .small, pow-le-pow-right o m)
 
--- THE NUMBER that they make, or none
-pub hex-short : (w : ℕ) (l : List ℕ) (at : ℕ) → 0 < w → leb (at + w) (length l) ≡ false → 0 ≡ hexBy w (drop at l)
-unfolding hexBy
-hex-short w l at o e =
-    let n : digits 16 w (drop at l) ≡ w → ⊥ = λ q. omega (arith, leb-false (at + w) (length l) e, digits-length 16 w (drop at l), length-drop at l) in
-    rw (ne-eqb (digits 16 w (drop at l)) w n)
+    pub hexing-adds : n ≤ 4 → Fits w64 (v * 256 + (d * 16 + e))
+    hexing-adds z = record { fits = fits z }
 
-module _ {w : ℕ} {t : List ℕ} {x : Hexes} (g : Group w t x) where
-  pub hex-whole : x .whole ≡ true → x .value ≡ hexBy w t
-  unfolding hexBy
-  hex-whole e = rw (sym (g .whole) ∙ e) (g .value)
+  pub hexing-scales : i < n → n ≤ 4 → Fits w64 (v * 256)
+  hexing-scales h z =
+      let m : i ≤ 3 = omega arith in
+      let o : 0 < 256 = omega arith in
+      record { fits = omega (arith, x .small, pow-le-pow-right o m) }
 
-  pub hex-none : x .whole ≡ false → 0 ≡ hexBy w t
-  unfolding hexBy
-  hex-none e = rw (sym (g .whole) ∙ e)
+  module _ (h : n ≤ i) where
+    pub hexing-some : y ≡ false → 0 ≡ hexBy (n + n) (drop at l)
+    unfolding hexBy
+    hexing-some e = let k : i ≡ n = omega (arith, x .most) in rw (← k, ← x .whole, e)
 
-  pub group-small : x .whole ≡ true → x .value < 16 ^ w
-  group-small e =
-      let q : digits 16 w t ≡ w = eqb-true (digits 16 w t) w (sym (g .whole) ∙ e) in
-      rw (g .value) (number-digits-lt 16 w w t (omega arith))
+    module _ (e : y ≡ true) where
+      pub hexing-all : v ≡ hexBy (n + n) (drop at l)
+      unfolding hexBy
+      hexing-all = let k : i ≡ n = omega (arith, x .most) in rw (← k, ← x .whole, e) (x .made)
+
+      -- eight digits fit 32 bits
+      pub hexing-fits : n ≤ 4 → Fits w32 v
+      hexing-fits z =
+          let k : digits 16 (i + i) (drop at l) ≡ i + i = eqb-true (digits 16 (i + i) (drop at l)) (i + i) (sym (x .whole) ∙ e) in
+          let m : i + i ≤ 8 = omega (arith, x .most) in
+          let o : 0 < 16 = omega arith in
+          record { fits = rw (x .made) (lt-of-lt-of-le (number-digits-lt 16 (i + i) (i + i) (drop at l) (omega arith)) (pow-le-pow-right o m)) }

@@ -6,6 +6,8 @@ use native.Mathlib.Nat.{lt-of-lt-of-le, le-trans, pow-le-pow-left, pow-le-pow-ri
 use native.Mathlib.Numerals.{add-one}
 use native.Mathlib.Omega.{arith}
 use borrow.Author.Count.{below-more}
+use mir.Syntax.{w32}
+use mir.Val.{Fits}
 use lib.ListN.{length, drop, length-drop}
 use lib.Seq.{getD-drop}
 use Rattle.meaning.specs.Bytes.{_!_, digit, number}
@@ -27,7 +29,7 @@ module _ {β w : ℕ} {l : List ℕ} {at n v : ℕ} (r : Running β w l at n v) 
   ended : (n < w → n < length (drop at l) → β ≤ digit (drop at l ! n)) → Run β w (drop at l) (record { count = n; value = v })
   ended f =
       let e = digits-is β w (drop at l) n (r .most) (r .inside) (r .all) f in
-      record { count = sym e; value = r .made ∙ ap (λ (k : ℕ). number β k 0 (drop at l)) (sym e) }
+      record { count = sym e; value = r .made ∙ ap (λ (k : ℕ). number β k 0 (drop at l)) (sym e); most = r .most }
 
   pub running-over : length l - at ≤ n → Run β w (drop at l) (record { count = n; value = v })
   running-over h = ended (λ p q. absurd (omega (arith, length-drop at l)))
@@ -56,10 +58,20 @@ module _ {β w : ℕ} {l : List ℕ} {at n v : ℕ} (r : Running β w l at n v) 
           }
 
       -- eight digits of base 16 fit 32 bits
-      pub running-fits : β ≤ 16 → w ≤ 8 → v * β + d < 2 ^ 32
-      running-fits y z =
+      fits : β ≤ 16 → w ≤ 8 → v * β + d < 2 ^ 32
+      fits y z =
           let s = running-turn in
           let m : n + 1 ≤ 8 = omega arith in
           let o : 0 < 16 = omega arith in
           lt-of-lt-of-le (rw (s .made) (number-lt β (n + 1) (drop at l) (s .inside) (s .all)))
           (le-trans (pow-le-pow-left y (n + 1)) (pow-le-pow-right o m))
+
+      pub running-adds : (β ≤ 16) × (w ≤ 8) → Fits w32 (v * β + d)
+      running-adds p = record { fits = fits (p .0) (p .1) }
+
+      pub running-scales : (β ≤ 16) × (w ≤ 8) → Fits w32 (v * β)
+      running-scales p = let f = fits (p .0) (p .1) in record { fits = omega arith }
+
+-- nothing is there
+pub run-past : (β w : ℕ) (l : List ℕ) (at : ℕ) → length l ≤ at → Run β w (drop at l) (record { count = 0; value = 0 })
+run-past β w l at h = running-over (running-none β w l at) (omega arith)

@@ -1,13 +1,13 @@
 -- What each way out of the functions that read a unit says, over a body l and a place of it. Assumes nothing.
 use mathlib.Core.Path.{_≡_, refl, ap, ap₂, sym, _∙_}
-use mathlib.Core.Bool.{Bool, true, false, _&&_, _||_, and-true, and-false, or-false}
+use mathlib.Core.Bool.{Bool, true, false, _&&_, not, false≢true}
 use mathlib.Core.List.{List, [], _∷_}
 use Prim.Native.Nat.{ℕ, suc, _+_, _-_, _*_, _%_, _≤_, _<_}
 use Prim.Native.Char.{code}
 use native.Mathlib.Nat.{add-zero, mod-eq-of-lt, lt-of-lt-of-le, pow-le-pow-right}
 use native.Mathlib.Numerals.{add-one}
 use native.Mathlib.Omega.{arith}
-use borrow.Author.Tests.{eq-eqb, ne-eqb, lt-ltb, le-ltb, eqb-true, ltb-true, ltb-false, le-leb, leb-true}
+use borrow.Author.Tests.{eq-eqb, ne-eqb, lt-ltb, le-ltb, ltb-true, ltb-false, le-leb, leb-true, not-true, not-false}
 use lib.Dec.{eqb, ltb, leb}
 use lib.ListN.{length, drop, length-drop, drop-of-length-le}
 use lib.Seq.{drop-cons, drop-drop, getD-drop}
@@ -18,12 +18,14 @@ use Rattle.meaning.specs.Steps.{byteOf, mysqlTable, escapeTable, doubled, mysql
 use Rattle.meaning.specs.Steps.{escapeStep, unicodeStep}
 use Rattle.laws.proofs.basics.Tests.{and-left, and-right, eqb-sym, within-yes, within-below, within-above, within-bounds}
 use Rattle.laws.proofs.utf8.Encode.{isScalar-yes}
-use Rattle.laws.proofs.basics.Digits.{digits-le, digits-length, number-digits-lt}
+use Rattle.laws.proofs.basics.Digits.{digits-le, number-digits-lt}
+use Rattle.laws.proofs.walking.StepBounds.{starts-length}
 use Rattle.escapes.specs.declared.digits.Digits.{Digits}
 use Rattle.escapes.specs.declared.pieces.Piece.{Piece}
 use Rattle.escapes.specs.declared.pieces.Piece.the-variants.{Keep, Byte, Two, Scalar, Escape, Refused}
 use Rattle.escapes.specs.Digits.{Run, hexBy}
-use Rattle.escapes.specs.Pieces.{Is, IsBy, scalarOf, letterOf}
+use Rattle.escapes.specs.Pieces.{Is, IsBy, scalarOf, letterOf, Behind, HighHalf}
+use Rattle.escapes.proofs.Hexes.{hex-inside}
 
 -- the front of what stands at a place
 pub front : (l : List ℕ) (at : ℕ) → drop at l ! 0 ≡ l ! at
@@ -32,67 +34,71 @@ front l at = getD-drop at l 0 0 ∙ ap (λ (n : ℕ). l ! n) (add-zero at)
 pub cut : (l : List ℕ) (at : ℕ) → at < length l → drop at l ≡ l ! at ∷ drop (at + 1) l
 cut l at h = rw add-one (drop-cons l at 0 h)
 
-pub is-by : {r : Piece} {s s′ : Step} (e : List ℕ) → Is r s → s ≡ s′ → IsBy e r s′
-is-by e i p = record { means = i .means e ∙ p; sound = i .sound }
+is-by : {r : Piece} {s s′ : Step} (e : List ℕ) → Is r s → s ≡ s′ → IsBy e r s′
+is-by e i p = record { means = i .means e ∙ p }
 
 is-at : {r : Piece} {s s′ : Step} → Is r s → s ≡ s′ → Is r s′
-is-at i p = record { means = λ e. i .means e ∙ p; sound = i .sound }
+is-at i p = record { means = λ e. i .means e ∙ p }
 
--- THE MARK
-module _ (q mark byte : ℕ) (l : List ℕ) (at : ℕ) (m : mark ≡ q) (b : byte ≡ l ! at) where
-  pub doubled-pair : byte ≡ mark → Is (Byte mark 1) (doubled q (drop at l))
-  unfolding doubled
-  doubled-pair h = record { means = λ e. rw (front l at, eq-eqb (l ! at) q (sym b ∙ h ∙ m)) (ap (λ (x : ℕ). give 1 (x ∷ [])) m); sound = tt }
+-- THE MARK q, or a byte that stands for itself
+module _ (l : List ℕ) (at : ℕ) (h : at < length l) (mark q : ℕ) (m : mark ≡ q) where
+  mark-here : standardStep false q (drop at l) ≡ (if eqb (l ! at) q then doubled q (drop (at + 1) l) else keep)
+  mark-here = ap (standardStep false q) (cut l at h)
 
-  pub doubled-alone : (byte ≡ mark → ⊥) → Is Refused (doubled q (drop at l))
-  unfolding doubled
-  doubled-alone h = record { means = λ e. rw (front l at, ne-eqb (l ! at) q (λ k. h (b ∙ k ∙ sym m))); sound = tt }
+  pub mark-keep : (l ! at ≡ mark → ⊥) → Is Keep (standardStep false q (drop at l))
+  mark-keep n = record { means = λ e. sym (mark-here ∙ rw (ne-eqb (l ! at) q (λ k. n (k ∙ sym m)))) }
+
+  module _ (y : l ! at ≡ mark) (b : ℕ) (e : b ≡ l ! (at + 1)) where
+    doubled-here : standardStep false q (drop at l) ≡ (if eqb b q then give 1 (q ∷ []) else stop)
+    unfolding doubled
+    doubled-here = mark-here ∙ rw (eq-eqb (l ! at) q (y ∙ m), front l (at + 1), ← e)
+
+    pub mark-alone : (b ≡ mark → ⊥) → Is Refused (standardStep false q (drop at l))
+    mark-alone n = record { means = λ _. sym (doubled-here ∙ rw (ne-eqb b q (λ k. n (k ∙ sym m)))) }
+
+    pub mark-pair : b ≡ mark → Is (Byte mark 1) (standardStep false q (drop at l))
+    mark-pair k = record { means = λ _. sym (doubled-here ∙ rw (eq-eqb b q (k ∙ m), m)) }
 
 -- LETTERS that a table does not have
-abbrev pub Other : List (ℕ × ℕ) → ℕ → Type 0
+abbrev Other : List (ℕ × ℕ) → ℕ → Type 0
 Other [] c = Unit {0}
 Other (r ∷ rs) c = (c ≡ r .0 → ⊥) × Other rs c
 
-pub other-none : (rs : List (ℕ × ℕ)) (c : ℕ) → Other rs c → 256 ≡ byteOf rs c
+other-none : (rs : List (ℕ × ℕ)) (c : ℕ) → Other rs c → 256 ≡ byteOf rs c
 other-none [] c o = refl
 other-none (r ∷ rs) c o = rw (ne-eqb (r .0) c (λ e. o .0 (sym e))) (other-none rs c (o .1))
 
 -- STANDARD
-mysql-by : (c : ℕ) (t : List ℕ) (v : ℕ) → byteOf mysqlTable c ≡ v
-    → mysql (c ∷ t) ≡ (if ltb v 256 then give 1 (v ∷ []) else if has c (ascii "%_") then give 1 (backslash ∷ c ∷ []) else give 1 (c ∷ []))
-mysql-by c t v e =
-    ap (λ (v : ℕ). if ltb v 256 then give 1 (v ∷ []) else if has c (ascii "%_") then give 1 (backslash ∷ c ∷ []) else give 1 (c ∷ [])) e
-
 pub mysql-end : (l : List ℕ) (at : ℕ) → length l ≤ at → Is (Byte 92 0) (mysql (drop at l))
-mysql-end l at h = record { means = λ e. rw (drop-of-length-le l h); sound = tt }
+mysql-end l at h = record { means = λ e. rw (drop-of-length-le l h) }
 
-module _ (l : List ℕ) (at : ℕ) (h : at < length l) (v : ℕ) (e : v ≡ byteOf mysqlTable (l ! at)) where
-  mysql-here : mysql (drop at l)
-      ≡ (if ltb v 256 then give 1 (v ∷ []) else if has (l ! at) (ascii "%_") then give 1 (backslash ∷ l ! at ∷ []) else give 1 (l ! at ∷ []))
-  mysql-here = ap mysql (cut l at h) ∙ mysql-by (l ! at) (drop (at + 1) l) v (sym e)
+module _ (l : List ℕ) (at : ℕ) (h : at < length l) where
+  mysql-at : (k v : ℕ) → l ! at ≡ k → byteOf mysqlTable k ≡ v → mysql (drop at l)
+      ≡ (if ltb v 256 then give 1 (v ∷ []) else if has k (ascii "%_") then give 1 (backslash ∷ k ∷ []) else give 1 (k ∷ []))
+  mysql-at k v e f =
+      ap mysql (cut l at h ∙ ap (_∷ drop (at + 1) l) e)
+      ∙ ap (λ (v : ℕ). if ltb v 256 then give 1 (v ∷ []) else if has k (ascii "%_") then give 1 (backslash ∷ k ∷ []) else give 1 (k ∷ [])) f
 
-  pub mysql-letter : v < 256 → Is (Byte v 1) (mysql (drop at l))
-  mysql-letter k = record { means = λ _. sym (mysql-here ∙ rw (lt-ltb v 256 k)); sound = tt }
+  pub mysql-letter : (k v : ℕ) → l ! at ≡ k → byteOf mysqlTable k ≡ v → ltb v 256 ≡ true → Is (Byte v 1) (mysql (drop at l))
+  mysql-letter k v e f g = record { means = λ _. sym (mysql-at k v e f ∙ rw g) }
 
-  pub mysql-kept : 256 ≤ v → (eqb (l ! at) 37 || eqb (l ! at) 95) ≡ true → Is (Two 92 (l ! at) 1) (mysql (drop at l))
-  mysql-kept k o = record { means = λ _. sym (mysql-here ∙ rw (le-ltb v 256 k, or-false, o)); sound = tt }
+  pub mysql-kept : (k : ℕ) → l ! at ≡ k → byteOf mysqlTable k ≡ 256 → has k (ascii "%_") ≡ true → Is (Two 92 k 1) (mysql (drop at l))
+  mysql-kept k e f g = record { means = λ _. sym (mysql-at k 256 e f ∙ rw g) }
 
-  pub mysql-self : 256 ≤ v → (eqb (l ! at) 37 || eqb (l ! at) 95) ≡ false → Is (Byte (l ! at) 1) (mysql (drop at l))
-  mysql-self k o = record { means = λ _. sym (mysql-here ∙ rw (le-ltb v 256 k, or-false, o)); sound = tt }
+  pub mysql-self : (l ! at ≡ 48 → ⊥) → (l ! at ≡ 98 → ⊥) → (l ! at ≡ 110 → ⊥) → (l ! at ≡ 114 → ⊥) → (l ! at ≡ 116 → ⊥) → (l ! at ≡ 90 → ⊥)
+      → (l ! at ≡ 37 → ⊥) → (l ! at ≡ 95 → ⊥) → Is (Byte (l ! at) 1) (mysql (drop at l))
+  mysql-self a b c d e f g i =
+      let o : 256 ≡ byteOf mysqlTable (l ! at) = other-none mysqlTable (l ! at) (a, (b, (c, (d, (e, (f, tt)))))) in
+      record { means = λ _. sym (mysql-at (l ! at) 256 refl (sym o) ∙ rw (ne-eqb (l ! at) 37 g, ne-eqb (l ! at) 95 i)) }
 
 -- E
 pub one-zero : (k b : ℕ) → b ≡ 0 → Is Refused (oneByte k b)
 unfolding oneByte
-one-zero k b h = record { means = λ e. rw (eq-eqb b 0 h); sound = tt }
+one-zero k b h = record { means = λ e. rw (eq-eqb b 0 h) }
 
 pub one-byte : (k b : ℕ) → (b ≡ 0 → ⊥) → Is (Byte b k) (oneByte k b)
 unfolding oneByte
-one-byte k b h = record { means = λ e. rw (ne-eqb b 0 h); sound = tt }
-
--- a run is inside the body
-pub run-there : (β w : ℕ) (l : List ℕ) (at : ℕ) (d : Digits) → Run β w (drop at l) d → (d .count ≤ w) × (d .count ≤ length l - at)
-run-there β w l at d r =
-    omega (arith, r .count, digits-le β w (drop at l), digits-length β w (drop at l), length-drop at l)
+one-byte k b h = record { means = λ e. rw (ne-eqb b 0 h) }
 
 -- a scalar by hex digits, of which the number is told
 pub scalar-by : (w n : ℕ) (t : List ℕ) → scalarBy w n t ≡ scalarOf n (hexBy w t)
@@ -103,28 +109,6 @@ scalar-by w n t = go (eqb (digits 16 w t) w)
         ≡ (if mayEscape (if x then number 16 w 0 t else 0) then give n (encode (if x then number 16 w 0 t else 0)) else stop)
     go true = refl
     go false = refl
-
-module _ (n v : ℕ) where
-  pub scalar-zero : v ≡ 0 → Is Refused (scalarOf n v)
-  unfolding scalarOf mayEscape
-  scalar-zero h = record { means = λ e. rw h; sound = tt }
-
-  pub scalar-none : isScalar v ≡ false → Is Refused (scalarOf n v)
-  unfolding scalarOf mayEscape
-  scalar-none h = record { means = λ e. rw (h, and-false); sound = tt }
-
-  pub scalar-is : (v ≡ 0 → ⊥) → isScalar v ≡ true → Is (Scalar v n) (scalarOf n v)
-  unfolding scalarOf mayEscape
-  scalar-is z h = let p : 0 < v = omega arith in record { means = λ e. rw (lt-ltb 0 v p, h); sound = h }
-
--- hex digits that make a number are inside the body
-pub hex-there : (w : ℕ) (l : List ℕ) (at v : ℕ) → v ≡ hexBy w (drop at l) → (v ≡ 0 → ⊥) → w ≤ length l - at
-unfolding hexBy
-hex-there w l at v e n = go (eqb (digits 16 w (drop at l)) w) refl e
-  where
-    go : (x : Bool) → eqb (digits 16 w (drop at l)) w ≡ x → v ≡ (if x then number 16 w 0 (drop at l) else 0) → w ≤ length l - at
-    go true q h = omega (arith, eqb-true (digits 16 w (drop at l)) w q, digits-length 16 w (drop at l), length-drop at l)
-    go false q h = absurd (n h)
 
 -- two hex digits make a byte
 two-hex : (t : List ℕ) → number 16 (digits 16 2 t) 0 t < 256
@@ -184,6 +168,11 @@ letter-of c =
     go false false false false true = refl
     go false false false false false = refl
 
+-- as five choices make it
+pub letter-chosen : (c t r n f v : ℕ) → t ≡ (if eqb c 116 then 9 else c) → r ≡ (if eqb c 114 then 13 else t) → n ≡ (if eqb c 110 then 10 else r)
+    → f ≡ (if eqb c 102 then 12 else n) → v ≡ (if eqb c 98 then 8 else f) → v ≡ letterOf c
+letter-chosen c t r n f v et er en ef ev = rw (ev, ef, en, er, et) (letter-of c)
+
 -- what follows E's backslash, by the letter c
 escaped-by : (c : ℕ) (t : List ℕ) (v n : ℕ) → byteOf escapeTable c ≡ v → digits 8 3 (c ∷ t) ≡ n
     → escaped (c ∷ t)
@@ -229,20 +218,26 @@ letter-last c t h x u w =
     go false false false false false = refl
 
 pub escaped-end : (l : List ℕ) (at : ℕ) → length l ≤ at → Is Refused (escaped (drop at l))
-escaped-end l at h = record { means = λ e. rw (drop-of-length-le l h); sound = tt }
+escaped-end l at h = record { means = λ e. rw (drop-of-length-le l h) }
 
 module _ (l : List ℕ) (at : ℕ) (h : at < length l) where
   here : {s : Step} → escaped (l ! at ∷ drop (at + 1) l) ≡ s → (p : Piece) → Is p s → Is p (escaped (drop at l))
   here e p i = is-at i (sym (ap escaped (cut l at h) ∙ e))
 
-  pub escaped-octal : digit (l ! at) < 8 → (d : Digits) → Run 8 3 (drop at l) d → (p : Piece) → Is p (oneByte (d .count) (d .value % 256))
-      → Is p (escaped (drop at l))
-  escaped-octal o d r p i =
-      let c = cut l at h in
-      let n : digits 8 3 (l ! at ∷ drop (at + 1) l) ≡ d .count = ap (digits 8 3) (sym c) ∙ sym (r .count) in
-      let m : number 8 (d .count) 0 (l ! at ∷ drop (at + 1) l) ≡ d .value =
-      ap₂ (λ (n : ℕ) (t : List ℕ). number 8 n 0 t) (r .count) (sym c) ∙ sym (r .value) in
-      here (octal-first (l ! at) (drop (at + 1) l) (d .count) o n ∙ rw m) p i
+  module _ (y : Bool) (ey : y ≡ ltb (digit (l ! at)) 8) where
+    pub escaped-octal : y ≡ true → (d : Digits) → Run 8 3 (drop at l) d → (p : Piece) → Is p (oneByte (d .count) (d .value % 256))
+        → Is p (escaped (drop at l))
+    escaped-octal o d r p i =
+        let c = cut l at h in
+        let n : digits 8 3 (l ! at ∷ drop (at + 1) l) ≡ d .count = ap (digits 8 3) (sym c) ∙ sym (r .count) in
+        let m : number 8 (d .count) 0 (l ! at ∷ drop (at + 1) l) ≡ d .value =
+        ap₂ (λ (n : ℕ) (t : List ℕ). number 8 n 0 t) (r .count) (sym c) ∙ sym (r .value) in
+        here (octal-first (l ! at) (drop (at + 1) l) (d .count) (ltb-true (digit (l ! at)) 8 (sym ey ∙ o)) n ∙ rw m) p i
+
+    pub escaped-letter : y ≡ false → (l ! at ≡ 120 → ⊥) → (l ! at ≡ 117 → ⊥) → (l ! at ≡ 85 → ⊥) → (v : ℕ) → v ≡ letterOf (l ! at)
+        → (p : Piece) → Is p (oneByte 1 v) → Is p (escaped (drop at l))
+    escaped-letter o x u w v e p i =
+        here (letter-last (l ! at) (drop (at + 1) l) (ltb-false (digit (l ! at)) 8 (sym ey ∙ o)) x u w ∙ ap (oneByte 1) (sym e)) p i
 
   module _ (c : l ! at ≡ 120) (x : Digits) (s : Run 16 2 (drop (at + 1) l) x) where
     x-here : escaped (l ! at ∷ drop (at + 1) l)
@@ -262,38 +257,24 @@ module _ (l : List ℕ) (at : ℕ) (h : at < length l) where
     pub escaped-x : x .count ≤ 0 → (p : Piece) → Is p (oneByte 1 (l ! at)) → Is p (escaped (drop at l))
     escaped-x n p i = here (x-here ∙ rw (← s .count, le-ltb 0 (x .count) n, c)) p i
 
-  pub escaped-four : l ! at ≡ 117 → (v : ℕ) → v ≡ hexBy 4 (drop (at + 1) l) → (p : Piece) → Is p (scalarOf 5 v) → Is p (escaped (drop at l))
+  pub escaped-four : l ! at ≡ 117 → (v : ℕ) → v ≡ hexBy 4 (drop (at + 1) l) → Is (Scalar v 5) (escaped (drop at l))
   unfolding digit within
-  escaped-four c v e p i = here (rw c (scalar-by 4 5 (drop (at + 1) l) ∙ ap (scalarOf 5) (sym e))) p i
+  escaped-four c v e = here (rw c (scalar-by 4 5 (drop (at + 1) l) ∙ ap (scalarOf 5) (sym e))) (Scalar v 5) (record { means = λ _. refl })
 
-  pub escaped-eight : l ! at ≡ 85 → (v : ℕ) → v ≡ hexBy 8 (drop (at + 1) l) → (p : Piece) → Is p (scalarOf 9 v) → Is p (escaped (drop at l))
+  pub escaped-eight : l ! at ≡ 85 → (v : ℕ) → v ≡ hexBy 8 (drop (at + 1) l) → Is (Scalar v 9) (escaped (drop at l))
   unfolding digit within
-  escaped-eight c v e p i = here (rw c (scalar-by 8 9 (drop (at + 1) l) ∙ ap (scalarOf 9) (sym e))) p i
+  escaped-eight c v e = here (rw c (scalar-by 8 9 (drop (at + 1) l) ∙ ap (scalarOf 9) (sym e))) (Scalar v 9) (record { means = λ _. refl })
 
-  pub escaped-letter : 8 ≤ digit (l ! at) → (l ! at ≡ 120 → ⊥) → (l ! at ≡ 117 → ⊥) → (l ! at ≡ 85 → ⊥)
-      → (v : ℕ) → v ≡ letterOf (l ! at) → (p : Piece) → Is p (oneByte 1 v) → Is p (escaped (drop at l))
-  escaped-letter o x u w v e p i = here (letter-last (l ! at) (drop (at + 1) l) o x u w ∙ ap (oneByte 1) (sym e)) p i
-
--- U&. An escape character of one byte
-pub stands-past : (e l : List ℕ) (at : ℕ) → length e ≡ 1 → length l ≤ at → false ≡ starts e (drop at l)
-stands-past [] l at n h = absurd (omega arith)
-stands-past (b ∷ e) l at n h = rw (drop-of-length-le l h)
-
-pub stands-byte : (e l : List ℕ) (at : ℕ) → length e ≡ 1 → at < length l → eqb (l ! at) (e ! 0) ≡ starts e (drop at l)
-stands-byte [] l at n h = absurd (omega arith)
-stands-byte (b ∷ []) l at n h = rw (cut l at h) (eqb-sym (l ! at) b ∙ sym (and-true (eqb b (l ! at))))
-stands-byte (b ∷ c ∷ e) l at n h = absurd (omega arith)
-
--- the low half that a high half h needs next
-module _ (e l : List ℕ) (at h : ℕ) where
-  pub low-absent : starts e (drop at l) ≡ false → Is Refused (lowHalf e h (drop at l))
+-- U&. The low half that a high half h needs next
+module _ (e l : List ℕ) (at h : ℕ) (x : Bool) (ex : x ≡ starts e (drop at l)) where
+  pub low-absent : not x ≡ true → Is Refused (lowHalf e h (drop at l))
   unfolding lowHalf
-  low-absent s = record { means = λ _. rw s; sound = tt }
+  low-absent n = record { means = λ _. rw (sym ex ∙ not-true x n) }
 
-  module _ (s : starts e (drop at l) ≡ true) (v : ℕ) (r : v ≡ hexBy 4 (drop (at + length e) l)) where
+  module _ (n : not x ≡ false) (v : ℕ) (r : v ≡ hexBy 4 (drop (at + length e) l)) where
     low-here : lowHalf e h (drop at l) ≡ (if within 0xDC00 0xDFFF v then give (length e + length e + 7) (encode (pair h v)) else stop)
     unfolding lowHalf hexBy within
-    low-here = rw (s, drop-drop, r) (go (eqb (digits 16 4 (drop (at + length e) l)) 4) (number 16 4 0 (drop (at + length e) l)))
+    low-here = rw (sym ex ∙ not-false x n, drop-drop, r) (go (eqb (digits 16 4 (drop (at + length e) l)) 4) (number 16 4 0 (drop (at + length e) l)))
       where
         go : (x : Bool) (k : ℕ) → (if x && within 0xDC00 0xDFFF k then give (length e + length e + 7) (encode (pair h k)) else stop)
             ≡ (if within 0xDC00 0xDFFF (if x then k else 0) then give (length e + length e + 7) (encode (pair h (if x then k else 0))) else stop)
@@ -301,41 +282,55 @@ module _ (e l : List ℕ) (at h : ℕ) where
         go false k = refl
 
     pub low-below : v < 0xDC00 → Is Refused (lowHalf e h (drop at l))
-    low-below b = record { means = λ _. sym (low-here ∙ rw (within-below 0xDC00 0xDFFF v b)); sound = tt }
+    low-below b = record { means = λ _. sym (low-here ∙ rw (within-below 0xDC00 0xDFFF v b)) }
 
     pub low-above : 0xDFFF < v → Is Refused (lowHalf e h (drop at l))
-    low-above b = record { means = λ _. sym (low-here ∙ rw (within-above 0xDC00 0xDFFF v b)); sound = tt }
+    low-above b = record { means = λ _. sym (low-here ∙ rw (within-above 0xDC00 0xDFFF v b)) }
 
-    pub low-is : 0xD800 ≤ h → h ≤ 0xDBFF → 0xDC00 ≤ v → v ≤ 0xDFFF → (k : ℕ) → k ≡ length e + length e + 7
-        → Is (Scalar (0x10000 + (h - 0xD800) * 0x400 + (v - 0xDC00)) k) (lowHalf e h (drop at l))
-    unfolding pair
-    low-is p q a b k n = record {
-      means = λ _. sym (low-here ∙ rw (within-yes 0xDC00 0xDFFF v a b, n));
-      sound = isScalar-yes (0x10000 + (h - 0xD800) * 0x400 + (v - 0xDC00)) (omega arith) (λ _. omega arith);
+    pub low-is : 0xD800 ≤ h → h ≤ 0xDBFF → 0xDC00 ≤ v → v ≤ 0xDFFF
+        → Is (Scalar (0x10000 + (h - 0xD800) * 0x400 + (v - 0xDC00)) (length e + length e + 7)) (lowHalf e h (drop at l))
+    unfolding pair scalarOf mayEscape
+    low-is p q a b =
+        let w = 0x10000 + (h - 0xD800) * 0x400 + (v - 0xDC00) in
+        let o : 0 < w = omega arith in
+        let s : isScalar w ≡ true = isScalar-yes w (omega arith) (λ _. omega arith) in
+        record { means = λ _. rw (lt-ltb 0 w o, s) (sym (low-here ∙ rw (within-yes 0xDC00 0xDFFF v a b))) }
+
+-- a high half that was told by its bounds
+pub high-half : (e l : List ℕ) (at : ℕ) → Behind e l at → (v : ℕ) → v ≡ hexBy 4 (drop at l) → (leb 0xD800 v && leb v 0xDBFF) ≡ true
+    → HighHalf e l (at + 4) v
+high-half e l at b v r w =
+    let h = leb-true 0xD800 v (and-left (leb 0xD800 v) (leb v 0xDBFF) w) in
+    record {
+      behind = omega (arith, b .behind);
+      inside = hex-inside 4 l at v r (omega arith) (b .inside);
+      least = h;
+      most = leb-true v 0xDBFF (and-right (leb 0xD800 v) (leb v 0xDBFF) w);
     }
 
 -- what follows the escape character
-module _ (e l : List ℕ) (at : ℕ) where
-  pub uescaped-again : starts e (drop at l) ≡ true → (k : ℕ) → k ≡ length e + length e - 1 → IsBy e (Escape k) (uescaped e (drop at l))
+module _ (e l : List ℕ) (at : ℕ) (x : Bool) (ex : x ≡ starts e (drop at l)) where
+  pub uescaped-again : x ≡ true → IsBy e (Escape (length e + length e - 1)) (uescaped e (drop at l))
   unfolding uescaped
-  uescaped-again s k n = record { means = rw (s, n); sound = tt }
+  uescaped-again s = record { means = rw (sym ex ∙ s) }
 
-  module _ (s : starts e (drop at l) ≡ false) where
-    module _ (c : l ! at ≡ 43) (v : ℕ) (r : v ≡ hexBy 6 (drop (at + 1) l)) where
-      pub uescaped-plus : (p : Piece) (n : ℕ) → n ≡ length e + 6 → Is p (scalarOf n v) → IsBy e p (uescaped e (drop at l))
-      unfolding uescaped
-      uescaped-plus p n f i =
-          is-by e i (rw (f, s, front l at, eq-eqb (l ! at) 43 c, drop-drop)
-          (sym (scalar-by 6 (length e + 6) (drop (at + 1) l) ∙ ap (scalarOf (length e + 6)) (sym r))))
+  pub uescaped-empty : x ≡ true → length e ≡ 0 → IsBy e (Escape 0) (uescaped e (drop at l))
+  uescaped-empty s n = let z : 0 ≡ length e + length e - 1 = omega arith in rw z (uescaped-again s)
 
-      pub uescaped-no-plus : v ≡ 0 → IsBy e Refused (uescaped e (drop at l))
-      uescaped-no-plus z = uescaped-plus Refused (length e + 6) refl (scalar-zero (length e + 6) v z)
+  module _ (s : x ≡ false) (b : ℕ) (eb : b ≡ l ! at) where
+    pub uescaped-plus : b ≡ 43 → (v : ℕ) → v ≡ hexBy 6 (drop (at + 1) l) → IsBy e (Scalar v (length e + 6)) (uescaped e (drop at l))
+    unfolding uescaped
+    uescaped-plus c v r = record {
+      means =
+          rw (sym ex ∙ s, front l at, eq-eqb (l ! at) 43 (sym eb ∙ c), drop-drop)
+          (sym (scalar-by 6 (length e + 6) (drop (at + 1) l) ∙ ap (scalarOf (length e + 6)) (sym r)));
+    }
 
-    module _ (c : l ! at ≡ 43 → ⊥) (v : ℕ) (r : v ≡ hexBy 4 (drop at l)) where
+    module _ (c : b ≡ 43 → ⊥) (v : ℕ) (r : v ≡ hexBy 4 (drop at l)) where
       four-here : uescaped e (drop at l) ≡ (if within 0xD800 0xDBFF v then lowHalf e v (drop (at + 4) l) else scalarOf (length e + 3) v)
       unfolding uescaped hexBy within
       four-here =
-          rw (s, front l at, ne-eqb (l ! at) 43 c, drop-drop, scalar-by 4 (length e + 3) (drop at l), r)
+          rw (sym ex ∙ s, front l at, ne-eqb (l ! at) 43 (λ k. c (eb ∙ k)), drop-drop, scalar-by 4 (length e + 3) (drop at l), r)
           (go (eqb (digits 16 4 (drop at l)) 4) (number 16 4 0 (drop at l)))
         where
           go : (x : Bool) (k : ℕ) → (if x && within 0xD800 0xDBFF k then lowHalf e k (drop (at + 4) l) else scalarOf (length e + 3) (if x then k else 0))
@@ -348,47 +343,31 @@ module _ (e l : List ℕ) (at : ℕ) where
       unfolding within
       uescaped-high w p i = is-by e i (sym (four-here ∙ rw w))
 
-      pub uescaped-four : (leb 0xD800 v && leb v 0xDBFF) ≡ false → (p : Piece) (m : ℕ) → m ≡ length e + 3 → Is p (scalarOf m v)
-          → IsBy e p (uescaped e (drop at l))
+      pub uescaped-four : (leb 0xD800 v && leb v 0xDBFF) ≡ false → IsBy e (Scalar v (length e + 3)) (uescaped e (drop at l))
       unfolding within
-      uescaped-four w p m f i = is-by e i (rw f (sym (four-here ∙ rw w)))
+      uescaped-four w = record { means = sym (four-here ∙ rw w) }
 
-      pub uescaped-none : v ≡ 0 → IsBy e Refused (uescaped e (drop at l))
-      unfolding within
-      uescaped-none z = uescaped-four (rw z) Refused (length e + 3) refl (scalar-zero (length e + 3) v z)
+-- an escape character, y saying that it is no mark, stands inside
+pub escape-inside : (e l : List ℕ) (at : ℕ) (x y : Bool) → at < length l → x ≡ starts e (drop at l) → (y && x) ≡ true → Behind e l (at + length e)
+escape-inside e l at x y h ex w =
+    record { behind = omega arith; inside = omega (arith, starts-length e (drop at l) (sym ex ∙ and-right y x w), length-drop at l) }
 
 -- THE UNIT at a place, by its first byte
-module _ (e l : List ℕ) (at : ℕ) (h : at < length l) where
+module _ (l : List ℕ) (at : ℕ) (h : at < length l) (p : Piece) where
   module _ (bs : Bool) (q : ℕ) where
-    standard-here : standardStep bs q (drop at l)
-        ≡ (if bs && eqb (l ! at) backslash then mysql (drop (at + 1) l) else if eqb (l ! at) q then doubled q (drop (at + 1) l) else keep)
-    standard-here = ap (standardStep bs q) (cut l at h)
+    pub standard-escape : (bs && eqb (l ! at) 92) ≡ true → Is p (mysql (drop (at + 1) l)) → Is p (standardStep bs q (drop at l))
+    standard-escape x i = is-at i (sym (ap (standardStep bs q) (cut l at h) ∙ rw x))
 
-    pub standard-escape : (bs && eqb (l ! at) 92) ≡ true → (p : Piece) → Is p (mysql (drop (at + 1) l)) → IsBy e p (standardStep bs q (drop at l))
-    standard-escape x p i = is-by e i (sym (standard-here ∙ rw x))
+    pub standard-other : (bs && eqb (l ! at) 92) ≡ false → Is p (standardStep false q (drop at l)) → Is p (standardStep bs q (drop at l))
+    standard-other x i = is-at i (ap (standardStep false q) (cut l at h) ∙ sym (ap (standardStep bs q) (cut l at h) ∙ rw x))
 
-    module _ (x : (bs && eqb (l ! at) 92) ≡ false) where
-      pub standard-mark : l ! at ≡ q → (p : Piece) → Is p (doubled q (drop (at + 1) l)) → IsBy e p (standardStep bs q (drop at l))
-      standard-mark y p i = is-by e i (sym (standard-here ∙ rw (x, eq-eqb (l ! at) q y)))
+  pub escape-escape : l ! at ≡ 92 → Is p (escaped (drop (at + 1) l)) → Is p (escapeStep (drop at l))
+  escape-escape x i = is-at i (sym (ap escapeStep (cut l at h) ∙ rw (eq-eqb (l ! at) 92 x)))
 
-      pub standard-keep : (l ! at ≡ q → ⊥) → IsBy e Keep (standardStep bs q (drop at l))
-      standard-keep y = record { means = sym (standard-here ∙ rw (x, ne-eqb (l ! at) q y)); sound = tt }
+  pub escape-other : (l ! at ≡ 92 → ⊥) → Is p (standardStep false 39 (drop at l)) → Is p (escapeStep (drop at l))
+  escape-other x i = is-at i (ap (standardStep false 39) (cut l at h) ∙ sym (ap escapeStep (cut l at h) ∙ rw (ne-eqb (l ! at) 92 x)))
 
-  escape-here : escapeStep (drop at l)
-      ≡ (if eqb (l ! at) 92 then escaped (drop (at + 1) l) else if eqb (l ! at) 39 then doubled 39 (drop (at + 1) l) else keep)
-  escape-here = ap escapeStep (cut l at h)
-
-  pub escape-escape : l ! at ≡ 92 → (p : Piece) → Is p (escaped (drop (at + 1) l)) → IsBy e p (escapeStep (drop at l))
-  escape-escape x p i = is-by e i (sym (escape-here ∙ rw (eq-eqb (l ! at) 92 x)))
-
-  module _ (x : l ! at ≡ 92 → ⊥) where
-    pub escape-mark : l ! at ≡ 39 → (p : Piece) → Is p (doubled 39 (drop (at + 1) l)) → IsBy e p (escapeStep (drop at l))
-    escape-mark y p i = is-by e i (sym (escape-here ∙ rw (ne-eqb (l ! at) 92 x, eq-eqb (l ! at) 39 y)))
-
-    pub escape-keep : (l ! at ≡ 39 → ⊥) → IsBy e Keep (escapeStep (drop at l))
-    escape-keep y = record { means = sym (escape-here ∙ rw (ne-eqb (l ! at) 92 x, ne-eqb (l ! at) 39 y)); sound = tt }
-
-  module _ (q : ℕ) where
+  module _ (e : List ℕ) (m q : ℕ) (em : m ≡ q) (x : Bool) (ex : x ≡ starts e (drop at l)) where
     unicode-here : unicodeStep e q (drop at l)
         ≡ (if eqb (l ! at) q then doubled q (drop (at + 1) l) else if starts e (drop at l) then uescaped e (drop (at + length e) l) else keep)
     unicode-here =
@@ -397,12 +376,19 @@ module _ (e l : List ℕ) (at : ℕ) (h : at < length l) where
         (sym (cut l at h))
         ∙ rw drop-drop refl
 
-    pub unicode-mark : l ! at ≡ q → (p : Piece) → Is p (doubled q (drop (at + 1) l)) → IsBy e p (unicodeStep e q (drop at l))
-    unicode-mark y p i = is-by e i (sym (unicode-here ∙ rw (eq-eqb (l ! at) q y)))
+    pub unicode-escape : (not (eqb (l ! at) m) && x) ≡ true → IsBy e p (uescaped e (drop (at + length e) l)) → IsBy e p (unicodeStep e q (drop at l))
+    unicode-escape w i = record {
+      means =
+          i .means
+          ∙ sym (unicode-here ∙ rw (← em, not-true (eqb (l ! at) m) (and-left (not (eqb (l ! at) m)) x w), sym ex ∙ and-right (not (eqb (l ! at) m)) x w));
+    }
 
-    module _ (y : l ! at ≡ q → ⊥) where
-      pub unicode-escape : starts e (drop at l) ≡ true → (p : Piece) → IsBy e p (uescaped e (drop (at + length e) l)) → IsBy e p (unicodeStep e q (drop at l))
-      unicode-escape s p i = record { means = i .means ∙ sym (unicode-here ∙ rw (ne-eqb (l ! at) q y, s)); sound = i .sound }
-
-      pub unicode-keep : starts e (drop at l) ≡ false → IsBy e Keep (unicodeStep e q (drop at l))
-      unicode-keep s = record { means = sym (unicode-here ∙ rw (ne-eqb (l ! at) q y, s)); sound = tt }
+    pub unicode-other : (not (eqb (l ! at) m) && x) ≡ false → Is p (standardStep false q (drop at l)) → IsBy e p (unicodeStep e q (drop at l))
+    unicode-other w i = is-by e i (ap (standardStep false q) (cut l at h) ∙ sym (unicode-here ∙ rw (← ex, ← em) (go (eqb (l ! at) m) x w)))
+      where
+        go : (y x : Bool) → (not y && x) ≡ false
+            → (if y then doubled m (drop (at + 1) l) else if x then uescaped e (drop (at + length e) l) else keep)
+            ≡ (if y then doubled m (drop (at + 1) l) else keep)
+        go true x k = refl
+        go false true k = absurd (false≢true (sym k))
+        go false false k = refl

@@ -8,15 +8,15 @@ use cutting::marks::Mark;
 use cutting::marks::mark_byte;
 use leaves::bytes::byte_at;
 use leaves::texts::starts_at;
-use scalars::encoding::is_scalar;
 ghost use mathlib.Core.Path.{_≡_};
-ghost use Prim.Native.Nat.{_+_, _-_, _≤_, _<_};
+ghost use mathlib.Core.Bool.{false};
+ghost use Prim.Native.Nat.{_<_};
 ghost use lib.ListN.{length, drop};
 ghost use lib.Dec.{ltb};
-ghost use Rattle.meaning.specs.Bytes.{if_then_else_, starts, digit};
-ghost use Rattle.meaning.specs.Steps.{byteOf, mysqlTable, doubled, mysql, oneByte, escaped, lowHalf, uescaped};
+ghost use Rattle.meaning.specs.Bytes.{if_then_else_, digit};
+ghost use Rattle.meaning.specs.Steps.{standardStep, mysql, oneByte, escaped, escapeStep, lowHalf, uescaped, unicodeStep};
 ghost use Rattle.cutting.specs.Marks.{markOf};
-ghost use Rattle.escapes.specs.Pieces.{Is, IsBy, scalarOf, letterOf};
+ghost use Rattle.escapes.specs.Pieces.{Is, IsBy, letterOf, Behind, HighHalf};
 ghost use Rattle.escapes.specs.Families.{stepOf};
 
 // How a body is read: with MySQL's escapes or without them, by E's rules, or by U&'s.
@@ -26,88 +26,51 @@ pub enum Family {
     Unicode { mark: Mark },
 }
 
-// The mark at a place: doubled it is one, alone it refuses. `at` is the place behind it.
-fn doubled_unit(body: &[u8], at: usize, mark: Mark) -> Piece
-    ensures { λ r. ⌜ Is r (doubled (markOf mark) (drop at (now (body .entry)))) ⌝ }
+// What stands where no escape does: the mark, which doubled is one and alone refuses, or a byte that stands for itself.
+fn mark_unit(body: &[u8], at: usize, mark: Mark) -> Piece
+    requires { ⌜ at < length (now body) ⌝ }
+    ensures { λ r. ⌜ Is r (standardStep false (markOf mark) (drop at (now (body .entry)))) ⌝ }
 {
     let quote = mark_byte(mark);
-    if byte_at(body, at) == quote {
-        return Piece::Byte {
-            more: 1,
-            byte: quote,
-        };
+    if body[at] != quote {
+        return Piece::Keep;
     }
-    Piece::Refused
-}
-
-// The byte that a letter behind MySQL's backslash stands for; 256 for none.
-fn mysql_letter(letter: u8) -> u16
-    ensures { λ r. ⌜ r ≡ byteOf mysqlTable letter ⌝ }
-{
-    match letter {
-        48 => 0x00,
-        98 => 0x08,
-        110 => 0x0A,
-        114 => 0x0D,
-        116 => 0x09,
-        90 => 0x1A,
-        _ => 256,
+    if byte_at(body, at + 1) != quote {
+        return Piece::Refused;
     }
+    Piece::Byte(quote, 1)
 }
 
 // What follows MySQL's backslash, at a place.
+// Rules out: % without its backslash (must-fail: percent_loses_its_backslash).
 fn mysql_unit(body: &[u8], at: usize) -> Piece
     ensures { λ r. ⌜ Is r (mysql (drop at (now (body .entry)))) ⌝ }
 {
     if body.len() <= at {
-        return Piece::Byte { more: 0, byte: 92 };
+        return Piece::Byte(92, 0);
     }
     let letter = body[at];
-    let value = mysql_letter(letter);
-    if value < 256 {
-        return Piece::Byte {
-            more: 1,
-            byte: value as u8,
-        };
-    }
-    if (letter == 37) | (letter == 95) {
-        return Piece::Two {
-            more: 1,
-            first: 92,
-            second: letter,
-        };
-    }
-    Piece::Byte {
-        more: 1,
-        byte: letter,
+    match letter {
+        48 => Piece::Byte(0x00, 1),
+        98 => Piece::Byte(0x08, 1),
+        110 => Piece::Byte(0x0A, 1),
+        114 => Piece::Byte(0x0D, 1),
+        116 => Piece::Byte(0x09, 1),
+        90 => Piece::Byte(0x1A, 1),
+        37 => Piece::Two(92, 37, 1),
+        95 => Piece::Two(92, 95, 1),
+        _ => Piece::Byte(letter, 1),
     }
 }
 
-// A byte of its own, unless it is zero.
-fn byte_unit(more: usize, byte: u8) -> Piece
+// A byte that E spells, which refuses if it is zero.
+fn byte_unit(byte: u8, more: usize) -> Piece
     ensures { λ r. ⌜ Is r (oneByte more byte) ⌝ }
 {
     if byte == 0 {
         return Piece::Refused;
     }
-    Piece::Byte { more, byte }
-}
-
-// A scalar that hex digits make, 0 where they are not there; the unit takes `more` bytes behind its first.
-// Rules out: a lone half accepted (must-fail: lone_half_taken).
-fn scalar_unit(more: usize, value: u32) -> Piece
-    ensures { λ r. ⌜ Is r (scalarOf more value) ⌝ }
-{
-    if value == 0 {
-        return Piece::Refused;
-    }
-    if !is_scalar(value) {
-        return Piece::Refused;
-    }
-    Piece::Scalar {
-        more,
-        scalar: value,
-    }
+    Piece::Byte(byte, more)
 }
 
 // One of two bytes. A choice, and no jump, so that letters in any order are read at one pace.
@@ -152,128 +115,99 @@ pub fn escaped_unit(body: &[u8], at: usize) -> Piece
     let letter = body[at];
     if is_octal(letter) {
         let octal = digits_at(body, at, 8, 3);
-        let octals = octal.count;
-        return byte_unit(octals, (octal.value % 256) as u8);
+        return byte_unit((octal.value % 256) as u8, octal.count);
     }
     if letter == 120 {
         let hex = digits_at(body, at + 1, 16, 2);
-        let hexes = hex.count;
-        if 0 < hexes {
-            return byte_unit(hexes + 1, (hex.value % 256) as u8);
+        if 0 < hex.count {
+            return byte_unit((hex.value % 256) as u8, hex.count + 1);
         }
-        return byte_unit(1, letter);
+        return byte_unit(letter, 1);
     }
     if letter == 117 {
-        return scalar_unit(5, four_at(body, at + 1));
+        return Piece::Scalar(four_at(body, at + 1), 5);
     }
     if letter == 85 {
-        return scalar_unit(9, eight_at(body, at + 1));
+        return Piece::Scalar(eight_at(body, at + 1), 9);
     }
-    byte_unit(1, escape_letter(letter))
+    byte_unit(escape_letter(letter), 1)
 }
 
-// Whether the U& escape character stands at a place: nearly always it is one byte.
-// Rules out: the first byte of a longer one taken for it (must-fail: first_byte_for_all).
-fn stands_at(body: &[u8], at: usize, escape: &[u8]) -> bool
-    ensures { λ r. ⌜ r ≡ starts (now (escape .entry)) (drop at (now (body .entry))) ⌝ }
-{
-    if escape.len() == 1 {
-        if body.len() <= at {
-            return false;
-        }
-        return body[at] == escape[0];
-    }
-    starts_at(body, at, escape)
-}
-
-// The low half that a high half needs next, at a place, in a unit that begins at `start`.
-fn low_half_unit(body: &[u8], start: usize, at: usize, escape: &[u8], high: u32) -> Piece
-    requires { ⌜ (start + length (now escape) + 4 ≡ at) × (at ≤ length (now body)) × (55296 ≤ high) × (high ≤ 56319) ⌝ }
+// The low half that a high half needs next, at a place behind the high one.
+// Rules out: a high half accepted for a low one (must-fail: lone_half_taken).
+fn low_half_unit(body: &[u8], at: usize, escape: &[u8], high: u32) -> Piece
+    requires { ⌜ HighHalf (now escape) (now body) at high ⌝ }
     ensures { λ r. ⌜ Is r (lowHalf (now (escape .entry)) high (drop at (now (body .entry)))) ⌝ }
 {
-    if !stands_at(body, at, escape) {
+    let len = escape.len();
+    if !starts_at(body, at, escape) {
         return Piece::Refused;
     }
-    let next = at + escape.len();
-    let low = four_at(body, next);
+    let low = four_at(body, at + len);
     if low < 0xDC00 {
         return Piece::Refused;
     }
     if 0xDFFF < low {
         return Piece::Refused;
     }
-    Piece::Scalar {
-        more: next + 4 - start - 1,
-        scalar: 0x10000 + (high - 0xD800) * 0x400 + (low - 0xDC00),
-    }
+    Piece::Scalar(
+        0x10000 + (high - 0xD800) * 0x400 + (low - 0xDC00),
+        len + len + 7,
+    )
 }
 
-// What follows the U& escape character, at a place, in a unit that begins at `start`.
-fn uescaped_unit(body: &[u8], start: usize, at: usize, escape: &[u8]) -> Piece
-    requires { ⌜ (start + length (now escape) ≡ at) × (at ≤ length (now body)) ⌝ }
+// What follows the U& escape character, at a place.
+fn uescaped_unit(body: &[u8], at: usize, escape: &[u8]) -> Piece
+    requires { ⌜ Behind (now escape) (now body) at ⌝ }
     ensures { λ r. ⌜ IsBy (now (escape .entry)) r (uescaped (now (escape .entry)) (drop at (now (body .entry)))) ⌝ }
 {
     let len = escape.len();
-    if stands_at(body, at, escape) {
+    if starts_at(body, at, escape) {
         if len == 0 {
-            return Piece::Escape { more: 0 };
+            return Piece::Escape(0);
         }
-        return Piece::Escape {
-            more: len + len - 1,
-        };
+        return Piece::Escape(len + len - 1);
     }
     if byte_at(body, at) == 43 {
-        let wide = six_at(body, at + 1);
-        if wide == 0 {
-            return Piece::Refused;
-        }
-        return scalar_unit(at + 6 - start, wide);
+        return Piece::Scalar(six_at(body, at + 1), len + 6);
     }
     let value = four_at(body, at);
-    if value == 0 {
-        return Piece::Refused;
-    }
     if (0xD800 <= value) & (value <= 0xDBFF) {
-        return low_half_unit(body, start, at + 4, escape, value);
+        return low_half_unit(body, at + 4, escape, value);
     }
-    scalar_unit(at + 3 - start, value)
+    Piece::Scalar(value, len + 3)
 }
 
-// The unit at a place inside a body.
-fn unit_inside(body: &[u8], at: usize, family: Family, escape: &[u8]) -> Piece
+// The unit at a place inside a body, for each family.
+fn standard_unit(body: &[u8], at: usize, mark: Mark, backslash: bool) -> Piece
     requires { ⌜ at < length (now body) ⌝ }
-    ensures { λ r. ⌜ IsBy (now (escape .entry)) r (stepOf family (now (escape .entry)) (drop at (now (body .entry)))) ⌝ }
+    ensures { λ r. ⌜ Is r (standardStep backslash (markOf mark) (drop at (now (body .entry)))) ⌝ }
 {
-    let byte = body[at];
-    match family {
-        Family::Standard { mark, backslash } => {
-            if backslash & (byte == 92) {
-                return mysql_unit(body, at + 1);
-            }
-            if byte == mark_byte(mark) {
-                return doubled_unit(body, at + 1, mark);
-            }
-            Piece::Keep
-        }
-        Family::Escape => {
-            if byte == 92 {
-                return escaped_unit(body, at + 1);
-            }
-            if byte == 39 {
-                return doubled_unit(body, at + 1, Mark::Quote);
-            }
-            Piece::Keep
-        }
-        Family::Unicode { mark } => {
-            if byte == mark_byte(mark) {
-                return doubled_unit(body, at + 1, mark);
-            }
-            if stands_at(body, at, escape) {
-                return uescaped_unit(body, at, at + escape.len(), escape);
-            }
-            Piece::Keep
-        }
+    if backslash & (body[at] == 92) {
+        return mysql_unit(body, at + 1);
     }
+    mark_unit(body, at, mark)
+}
+
+fn escape_unit(body: &[u8], at: usize) -> Piece
+    requires { ⌜ at < length (now body) ⌝ }
+    ensures { λ r. ⌜ Is r (escapeStep (drop at (now (body .entry)))) ⌝ }
+{
+    if body[at] == 92 {
+        return escaped_unit(body, at + 1);
+    }
+    mark_unit(body, at, Mark::Quote)
+}
+
+// The mark is looked for before the escape character.
+fn unicode_unit(body: &[u8], at: usize, mark: Mark, escape: &[u8]) -> Piece
+    requires { ⌜ at < length (now body) ⌝ }
+    ensures { λ r. ⌜ IsBy (now (escape .entry)) r (unicodeStep (now (escape .entry)) (markOf mark) (drop at (now (body .entry)))) ⌝ }
+{
+    if (body[at] != mark_byte(mark)) & starts_at(body, at, escape) {
+        return uescaped_unit(body, at + escape.len(), escape);
+    }
+    mark_unit(body, at, mark)
 }
 
 // The unit at a place of a body; behind its end nothing stands, and nothing can be read.
@@ -284,5 +218,9 @@ pub fn unit_at(body: &[u8], at: usize, family: Family, escape: &[u8]) -> Piece
     if body.len() <= at {
         return Piece::Refused;
     }
-    unit_inside(body, at, family, escape)
+    match family {
+        Family::Standard { mark, backslash } => standard_unit(body, at, mark, backslash),
+        Family::Escape => escape_unit(body, at),
+        Family::Unicode { mark } => unicode_unit(body, at, mark, escape),
+    }
 }

@@ -476,5 +476,5 @@ pairs-put high text low b r p el eb h k =
     let l = low-bounds b low h in
     let d : 92 ≡ drop 5 text ! 0 = sym (eqb-true b 92 (and-left (eqb b 92) (leb 56320 low && leb low 57343) h)) ∙ eb ∙ sym (front text 5) in
     let s : starts (92 ∷ []) (drop 5 text) ≡ true = ap (starts (92 ∷ [])) (sym (first (drop 5 text) 92 d (omega arith))) in
-    let i = low-is (92 ∷ []) text 5 high s low el (p .0) (p .1) (l .0) (l .1) 9 refl in
-    record { few = k .few; four = k .four; long = k .long; step = λ h. sym (i .means []) ∙ ap (give 9) (sym (k .put h)) }
+    let i = low-is (92 ∷ []) text 5 high true (sym s) refl low el (p .0) (p .1) (l .0) (l .1) in
+    record { few = k .few; four = k .four; long = k .long; step = λ h. sym (i .means []) ∙ scalar-step 9 k h }

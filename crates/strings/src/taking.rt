@@ -107,7 +107,7 @@ fn raw_byte(text: &[u8]) -> Raw
     let letter = byte_at(text, 1);
     if (byte_at(text, 0) == 92) & (is_octal(letter) | (letter == 120)) {
         let piece = escaped_unit(text, 1);
-        if let Piece::Byte { byte, more } = piece {
+        if let Piece::Byte(byte, more) = piece {
             return Raw {
                 len: more + 1,
                 byte,

@@ -4,7 +4,7 @@ use Prim.Native.Nat.{_-_}
 use borrow.Author.Needs.{needs}
 use lib.ListN.{length}
 use Rattle.escapes.specs.Passing.{Passing}
-use Rattle.escapes.proofs.Turns.{passing-none, turn-less, turn-again, turn-stops, passes-unfinished, passes-plain, passes-length}
+use Rattle.escapes.proofs.Turns.{passing-same, passing-ready, passing-none, turn-less, turn-again, turn-stops, passes-unfinished, passes-plain, passes-length}
 use Rattle.escapes.proofs.passing.pass_units.Statement.{statement}
 use Rattle.escapes.proofs.passing.pass_units.Tie as tie
 
@@ -20,8 +20,8 @@ pass-units-spec =
     (tie.spec
     Inv-loop
     μ-loop
-    (λ c. passing-none _ _ _ _)
-    (λ c κs. record { counted = c .before .before .before .loop .inv .counted; inside = c .before .if1 .taken })
+    (λ c. passing-none _ _ _ _ (search needs))
+    (λ c κs. search passing-ready)
     (λ c. search needs)
     (λ c. search turn-less)
     (λ c. search turn-again)
@@ -29,9 +29,9 @@ pass-units-spec =
     (λ c. search needs)
     (λ c. search turn-stops)
     (λ c κs. search needs)
-    (λ c. c .before .before .before .before .loop .inv .same)
+    (λ c. search passing-same)
     (λ c. search passes-unfinished)
-    (λ c. c .before .before .before .before .before .loop .inv .same)
+    (λ c. search passing-same)
     (λ c. search passes-plain)
-    (λ c. c .before .before .before .before .before .loop .inv .same)
+    (λ c. search passing-same)
     (λ c. search passes-length))

@@ -4,4 +4,4 @@ use Rattle.escapes.proofs.units.byte_unit.Statement.{statement}
 use Rattle.escapes.proofs.units.byte_unit.Tie as tie
 
 pub byte-unit-spec : {M : Type 1} → statement M
-byte-unit-spec = tie.close (tie.spec (λ c. one-zero _ _ (c .if1 .taken)) (λ c. one-byte _ _ (c .if1 .left)))
+byte-unit-spec = tie.close (tie.spec (λ c. search one-zero) (λ c. search one-byte))
