@@ -4,15 +4,18 @@ use mathlib.Core.Bool.{Bool, true, false, _||_, false≢true}
 use mathlib.Core.List.{List, [], _∷_, _++_}
 use Prim.Native.Nat.{ℕ, zero, suc, _+_, _-_, _≤_, _<_}
 use native.Mathlib.Omega.{arith}
+use mir.Syntax.{w64}
+use mir.Val.{Fits}
 use lib.Dec.{eqb}
 use lib.ListN.{length, getD, take, drop, length-drop, take-append-drop}
-use lib.Seq.{drop-drop, getD-drop}
+use lib.Seq.{drop-cons, drop-drop, getD-drop}
 use Rattle.meaning.specs.declared.Settings.{Settings}
 use Rattle.meaning.specs.Bytes.{if_then_else_, _!_, ascii, has, isMark, quote, backslash}
 use Rattle.meaning.specs.Chars.{utf8}
 use Rattle.meaning.specs.Steps.{gap, standardStep, escapeStep, unicodeStep}
 use Rattle.meaning.specs.Cutting.{opening}
 use Rattle.laws.proofs.basics.Lists.{part-tail}
+use Rattle.laws.proofs.basics.Tests.{or-right}
 use Rattle.laws.proofs.basics.Enclosed.{has-append}
 use Rattle.laws.proofs.utf8.Abreast.{Abreast, abreast-body}
 use Rattle.laws.proofs.walking.Fronts.{Front}
@@ -35,9 +38,9 @@ use Rattle.strings.specs.Storing.{Reading, Reads-body}
 use Rattle.strings.specs.declared.quick.Opened.{Opened}
 use Rattle.strings.specs.Driving.{familyBy, isBits, Opening, Opens, closedBy, Closes, SegmentRead, ReadsSegment}
 
-or-right : (x y : Bool) → (x || y) ≡ false → y ≡ false
-or-right true y e = absurd (false≢true (sym e))
-or-right false y e = e
+-- a place of a text, or its end, is a usize
+pub place-fits : {n : ℕ} (t : List ℕ) → n ≤ length t → length t < 18446744073709551616 → Fits w64 n
+place-fits t h l = record { fits = omega arith }
 
 -- what was passed over holds no NUL either
 none-behind : (b : ℕ) (t : List ℕ) (i : ℕ) → has b t ≡ false → has b (drop i t) ≡ false
@@ -101,6 +104,26 @@ checked-letter σ b m e = rw e
 module _ (σ : Settings) (t : List ℕ) (at : ℕ) where
   pub opens-none : (r : Opened) → r .known ≡ false → Opens σ t at r
   opens-none r e = record { opens = λ h. absurd (false≢true (sym e ∙ h)) }
+
+  -- a quote mark alone
+  pub opens-quote : (b : ℕ) → b ≡ t ! at → b ≡ 39 → Opens σ t at (record { known = true; from = at + 1; family = Standard Quote (σ .backslash) })
+  unfolding isMark
+  opens-quote b eb e =
+      let q : t ! at ≡ 39 = sym eb ∙ e in
+      let i : at < length t = mark-inside t at (ap isMark q) in
+      let here : at + 0 ≡ at = omega arith in
+      record {
+        opens = λ k. record {
+          n = 0;
+          m = Quote;
+          is = ap opening (drop-cons t at 0 i ∙ ap (_∷ drop (suc at) t) q);
+          from = refl;
+          inside = omega arith;
+          mark = sym (ap (t !_) here ∙ q);
+          family = sym (ap (λ (y : ℕ). familyBy σ y Quote) q);
+          bits = ap isBits q;
+        };
+      }
 
   pub opening-room : (len : ℕ) → at ≤ length t → len ≡ opening (take (length t - at) (drop at t)) → at + len ≤ length t
   opening-room zero h e = omega arith

@@ -92,13 +92,23 @@ fn family_of(first: u8, mark: Mark, settings: Settings) -> Family
     Family::Standard { mark, backslash }
 }
 
-// What opens a segment at a place, if it is one of a string.
+// What opens a segment at a place, if it is one of a string: most are opened by a quote mark alone.
 fn open_segment(text: &[u8], at: usize, settings: Settings) -> Opened
     requires { ⌜ at ≤ length (now text) ⌝ }
     ensures { λ r. ⌜ Opens settings (now (text .entry)) at r ⌝ }
 {
-    let len = opening_len(&text[at..]);
     let first = byte_at(text, at);
+    if first == 39 {
+        return Opened {
+            known: true,
+            from: at + 1,
+            family: Family::Standard {
+                mark: Mark::Quote,
+                backslash: settings.backslash,
+            },
+        };
+    }
+    let len = opening_len(&text[at..]);
     if (len == 0) | is_bits(first) {
         return Opened {
             known: false,
