@@ -11,7 +11,6 @@ use escapes::units::Family;
 use leaves::bytes::byte_at;
 use leaves::names::is_mark;
 use leaves::puts::put_bytes;
-use leaves::texts::string_literal_embeds_nul;
 use meaning::Read;
 use meaning::Settings;
 use spaces::gap_at;
@@ -275,15 +274,12 @@ fn write_again(text: &[u8], settings: Settings, chunk: &mut [u8], out: &mut [u8]
     driven.read
 }
 
-// Reads a text that is UTF-8, if it can be read so. The buffer is touched once all is known: what never filled the chunk is copied out of it, anything else is
+// Reads a text that is UTF-8 and holds no NUL, if it can be read so. The buffer is touched once all is known: what never filled the chunk is copied out of it, anything else is
 // walked again and written. That the second walk reads what the first has read need not be shown: if it did not, the reading by units would write the same.
 pub(crate) fn read_quick(text: &[u8], settings: Settings, out: &mut [u8]) -> Quick
-    requires { ⌜ utf8 (now text) ≡ true ⌝ }
+    requires { ⌜ (has 0 (now text) ≡ false) × (utf8 (now text) ≡ true) ⌝ }
     ensures { λ r. ⌜ QuickReads (read settings (now (text .entry))) (now (out .entry)) r (now (out .exit)) ⌝ }
 {
-    if string_literal_embeds_nul(text) {
-        return Quick::Unread;
-    }
     let mut chunk = [0u8; 272];
     let driven = count(text, settings, &mut chunk);
     if !driven.read {
