@@ -14,5 +14,5 @@ pub mod Storages
 pub mod Fillings
 pub mod Families
 pub mod Segmenting
-pub mod Restings
+pub mod SegmentTurns
 pub mod QuickAnswers

@@ -38,7 +38,7 @@ module _ (σ : Settings) (t out : List ℕ) (q : Driven) (chunk′ out′ : List
   pub again-few : q .read ≡ true → q .n ≤ length chunk′
   again-few e =
       let r = d .reads e in
-      omega (arith, r .2 .count, ap length (r .2 .held), length-drop (q .total) (r .0), lib.ListN.length-take (q .n) chunk′)
+      omega (arith, r .stored .count, ap length (r .stored .held), length-drop (q .total) (r .w), lib.ListN.length-take (q .n) chunk′)
 
   pub again-all : q .read ≡ true → (after : List ℕ) → Behind (take (q .n) chunk′) (q .total) out′ after → Rewrites σ t out (q .read) after
   again-all e after b = record { same = b .same ∙ d .out-same; done = λ h v ev l. go h v ev l }
@@ -46,14 +46,14 @@ module _ (σ : Settings) (t out : List ℕ) (q : Driven) (chunk′ out′ : List
       go : q .read ≡ true → (v : List ℕ) → read σ t ≡ written v → length v ≡ length out → after ≡ v
       go h v ev l =
           let r = d .reads h in
-          let w = written-same (q .plain) (q .from) (length t - 1) (r .0) v (sym (r .1) ∙ ev) in
-          let s = stored-empty (r .2) after (again-few h) b in
+          let w = written-same (q .plain) (q .from) (length t - 1) (r .w) v (sym (r .reads) ∙ ev) in
+          let s = stored-empty (r .stored) after (again-few h) b in
           let c = s .count in
           let n : q .total + q .n ≤ length out = omega (arith, c, ap length w, l) in
           let all : length out ≤ q .total + q .n = omega (arith, c, ap length w, l) in
           let rest : drop (q .total + q .n) out ≡ [] = drop-of-length-le out all in
-          s .laid n ∙ ap (take (q .total + q .n) (r .0) ++_) rest ∙ append-nil (take (q .total + q .n) (r .0))
-          ∙ take-all (q .total + q .n) (r .0) (omega (arith, c)) ∙ w
+          s .laid n ∙ ap (take (q .total + q .n) (r .w) ++_) rest ∙ append-nil (take (q .total + q .n) (r .w))
+          ∙ take-all (q .total + q .n) (r .w) (omega (arith, c)) ∙ w
 
 -- COUNTED
 pub counts : (σ : Settings) (t d : List ℕ) (q : Driven) (chunk′ out′ : List ℕ) → Drives σ t d q chunk′ out′ → Counts σ t q chunk′
@@ -62,20 +62,17 @@ counts σ t d q chunk′ out′ x = record {
   reads = λ e.
       let r = x .reads e in
       record {
-        w = r .0;
-        reads = r .1;
-        count = r .2 .count;
-        held = λ z. ap (λ (i : ℕ). drop i (r .0)) (sym z) ∙ r .2 .held;
+        w = r .w;
+        reads = r .reads;
+        count = r .stored .count;
+        held = λ z. ap (λ (i : ℕ). drop i (r .w)) (sym z) ∙ r .stored .held;
         few = again-few σ t d q chunk′ out′ x e;
-        sum = x .sum e;
-        some = x .some e;
+        sum = r .sum;
+        some = r .some;
       };
 }
 
 -- ANSWERS
-pub quick-unread : (a : Answer) (out : List ℕ) → QuickReads a out Quick′.Unread out
-quick-unread a out = record { by = (refl, refl) }
-
 module _ (σ : Settings) (t : List ℕ) (q : Driven) (chunk : List ℕ) (c : Counts σ t q chunk) (e : not (q .read) ≡ false) where
   k : Counted σ t q chunk
   k = c .reads (not-false (q .read) e)

@@ -1,4 +1,4 @@
--- What the quick reading says of a segment, of joined text and of a text. Assumes nothing.
+-- What the quick reading says of a segment and of a text. Assumes nothing.
 use mathlib.Core.Path.{_≡_}
 use mathlib.Core.Bool.{Bool, true, false}
 use mathlib.Core.List.{List, [], _++_}
@@ -13,7 +13,6 @@ use Rattle.meaning.specs.Cutting.{opening}
 use Rattle.meaning.specs.Reading.{Answer, borrowed, written, read}
 use Rattle.meaning.specs.Reads.{Reads, bufferOf}
 use Rattle.laws.proofs.cutting.Fronted.{Segmented}
-use Rattle.laws.proofs.joining.Walked.{Walked}
 use Rattle.cutting.specs.Marks.{markOf}
 use Rattle.cutting.specs.declared.marks.Mark.{Mark}
 use Rattle.cutting.specs.declared.marks.Mark.the-variants.{Quote}
@@ -87,23 +86,18 @@ pub record ReadsSegment (σ : Settings) (t : List ℕ) (at : ℕ) (s : Store) (c
   pub out-same : length out′ ≡ length out
   pub reads : r .read ≡ true → SegmentRead σ t at s chunk out r chunk′ out′
 
--- joined text behind its first segments, which mean w
-pub record Resting (σ : Settings) (t : List ℕ) (s : Segment) (chunk out : List ℕ) (r : Driven) (chunk′ out′ : List ℕ) : Type 0 where
-  pub chunk-same : length chunk′ ≡ length chunk
-  pub out-same : length out′ ≡ length out
-  pub plain : r .plain ≡ false
-  pub reads : r .read ≡ true → (d w : List ℕ) → Walked σ t (s .next) w → Stored d w chunk out (s .total) (s .n)
-      → (v : List ℕ) × (at : ℕ) × (length t ≤ at) × Walked σ t at v × Stored d v chunk′ out′ (r .total) (r .n)
-  pub sum : r .read ≡ true → r .total + r .n ≤ length t
+-- a text that was read, into a buffer that held d: its value is w
+pub record DrivenBy (σ : Settings) (t d : List ℕ) (r : Driven) (chunk′ out′ : List ℕ) : Type 0 where
+  pub w : List ℕ
+  pub reads : read σ t ≡ (if r .plain then borrowed (r .from) (length t - 1) else written w)
+  pub stored : Stored d w chunk′ out′ (r .total) (r .n)
+  pub sum : r .total + r .n ≤ length t
+  pub some : 1 ≤ length t
 
--- a text that was read, into a buffer that held d
 pub record Drives (σ : Settings) (t d : List ℕ) (r : Driven) (chunk′ out′ : List ℕ) : Type 0 where
   pub out-same : length out′ ≡ length d
   pub chunk-same : length chunk′ ≡ 272
-  pub reads : r .read ≡ true
-      → (w : List ℕ) × (read σ t ≡ (if r .plain then borrowed (r .from) (length t - 1) else written w)) × Stored d w chunk′ out′ (r .total) (r .n)
-  pub sum : r .read ≡ true → r .total + r .n ≤ length t
-  pub some : r .read ≡ true → 1 ≤ length t
+  pub reads : r .read ≡ true → DrivenBy σ t d r chunk′ out′
 
 -- the same, of which only the chunk is left
 pub record Counted (σ : Settings) (t : List ℕ) (r : Driven) (chunk : List ℕ) : Type 0 where

@@ -20,11 +20,10 @@ ghost use Prim.Native.Nat.{_+_, _≤_, _<_};
 ghost use lib.ListN.{length};
 ghost use Rattle.meaning.specs.Bytes.{has, isMark};
 ghost use Rattle.meaning.specs.Chars.{utf8};
-ghost use Rattle.meaning.specs.Cutting.{continues};
 ghost use Rattle.meaning.specs.Reading.{read};
 ghost use Rattle.cutting.specs.Marks.{markOf};
 ghost use Rattle.strings.specs.declared.chunks.End.the-variants.{Closed};
-ghost use Rattle.strings.specs.Driving.{familyBy, isBits, Opens, Closes, ReadsSegment, Resting, Drives, Counts, Rewrites, QuickReads};
+ghost use Rattle.strings.specs.Driving.{familyBy, isBits, Opens, Closes, ReadsSegment, Drives, Counts, Rewrites, QuickReads};
 
 // An answer, or none.
 pub(crate) enum Quick {
@@ -184,7 +183,7 @@ fn read_segment(
 }
 
 fn undriven() -> Driven
-    ensures { λ r. ⌜ (r .read ≡ false) × (r .plain ≡ false) ⌝ }
+    ensures { λ r. ⌜ r .read ≡ false ⌝ }
 {
     Driven {
         read: false,
@@ -195,61 +194,46 @@ fn undriven() -> Driven
     }
 }
 
-// Reads the segments behind the first, up to the end.
-fn read_rest(
-    text: &[u8],
-    settings: Settings,
-    first: Segment,
-    chunk: &mut [u8],
-    out: &mut [u8],
-) -> Driven
-    requires { ⌜ (has 0 (now text) ≡ false) × (utf8 (now text) ≡ true) × (first .next ≤ length (now text)) × (length (now chunk) ≡ 272) × (first .n ≤ 272) × (first .total + first .n ≤ first .next) ⌝ }
-    ensures { λ r. ⌜ Resting settings (now (text .entry)) first (now (chunk .entry)) (now (out .entry)) r (now (chunk .exit)) (now (out .exit)) ⌝ }
-{
-    let mut segment = first;
-    while segment.next < text.len() {
-        let at = segment.next;
-        let store = Store {
-            total: segment.total,
-            n: segment.n,
-        };
-        segment = read_segment(text, at, settings, store, chunk, out);
-        if !segment.read {
-            return undriven();
-        }
-    }
-    Driven {
-        read: true,
-        from: 0,
-        plain: false,
-        total: segment.total,
-        n: segment.n,
-    }
-}
-
-// Reads a text: one segment that is all of it, or several of which the second begins with a mark.
+// Reads a text: one segment that is all of it, or several of which the second begins with a mark. All segments are read by one call, so that it is compiled into the
+// loop once.
+// Rules out: white space behind a lone segment passed over; several segments of which the second begins with a letter (must-fail: white_space_behind_one, second_by_a_letter).
 fn drive(text: &[u8], settings: Settings, chunk: &mut [u8], out: &mut [u8]) -> Driven
     requires { ⌜ (has 0 (now text) ≡ false) × (utf8 (now text) ≡ true) × (length (now chunk) ≡ 272) ⌝ }
     ensures { λ r. ⌜ Drives settings (now (text .entry)) (now (out .entry)) r (now (chunk .exit)) (now (out .exit)) ⌝ }
 {
-    let nothing = Store { total: 0, n: 0 };
-    let first = read_segment(text, 0, settings, nothing, chunk, out);
-    if !first.read {
-        return undriven();
+    let mut at: usize = 0;
+    let mut store = Store { total: 0, n: 0 };
+    loop {
+        let segment = read_segment(text, at, settings, store, chunk, out);
+        let total = segment.total;
+        let n = segment.n;
+        if !segment.read {
+            return undriven();
+        }
+        if (at == 0) & (segment.end == text.len()) {
+            return Driven {
+                read: true,
+                from: segment.from,
+                plain: segment.plain,
+                total,
+                n,
+            };
+        }
+        if (at == 0) & !is_mark(byte_at(text, segment.next)) {
+            return undriven();
+        }
+        if text.len() <= segment.next {
+            return Driven {
+                read: true,
+                from: 0,
+                plain: false,
+                total,
+                n,
+            };
+        }
+        at = segment.next;
+        store = Store { total, n };
     }
-    if first.end == text.len() {
-        return Driven {
-            read: true,
-            from: first.from,
-            plain: first.plain,
-            total: first.total,
-            n: first.n,
-        };
-    }
-    if is_mark(byte_at(text, first.next)) {
-        return read_rest(text, settings, first, chunk, out);
-    }
-    undriven()
 }
 
 // Reads a text into the chunk alone: what fills it up is counted and lost.
