@@ -1,6 +1,7 @@
 -- A segment that is read from a text: by its opening, its family's walk, and the mark that stands alone. Assumes nothing.
 use mathlib.Core.Path.{_≡_, refl, ap, ap₂, sym, _∙_, subst}
-use mathlib.Core.Bool.{Bool, true, false, _||_, false≢true}
+use mathlib.Core.Bool.{Bool, true, false, _||_, not, false≢true}
+use borrow.Author.Tests.{not-false}
 use mathlib.Core.List.{List, [], _∷_, _++_}
 use Prim.Native.Nat.{ℕ, zero, suc, _+_, _-_, _≤_, _<_}
 use native.Mathlib.Omega.{arith}
@@ -160,8 +161,9 @@ module _ (σ : Settings) (t : List ℕ) (at : ℕ) where
           }
 
 -- CLOSING
-pub next-room : (t : List ℕ) (f a g : ℕ) → f + a < length t → g ≡ gap (drop (f + a + 1) t) → f + a + 1 + g ≤ length t
-next-room t f a g h e = omega (arith, gap-fits (drop (f + a + 1) t), length-drop (f + a + 1) t)
+pub next-room : (t : List ℕ) (f : ℕ) (b : Body) (g : ℕ) → (b .end ≡ Closed → f + b .at < length t) → b .end ≡ Closed → g ≡ gap (drop (f + b .at + 1) t)
+    → f + b .at + 1 + g ≤ length t
+next-room t f b g h c e = omega (arith, h c, gap-fits (drop (f + b .at + 1) t), length-drop (f + b .at + 1) t)
 
 pub closes-one : (t : List ℕ) (f : ℕ) (b : Body) (g : ℕ) → b .end ≡ Closed → g ≡ gap (drop (f + b .at + 1) t)
     → Closes t f b (record {
@@ -195,10 +197,13 @@ module _ (σ : Settings) (t : List ℕ) (at : ℕ) (s : Store) (chunk out : List
   pub segment-none : (r : Segment) → r .read ≡ false → ReadsSegment σ t at s chunk out r chunk out
   segment-none r e = record { chunk-same = refl; out-same = refl; reads = λ h. absurd (false≢true (sym e ∙ h)) }
 
-  module _ (op : Opened) (b : Body) (chunk′ out′ : List ℕ) (os : Opens σ t at op) (known : op .known ≡ true)
+  pub opens-inside : (op : Opened) → Opens σ t at op → not (op .known) ≡ false → op .from ≤ length t
+  opens-inside op os known = os .opens (not-false (op .known) known) .inside
+
+  module _ (op : Opened) (b : Body) (chunk′ out′ : List ℕ) (os : Opens σ t at op) (known : not (op .known) ≡ false)
       (rb : Reads-body (op .family) (take (length t - op .from) (drop (op .from) t)) s chunk out b chunk′ out′) where
     x : Opening σ t at op
-    x = os .opens known
+    x = os .opens (not-false (op .known) known)
 
     body : take (length t - op .from) (drop (op .from) t) ≡ drop (suc (x .n)) (drop at t)
     body = part-tail t (op .from) ∙ ap (λ (i : ℕ). drop i t) (x .from) ∙ sym (drop-drop (suc (x .n)) at t)
