@@ -2,7 +2,7 @@
 use mathlib.Core.Path.{_≡_, refl, ap, ap₂, sym, _∙_, subst}
 use mathlib.Core.Bool.{Bool, true, false, _&&_}
 use mathlib.Core.List.{List, [], _∷_, _++_, append-assoc, append-nil}
-use Prim.Native.Nat.{ℕ, zero, suc, _+_, _-_, _≤_, _<_}
+use Prim.Native.Nat.{ℕ, suc, _+_, _-_, _≤_, _<_}
 use native.Mathlib.Nat.{le-of-eq}
 use native.Mathlib.Omega.{arith}
 use lib.Dec.{eqb}
@@ -115,3 +115,21 @@ reading-none f text s chunk out end h = record {
   chunk-same = refl;
   out-same = refl;
 }
+
+-- BY TURNS: what a turn asks, and what holds behind it
+module _ {f : Family} {text : List ℕ} {s : Store} {chunk₀ out₀ : List ℕ} {b : Body} {chunk out : List ℕ} (r : Reading f text s chunk₀ out₀ b chunk out) where
+  pub reading-size : length chunk₀ ≡ 272 → length chunk ≡ 272
+  reading-size e = r .chunk-same ∙ e
+
+  pub reading-room : s .total + s .n + length text < 18446744073709551616 → b .total + b .n + length text < 18446744073709551616 + b .at
+  reading-room h = omega (arith, r .sum)
+
+  module _ {b′ : Body} {chunk′ out′ : List ℕ} (x : Fills f text b chunk out b′ chunk′ out′) where
+    pub reading-on : Reading f text s chunk₀ out₀ b′ chunk′ out′
+    reading-on = x .onward s chunk₀ out₀ r
+
+    pub reading-less : b′ .end ≡ Full → length text - b′ .at < length text - b .at
+    reading-less e = omega (arith, x .goes e, reading-on .inside)
+
+    pub reading-ends : Reads-body f text s chunk₀ out₀ b′ chunk′ out′
+    reading-ends = record { reading = reading-on; closed = x .closed }
