@@ -1,4 +1,5 @@
 -- What the functions of this crate share, callees first.
+pub mod Lending
 pub mod Bodies
 pub mod Cuts
 pub mod Segments

@@ -5,8 +5,6 @@ use borrow.Author.Tests.{not-false}
 use mathlib.Core.List.{List, [], _∷_, _++_}
 use Prim.Native.Nat.{ℕ, zero, suc, _+_, _-_, _≤_, _<_}
 use native.Mathlib.Omega.{arith}
-use mir.Syntax.{w64}
-use mir.Val.{Fits}
 use lib.Dec.{eqb}
 use lib.ListN.{length, getD, take, drop, length-drop, take-append-drop}
 use lib.Seq.{drop-cons, drop-drop, getD-drop}
@@ -38,10 +36,6 @@ use Rattle.strings.specs.Quick.{stepBy, markBy}
 use Rattle.strings.specs.Storing.{Reading, Reads-body}
 use Rattle.strings.specs.declared.quick.Opened.{Opened}
 use Rattle.strings.specs.Driving.{familyBy, isBits, Opening, Opens, closedBy, Closes, SegmentRead, ReadsSegment}
-
--- a place of a text, or its end, is a usize
-pub place-fits : {n : ℕ} (t : List ℕ) → n ≤ length t → length t < 18446744073709551616 → Fits w64 n
-place-fits t h l = record { fits = omega arith }
 
 -- what was passed over holds no NUL either
 none-behind : (b : ℕ) (t : List ℕ) (i : ℕ) → has b t ≡ false → has b (drop i t) ≡ false

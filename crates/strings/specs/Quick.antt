@@ -85,9 +85,14 @@ pub record Turns (f : Family) (text out : List ℕ) (r : Turn) (after : List ℕ
   pub abreast : checks f ≡ true → Abreast (take (r .at) text) (take (r .n) after)
   pub goes : r .ends ≡ false → 0 < r .at
 
+-- the unit behind a run that is copied already, from a buffer that held d
+pub record TurnsBehind (f : Family) (text : List ℕ) (run : ℕ) (out : List ℕ) (r : Turn) (after : List ℕ) : Type 0 where
+  pub same : length after ≡ length out
+  pub turns : (d : List ℕ) → Copies (markBy f) (otherBy f) text d run out → Turns f text d r after
+
 -- where reading ended
 pub record Ends (text : List ℕ) (at mark : ℕ) (r : End) : Type 0 where
-  pub closed : r ≡ Closed → 0 < mark → Lone text at mark
+  pub closed : r ≡ Closed → Lone text at mark
   pub never : r ≡ Full → ⊥
 
 -- a chunk, as far as it was read

@@ -1,6 +1,7 @@
 -- `strings::quick::close_segment` meets its contract. Assumes nothing.
 use borrow.Author.Needs.{needs}
-use Rattle.strings.proofs.Segmenting.{place-fits, next-room, closes-one, closes-none}
+use Rattle.strings.proofs.Lending.{place-fits}
+use Rattle.strings.proofs.Segmenting.{next-room, closes-one, closes-none}
 use Rattle.strings.proofs.quick.close_segment.Statement.{statement}
 use Rattle.strings.proofs.quick.close_segment.Tie as tie
 

@@ -1,6 +1,7 @@
 -- `strings::quick::open_segment` meets its contract. Assumes nothing.
 use borrow.Author.Needs.{needs}
-use Rattle.strings.proofs.Segmenting.{place-fits, opening-room, opening-some, opens-none, opens-quote, opens-one}
+use Rattle.strings.proofs.Lending.{place-fits}
+use Rattle.strings.proofs.Segmenting.{opening-room, opening-some, opens-none, opens-quote, opens-one}
 use Rattle.strings.proofs.quick.open_segment.Statement.{statement}
 use Rattle.strings.proofs.quick.open_segment.Tie as tie
 

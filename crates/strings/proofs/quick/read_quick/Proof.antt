@@ -3,7 +3,7 @@ use native.Mathlib.Omega.{arith}
 use mathlib.Core.Path.{sym}
 use lib.Seq.{length-take-le}
 use borrow.Author.Needs.{needs}
-use Rattle.strings.proofs.Segmenting.{place-fits}
+use Rattle.strings.proofs.Lending.{place-fits}
 use Rattle.strings.proofs.QuickAnswers.{counted-some, counted-held, counted-fits, quick-borrowed, quick-lacks, quick-put, quick-again, quick-left}
 use Rattle.strings.proofs.quick.read_quick.Statement.{statement}
 use Rattle.strings.proofs.quick.read_quick.Tie as tie
