@@ -113,12 +113,11 @@ second (a ∷ []) b c e f h = absurd (omega arith)
 second (a ∷ d ∷ t) b c e f h = cc
 
 -- STANDARD
-pub mysql-of : (c : ℕ)
-    → (if eqb c 48 then 0 else if eqb c 98 then 8 else if eqb c 110 then 10 else if eqb c 114 then 13 else if eqb c 116 then 9 else if eqb c 90 then 26 else c)
-    ≡ mysqlOf c
+pub mysql-of : (c u v w x y z : ℕ) → u ≡ (if eqb c 90 then 26 else c) → v ≡ (if eqb c 116 then 9 else u) → w ≡ (if eqb c 114 then 13 else v)
+    → x ≡ (if eqb c 110 then 10 else w) → y ≡ (if eqb c 98 then 8 else x) → z ≡ (if eqb c 48 then 0 else y) → z ≡ mysqlOf c
 unfolding mysqlOf
-mysql-of c =
-    rw (eqb-sym c 48, eqb-sym c 98, eqb-sym c 110, eqb-sym c 114, eqb-sym c 116, eqb-sym c 90)
+mysql-of c u v w x y z eu ev ew ex ey ez =
+    rw (ez, ey, ex, ew, ev, eu, eqb-sym c 48, eqb-sym c 98, eqb-sym c 110, eqb-sym c 114, eqb-sym c 116, eqb-sym c 90)
     (go (eqb 48 c) (eqb 98 c) (eqb 110 c) (eqb 114 c) (eqb 116 c) (eqb 90 c))
   where
     by : Bool → Bool → Bool → Bool → Bool → Bool → ℕ → ℕ
@@ -268,18 +267,22 @@ raw-letter c h = go (ltb (digit c) 8) refl h
         omega (arith, leb-true 48 c (and-left (leb 48 c) (leb c 55) o), leb-true c 55 (and-right (leb 48 c) (leb c 55) o))
     go false e k = omega (arith, eqb-true c 120 k)
 
-pub raws-byte : (text : List ℕ) (c b : ℕ) (x : Bool) (p : Piece) (byte more : ℕ) → c ≡ text ! 1 → b ≡ text ! 0 → x ≡ ltb (digit c) 8
-    → (eqb b 92 && (x || eqb c 120)) ≡ true → Is p (escaped (drop 1 text)) → p ≡ Byte byte more → Raws text (record { len = more + 1; byte = byte })
-raws-byte text c b x p byte more ec eb ex h i ep =
-    let k = raw-letter c (rw ex at (and-right (eqb b 92) (x || eqb c 120) h)) in
-    let d = second text b c eb ec (k .0) in
-    let n : 92 ∷ c ∷ drop 2 text ≡ text = ap (_∷ (c ∷ drop 2 text)) (sym (eqb-true b 92 (and-left (eqb b 92) (x || eqb c 120) h))) ∙ d in
-    let s : escaped (c ∷ drop 2 text) ≡ give more (byte ∷ []) = ap (λ (t : List ℕ). escaped (drop 1 t)) d ∙ sym (ap (meaningOf []) (sym ep) ∙ i .means []) in
-    subst (λ (t : List ℕ). Raws t (record { len = more + 1; byte = byte })) n
-    (rw add-one (record {
-      front = λ _. there Escape 92 (c ∷ drop 2 text) more (byte ∷ []) s;
-      lows = λ _. unit-low c (drop 2 text) (k .1) more (byte ∷ []) s;
-    }))
+module _ (text : List ℕ) (c b : ℕ) (x : Bool) (p : Piece) (byte more : ℕ) (ec : c ≡ text ! 1) (eb : b ≡ text ! 0) (ex : x ≡ ltb (digit c) 8)
+    (h : (eqb b 92 && (x || eqb c 120)) ≡ true) (i : Is p (escaped (drop 1 text))) (ep : p ≡ Byte byte more) where
+  pub raws-byte : Raws text (record { len = more + 1; byte = byte })
+  raws-byte =
+      let k = raw-letter c (rw ex at (and-right (eqb b 92) (x || eqb c 120) h)) in
+      let d = second text b c eb ec (k .0) in
+      let n : 92 ∷ c ∷ drop 2 text ≡ text = ap (_∷ (c ∷ drop 2 text)) (sym (eqb-true b 92 (and-left (eqb b 92) (x || eqb c 120) h))) ∙ d in
+      let s : escaped (c ∷ drop 2 text) ≡ give more (byte ∷ []) = ap (λ (t : List ℕ). escaped (drop 1 t)) d ∙ sym (ap (meaningOf []) (sym ep) ∙ i .means []) in
+      subst (λ (t : List ℕ). Raws t (record { len = more + 1; byte = byte })) n
+      (rw add-one (record {
+        front = λ _. there Escape 92 (c ∷ drop 2 text) more (byte ∷ []) s;
+        lows = λ _. unit-low c (drop 2 text) (k .1) more (byte ∷ []) s;
+      }))
+
+  pub raws-there : more + 1 ≤ length text
+  raws-there = raws-byte .front (omega arith) .so-far .inside
 
 -- ASCII that stands for whole characters
 pub abreast-low : (a v : List ℕ) → 0 < length a → Lows a → utf8 v ≡ true → Abreast a v
