@@ -17,7 +17,7 @@ use Rattle.meaning.specs.Answers.{filled}
 use Rattle.meaning.specs.Reading.{Answer, borrowed, written, refused, read}
 use Rattle.meaning.specs.Reads.{Reads, readOf, bufferOf}
 use Rattle.leaves.specs.Puts.{Puts}
-use Rattle.strings.specs.declared.quick.Driven.{Driven}
+use Rattle.strings.specs.declared.quick.Segment.{Segment}
 use Rattle.strings.specs.declared.quick.Quick.{Quick}
 use Rattle.strings.specs.declared.quick.Quick.the-variants as Quick′
 use Rattle.strings.specs.Storing.{Stored, Behind}
@@ -31,7 +31,7 @@ written-same true f u w v e = let y : _≡_ {A = ℕ} 0 1 = cc in absurd (omega 
 written-same false f u w v e = cc
 
 -- WRITING AGAIN
-module _ (σ : Settings) (t out : List ℕ) (q : Driven) (chunk′ out′ : List ℕ) (d : Drives σ t out q chunk′ out′) where
+module _ (σ : Settings) (t out : List ℕ) (q : Segment) (chunk′ out′ : List ℕ) (d : Drives σ t out q chunk′ out′) where
   pub again-not : q .read ≡ false → Rewrites σ t out (q .read) out′
   again-not e = record { same = d .out-same; done = λ h. absurd (false≢true (sym e ∙ h)) }
 
@@ -56,7 +56,7 @@ module _ (σ : Settings) (t out : List ℕ) (q : Driven) (chunk′ out′ : List
           ∙ take-all (q .total + q .n) (r .w) (omega (arith, c)) ∙ w
 
 -- COUNTED
-pub counts : (σ : Settings) (t d : List ℕ) (q : Driven) (chunk′ out′ : List ℕ) → Drives σ t d q chunk′ out′ → Counts σ t q chunk′
+pub counts : (σ : Settings) (t d : List ℕ) (q : Segment) (chunk′ out′ : List ℕ) → Drives σ t d q chunk′ out′ → Counts σ t q chunk′
 counts σ t d q chunk′ out′ x = record {
   size = x .chunk-same;
   reads = λ e.
@@ -73,7 +73,7 @@ counts σ t d q chunk′ out′ x = record {
 }
 
 -- ANSWERS
-module _ (σ : Settings) (t : List ℕ) (q : Driven) (chunk : List ℕ) (c : Counts σ t q chunk) (e : not (q .read) ≡ false) where
+module _ (σ : Settings) (t : List ℕ) (q : Segment) (chunk : List ℕ) (c : Counts σ t q chunk) (e : not (q .read) ≡ false) where
   k : Counted σ t q chunk
   k = c .reads (not-false (q .read) e)
 

@@ -23,7 +23,6 @@ use Rattle.strings.specs.declared.storing.Store.{Store}
 use Rattle.strings.specs.declared.storing.Body.{Body}
 use Rattle.strings.specs.declared.quick.Opened.{Opened}
 use Rattle.strings.specs.declared.quick.Segment.{Segment}
-use Rattle.strings.specs.declared.quick.Driven.{Driven}
 use Rattle.strings.specs.declared.quick.Quick.{Quick}
 use Rattle.strings.specs.declared.quick.Quick.the-variants as Quick′
 use Rattle.strings.specs.declared.reading.Checked.{Checked}
@@ -87,20 +86,20 @@ pub record ReadsSegment (σ : Settings) (t : List ℕ) (at : ℕ) (s : Store) (c
   pub reads : r .read ≡ true → SegmentRead σ t at s chunk out r chunk′ out′
 
 -- a text that was read, into a buffer that held d: its value is w
-pub record DrivenBy (σ : Settings) (t d : List ℕ) (r : Driven) (chunk′ out′ : List ℕ) : Type 0 where
+pub record DrivenBy (σ : Settings) (t d : List ℕ) (r : Segment) (chunk′ out′ : List ℕ) : Type 0 where
   pub w : List ℕ
   pub reads : read σ t ≡ (if r .plain then borrowed (r .from) (length t - 1) else written w)
   pub stored : Stored d w chunk′ out′ (r .total) (r .n)
   pub sum : r .total + r .n ≤ length t
   pub some : 1 ≤ length t
 
-pub record Drives (σ : Settings) (t d : List ℕ) (r : Driven) (chunk′ out′ : List ℕ) : Type 0 where
+pub record Drives (σ : Settings) (t d : List ℕ) (r : Segment) (chunk′ out′ : List ℕ) : Type 0 where
   pub out-same : length out′ ≡ length d
   pub chunk-same : length chunk′ ≡ 272
   pub reads : r .read ≡ true → DrivenBy σ t d r chunk′ out′
 
 -- the same, of which only the chunk is left
-pub record Counted (σ : Settings) (t : List ℕ) (r : Driven) (chunk : List ℕ) : Type 0 where
+pub record Counted (σ : Settings) (t : List ℕ) (r : Segment) (chunk : List ℕ) : Type 0 where
   pub w : List ℕ
   pub reads : read σ t ≡ (if r .plain then borrowed (r .from) (length t - 1) else written w)
   pub count : length w ≡ r .total + r .n
@@ -109,7 +108,7 @@ pub record Counted (σ : Settings) (t : List ℕ) (r : Driven) (chunk : List ℕ
   pub sum : r .total + r .n ≤ length t
   pub some : 1 ≤ length t
 
-pub record Counts (σ : Settings) (t : List ℕ) (r : Driven) (chunk : List ℕ) : Type 0 where
+pub record Counts (σ : Settings) (t : List ℕ) (r : Segment) (chunk : List ℕ) : Type 0 where
   pub size : length chunk ≡ 272
   pub reads : r .read ≡ true → Counted σ t r chunk
 

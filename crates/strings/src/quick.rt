@@ -49,15 +49,6 @@ pub(crate) struct Segment {
     pub n: usize,
 }
 
-// A text that was read: as `Segment` where it is one, else as written.
-pub(crate) struct Driven {
-    pub read: bool,
-    pub from: usize,
-    pub plain: bool,
-    pub total: usize,
-    pub n: usize,
-}
-
 // The mark that a byte is.
 fn mark_from(byte: u8) -> Mark
     ensures { λ r. ⌜ (isMark byte ≡ true → markOf r ≡ byte) ⌝ }
@@ -182,62 +173,38 @@ fn read_segment(
     close_segment(text, from, body)
 }
 
-fn undriven() -> Driven
-    ensures { λ r. ⌜ r .read ≡ false ⌝ }
-{
-    Driven {
-        read: false,
-        from: 0,
-        plain: false,
-        total: 0,
-        n: 0,
-    }
-}
-
-// Reads a text: one segment that is all of it, or several of which the second begins with a mark. All segments are read by one call, so that it is compiled into the
-// loop once.
+// Reads a text: one segment that is all of it, or several of which the second begins with a mark, told as their last, which then does not stand for itself. All
+// segments are read by one call, so that it is compiled into the loop once.
 // Rules out: white space behind a lone segment passed over; several segments of which the second begins with a letter (must-fail: white_space_behind_one, second_by_a_letter).
-fn drive(text: &[u8], settings: Settings, chunk: &mut [u8], out: &mut [u8]) -> Driven
+fn drive(text: &[u8], settings: Settings, chunk: &mut [u8], out: &mut [u8]) -> Segment
     requires { ⌜ (has 0 (now text) ≡ false) × (utf8 (now text) ≡ true) × (length (now chunk) ≡ 272) ⌝ }
     ensures { λ r. ⌜ Drives settings (now (text .entry)) (now (out .entry)) r (now (chunk .exit)) (now (out .exit)) ⌝ }
 {
     let mut at: usize = 0;
     let mut store = Store { total: 0, n: 0 };
     loop {
-        let segment = read_segment(text, at, settings, store, chunk, out);
-        let total = segment.total;
-        let n = segment.n;
-        if !segment.read {
-            return undriven();
-        }
-        if (at == 0) & (segment.end == text.len()) {
-            return Driven {
-                read: true,
-                from: segment.from,
-                plain: segment.plain,
-                total,
-                n,
-            };
+        let mut segment = read_segment(text, at, settings, store, chunk, out);
+        if !segment.read | ((at == 0) & (segment.end == text.len())) {
+            return segment;
         }
         if (at == 0) & !is_mark(byte_at(text, segment.next)) {
-            return undriven();
+            segment.read = false;
+            return segment;
         }
         if text.len() <= segment.next {
-            return Driven {
-                read: true,
-                from: 0,
-                plain: false,
-                total,
-                n,
-            };
+            segment.plain = false;
+            return segment;
         }
         at = segment.next;
-        store = Store { total, n };
+        store = Store {
+            total: segment.total,
+            n: segment.n,
+        };
     }
 }
 
 // Reads a text into the chunk alone: what fills it up is counted and lost.
-fn count(text: &[u8], settings: Settings, chunk: &mut [u8]) -> Driven
+fn count(text: &[u8], settings: Settings, chunk: &mut [u8]) -> Segment
     requires { ⌜ (has 0 (now text) ≡ false) × (utf8 (now text) ≡ true) × (length (now chunk) ≡ 272) ⌝ }
     ensures { λ r. ⌜ Counts settings (now (text .entry)) r (now (chunk .exit)) ⌝ }
 {

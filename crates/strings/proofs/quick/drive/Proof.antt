@@ -3,7 +3,7 @@
 use Prim.Native.Nat.{_-_}
 use borrow.Author.Needs.{needs}
 use lib.ListN.{length}
-use Rattle.strings.proofs.SegmentTurns.{Going, going-none, going-less, going-more, drives-none, drives-alone, drives-joined}
+use Rattle.strings.proofs.SegmentTurns.{Going, going-none, going-less, going-more, drives-first, drives-not, drives-joined}
 use Rattle.strings.proofs.quick.drive.Statement.{statement}
 use Rattle.strings.proofs.quick.drive.Tie as tie
 
@@ -21,19 +21,14 @@ drive-spec =
     μ-loop
     (λ c. search going-none)
     (λ c κs. search needs)
-    (λ c κs. search needs)
     (λ c. search needs)
     (λ c. search needs)
-    (λ c. search drives-none)
-    (λ c. search needs)
-    (λ c. search needs)
-    (λ c. search drives-alone)
-    (λ c κs. search needs)
+    (λ c. search drives-first)
     (λ c κs. search needs)
     (λ c κs. search needs)
     (λ c. search needs)
     (λ c. search needs)
-    (λ c. search drives-none)
+    (λ c. search drives-not)
     (λ c. search needs)
     (λ c. search needs)
     (λ c. search drives-joined)
