@@ -15,7 +15,7 @@ use Rattle.meaning.specs.Bytes.{if_then_else_, _!_, span, quote, backslash}
 use Rattle.meaning.specs.Walk.{Step, keep, Trace, ended, stopped, kept, gave, size, value}
 use Rattle.laws.proofs.basics.Tests.{and-left, and-right, eqb-sym}
 use Rattle.laws.proofs.basics.Lists.{part-tail}
-use Rattle.laws.proofs.walking.Fronts.{Front, front-none, front-more, front-kept}
+use Rattle.laws.proofs.walking.Fronts.{Front, front-none, front-more, front-kept, front-brief}
 use Rattle.laws.proofs.utf8.Abreast.{Abreast, abreast-same, abreast-more}
 use Rattle.leaves.proofs.RunSteps.{span-length, KeepsAll}
 use Rattle.cutting.specs.declared.marks.Mark.the-variants.{Quote, DoubleQuote}
@@ -23,6 +23,7 @@ use Rattle.cutting.specs.Marks.{markOf}
 use Rattle.escapes.specs.declared.units.Family.{Family}
 use Rattle.escapes.specs.declared.units.Family.the-variants.{Standard, Escape, Unicode}
 use Rattle.escapes.specs.Families.{checks}
+use Rattle.escapes.proofs.Turns.{steady}
 use Rattle.strings.specs.declared.taking.Taken.{Taken}
 use Rattle.strings.specs.declared.chunks.End.{End}
 use Rattle.strings.specs.declared.chunks.End.the-variants.{Closed, Full, Unread}
@@ -167,16 +168,6 @@ pub record Chunked (f : Family) (text d chunk : List ℕ) (at n : ℕ) (p : Bool
 pub chunked-none : (f : Family) (text d : List ℕ) → Chunked f text d d 0 0 true
 chunked-none f text d = record { same = refl; within = omega arith; front = front-none (stepBy f) text; abreast = λ x. abreast-same [] }
 
--- a front of no bytes stands for none
-front-empty : {step : List ℕ → Step} {l : List ℕ} {at : ℕ} {v : List ℕ} {p : Bool} → Front step l at v p → at ≡ 0 → v ≡ []
-front-empty x z = sym (x .means) ∙ go (x .so-far .course) (x .so-far .place ∙ z)
-  where
-    go : (r : Trace) → size r ≡ 0 → value r ≡ []
-    go ended e = refl
-    go stopped e = refl
-    go (kept b r) e = absurd (omega arith)
-    go (gave n out r) e = absurd (omega arith)
-
 module _ {f : Family} {text d chunk : List ℕ} {at n : ℕ} {p : Bool} (x : Chunked f text d chunk at n p) where
   pub chunked-there : at ≤ length text
   chunked-there = x .front .so-far .inside
@@ -188,7 +179,7 @@ module _ {f : Family} {text d chunk : List ℕ} {at n : ℕ} {p : Bool} (x : Chu
     front = x .front;
     abreast = x .abreast;
     closed = λ q. absurd (let z : _≡_ {A = ℕ} 0 1 = cc in omega arith);
-    goes = λ q. ⊎-elim (λ z. absurd (omega (arith, ap length (front-empty (x .front) z), length-take-le n chunk (x .within), x .same))) (λ y. y) (eq-zero-or-pos at);
+    goes = λ q. omega (arith, front-brief (steady f (backslash ∷ [])) (x .front), length-take-le n chunk (x .within), x .same);
   }
 
   -- a turn more

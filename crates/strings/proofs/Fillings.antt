@@ -23,6 +23,7 @@ use Rattle.strings.specs.declared.storing.Store.{Store}
 use Rattle.strings.specs.declared.storing.Body.{Body}
 use Rattle.strings.specs.Quick.{stepBy, markBy, Expands}
 use Rattle.strings.specs.Storing.{Stored, Empties, Reading, Fills, Reads-body}
+use Rattle.strings.proofs.Lending.{lent, back, back-same, back-take}
 use Rattle.strings.proofs.Storages.{stored-more}
 
 -- a mark alone, counted from another place
@@ -38,35 +39,21 @@ lone-at t i k q h m =
 module _ (f : Family) (text : List ℕ) (b : Body) (chunk out : List ℕ) (ready : Store) (out′ : List ℕ) (part : Part) (last : List ℕ)
     (size : length chunk ≡ 272) (n : b .n ≤ 272) (inside : b .at ≤ length text)
     (e : Empties (record { total = b .total; n = b .n }) chunk out ready out′)
-    (x′ : Expands f (take (length text - b .at) (drop (b .at) text)) (take (length chunk - ready .n) (drop (ready .n) chunk)) part last) where
+    (x′ : Expands f (lent (b .at) text) (lent (ready .n) chunk) part last) where
   abbrev chunk′ : List ℕ
-  chunk′ = take (ready .n) chunk ++ (last ++ drop (length chunk - ready .n) (drop (ready .n) chunk))
+  chunk′ = back (ready .n) chunk last
 
   abbrev result : Body
   result = record { at = b .at + part .at; plain = b .plain && part .plain; total = ready .total; n = ready .n + part .n; end = part .end }
 
   x : Expands f (drop (b .at) text) (drop (ready .n) chunk) part last
-  x = subst (λ (y : List ℕ). Expands f y (drop (ready .n) chunk) part last) (part-tail text (b .at))
-      (subst (λ (y : List ℕ). Expands f (take (length text - b .at) (drop (b .at) text)) y part last) (part-tail chunk (ready .n)) x′)
+  x = rw (part-tail text (b .at), part-tail chunk (ready .n)) at x′
 
-  last-length : length last ≡ 272 - ready .n
-  last-length = x .same ∙ length-drop (ready .n) chunk ∙ omega (arith, size)
+  in-chunk : ready .n ≤ length chunk
+  in-chunk = omega (arith, e .small, size)
 
   few : ready .n + part .n ≤ 272
-  few = omega (arith, x .room, x .same, last-length, e .small)
-
-  chunk-is : chunk′ ≡ take (ready .n) chunk ++ last
-  chunk-is = ap (λ (y : List ℕ). take (ready .n) chunk ++ (last ++ y))
-      (drop-of-length-le (drop (ready .n) chunk) (le-of-eq (length-drop (ready .n) chunk))) ∙ ap (take (ready .n) chunk ++_) (append-nil last)
-
-  front-length : length (take (ready .n) chunk) ≡ ready .n
-  front-length = length-take-le (ready .n) chunk (omega (arith, e .small, size))
-
-  held : take (ready .n + part .n) chunk′ ≡ take (ready .n) chunk ++ take (part .n) last
-  held =
-      ap (take (ready .n + part .n)) chunk-is
-      ∙ ap (λ (i : ℕ). take (i + part .n) (take (ready .n) chunk ++ last)) (sym front-length)
-      ∙ take-append-add (take (ready .n) chunk) last (part .n)
+  few = omega (arith, x .room, length-drop (ready .n) chunk, size, in-chunk)
 
   value-length : length (take (part .n) last) ≡ part .n
   value-length = length-take-le (part .n) last (omega (arith, x .room, x .same))
@@ -86,11 +73,12 @@ module _ (f : Family) (text : List ℕ) (b : Body) (chunk out : List ℕ) (ready
         (abreast-more (take (b .at) text) (r .v) (take (part .at) (drop (b .at) text)) (take (part .n) last) (r .abreast h) (x .abreast h));
     stores = λ d w st.
         subst (λ (y : List ℕ). Stored d y chunk′ out′ (ready .total) (ready .n + part .n)) (append-assoc w (r .v) (take (part .n) last))
-        (stored-more (e .stores d (w ++ r .v) (r .stores d w st)) (take (part .n) last) chunk′ (part .n) value-length held);
+        (stored-more (e .stores d (w ++ r .v) (r .stores d w st)) (take (part .n) last) chunk′ (part .n) value-length
+        (back-take chunk last (ready .n) in-chunk (x′ .same) (part .n)));
     sum = omega (arith, r .sum, e .sum, brief);
     inside = reaches;
     few = few;
-    chunk-same = ap length chunk-is ∙ length-append (take (ready .n) chunk) last ∙ omega (arith, front-length, last-length, size, e .small, r .chunk-same);
+    chunk-same = back-same chunk last (ready .n) in-chunk (x′ .same) ∙ r .chunk-same;
     out-same = e .same ∙ r .out-same;
   }
 

@@ -15,7 +15,8 @@ use Rattle.meaning.specs.declared.Read.the-variants as Read′
 use Rattle.meaning.specs.Bytes.{if_then_else_}
 use Rattle.meaning.specs.Answers.{filled}
 use Rattle.meaning.specs.Reading.{Answer, borrowed, written, refused, read}
-use Rattle.meaning.specs.Reads.{Reads, readOf, bufferOf}
+use Rattle.meaning.specs.Reads.{Reads, readOf}
+use Rattle.laws.proofs.questions.Owed.{reads-short, reads-written, reads-borrowed}
 use Rattle.leaves.specs.Puts.{Puts}
 use Rattle.strings.specs.declared.quick.Segment.{Segment}
 use Rattle.strings.specs.declared.quick.Quick.{Quick}
@@ -86,74 +87,52 @@ module _ (σ : Settings) (t : List ℕ) (q : Segment) (chunk : List ℕ) (c : Co
   pub counted-fits : q .total + q .n ≤ length t
   counted-fits = k .sum
 
+  told : (x : Bool) → q .plain ≡ x → read σ t ≡ (if x then borrowed (q .from) (length t - 1) else written (k .w))
+  told x p = k .reads ∙ ap (λ (y : Bool). if y then borrowed (q .from) (length t - 1) else written (k .w)) p
+
   pub quick-borrowed : (out : List ℕ) → q .plain ≡ true → QuickReads (read σ t) out (Quick′.Answer (Read′.Borrowed (q .from) (length t - 1))) out
-  quick-borrowed out p =
-      let r : read σ t ≡ borrowed (q .from) (length t - 1) = k .reads ∙ ap (λ (x : Bool). if x then borrowed (q .from) (length t - 1) else written (k .w)) p in
-      record { by = record { answer = sym (ap (readOf (length out)) r); buffer = sym (ap (bufferOf out) r) } }
+  quick-borrowed out p = record { by = reads-borrowed (read σ t) out (q .from) (length t - 1) (told true p) }
 
   module _ (p : q .plain ≡ false) where
     value : read σ t ≡ written (k .w)
-    value = k .reads ∙ ap (λ (x : Bool). if x then borrowed (q .from) (length t - 1) else written (k .w)) p
+    value = told false p
 
     pub quick-lacks : (out : List ℕ) → length out < q .total + q .n → QuickReads (read σ t) out (Quick′.Answer (Read′.NoRoom (q .total + q .n))) out
-    unfolding filled
-    quick-lacks out h =
-        let n : leb (length (k .w)) (length out) ≡ false = lt-leb (length (k .w)) (length out) (omega (arith, k .count)) in
-        record {
-          by = record {
-            answer = sym (ap (readOf (length out)) value ∙ rw n (ap Read′.NoRoom (k .count)));
-            buffer = sym (ap (bufferOf out) value ∙ rw n refl);
-          };
-        }
+    quick-lacks out h = record { by = reads-short (read σ t) (k .w) out (q .total + q .n) value (k .count) h }
 
     module _ (out : List ℕ) (h : q .total + q .n ≤ length out) where
-      fits : leb (length (k .w)) (length out) ≡ true
-      fits = le-leb (length (k .w)) (length out) (omega (arith, k .count))
-
-      holds : (o : List ℕ) → leb (length (k .w)) (length o) ≡ true → filled (k .w) o ≡ k .w ++ drop (length (k .w)) o
-      unfolding filled
-      holds o f = rw f refl
-
       -- the value stands at the buffer's start
       done : (after : List ℕ) → after ≡ k .w ++ drop (length (k .w)) out → QuickReads (read σ t) out (Quick′.Answer (Read′.Written (q .total + q .n))) after
+      done after l = record { by = reads-written (read σ t) (k .w) out after (q .total + q .n) value (k .count) h l }
+
+      holds : (o : List ℕ) → length o ≡ length out → filled (k .w) o ≡ k .w ++ drop (length (k .w)) o
       unfolding filled
-      done after l = record {
-        by = record {
-          answer = sym (ap (readOf (length out)) value ∙ rw fits (ap Read′.Written (k .count)));
-          buffer = l ∙ sym (ap (bufferOf out) value ∙ rw fits refl);
-        };
-      }
+      holds o e = rw (le-leb (length (k .w)) (length o) (omega (arith, k .count)))
 
       pub quick-put : q .total ≡ 0 → (i : ℕ) (after : List ℕ) → Puts (take (q .total + q .n) chunk) out i after
           → QuickReads (read σ t) out (Quick′.Answer (Read′.Written (q .total + q .n))) after
-      unfolding filled
       quick-put z i after b =
           let n : q .total + q .n ≡ q .n = omega (arith, z) in
           let w : take (q .total + q .n) chunk ≡ k .w = ap (λ (j : ℕ). take j chunk) n ∙ sym (k .held z) in
-          done after (b .buffer ∙ ap (λ (y : List ℕ). filled y out) w ∙ rw fits refl)
+          done after (b .buffer ∙ ap (λ (y : List ℕ). filled y out) w ∙ holds out refl)
 
-      pub quick-again : (x : Bool) (after : List ℕ) → x ≡ true → Rewrites σ t (take (q .total + q .n) out) x after
-          → QuickReads (read σ t) out (Quick′.Answer (Read′.Written (q .total + q .n))) (after ++ drop (q .total + q .n) out)
-      quick-again x after xt b =
-          let n : length (take (q .total + q .n) out) ≡ q .total + q .n = length-take-le (q .total + q .n) out h in
-          done (after ++ drop (q .total + q .n) out)
-          (ap₂ (λ (x : List ℕ) (j : ℕ). x ++ drop j out) (b .done xt (k .w) value (k .count ∙ sym n)) (sym (k .count)))
+      module _ (x : Bool) (after : List ℕ) (b : Rewrites σ t (take (q .total + q .n) out) x after) where
+        abbrev whole : List ℕ
+        whole = after ++ drop (q .total + q .n) out
 
-      pub quick-left : (x : Bool) (after : List ℕ) → Rewrites σ t (take (q .total + q .n) out) x after
-          → QuickReads (read σ t) out Quick′.Unread (after ++ drop (q .total + q .n) out)
-      unfolding filled
-      quick-left x after b =
-          let n : length after ≡ q .total + q .n = b .same ∙ length-take-le (q .total + q .n) out h in
-          let same : length (after ++ drop (q .total + q .n) out) ≡ length out =
-          length-append after (drop (q .total + q .n) out) ∙ omega (arith, n, length-drop (q .total + q .n) out, h) in
-          let there : leb (length (k .w)) (length (after ++ drop (q .total + q .n) out)) ≡ true =
-          le-leb (length (k .w)) (length (after ++ drop (q .total + q .n) out)) (omega (arith, k .count, same, h)) in
-          let rest : drop (length (k .w)) (after ++ drop (q .total + q .n) out) ≡ drop (length (k .w)) out =
-          ap (λ (j : ℕ). drop j (after ++ drop (q .total + q .n) out)) (k .count) ∙ drop-at after (drop (q .total + q .n) out) (q .total + q .n) n
-          ∙ ap (λ (j : ℕ). drop j out) (sym (k .count)) in
-          let left : bufferOf (after ++ drop (q .total + q .n) out) (read σ t) ≡ k .w ++ drop (length (k .w)) out =
-          ap (bufferOf (after ++ drop (q .total + q .n) out)) value ∙ holds (after ++ drop (q .total + q .n) out) there ∙ ap (k .w ++_) rest in
-          record { by = (same, left ∙ sym (ap (bufferOf out) value ∙ holds out fits)) }
+        size : length (take (q .total + q .n) out) ≡ q .total + q .n
+        size = length-take-le (q .total + q .n) out h
+
+        pub quick-again : x ≡ true → QuickReads (read σ t) out (Quick′.Answer (Read′.Written (q .total + q .n))) whole
+        quick-again y =
+            done whole (ap₂ (λ (x : List ℕ) (j : ℕ). x ++ drop j out) (b .done y (k .w) value (k .count ∙ sym size)) (sym (k .count)))
+
+        pub quick-left : QuickReads (read σ t) out Quick′.Unread whole
+        quick-left =
+            let n : length after ≡ q .total + q .n = b .same ∙ size in
+            let same : length whole ≡ length out = length-append after (drop (q .total + q .n) out) ∙ omega (arith, n, length-drop (q .total + q .n) out, h) in
+            let rest : drop (length (k .w)) whole ≡ drop (length (k .w)) out = rw (k .count) (drop-at after (drop (q .total + q .n) out) (q .total + q .n) n) in
+            record { by = (same, rw value (holds whole same ∙ ap (k .w ++_) rest ∙ sym (holds out refl))) }
 
 -- WITH AN ANSWER it is the definition's
 pub answered-reads : (a : Answer) (out : List ℕ) (q : Quick) (after : List ℕ) → QuickReads a out q after → (r : Read) → q ≡ Quick′.Answer r → Reads a out r after
