@@ -1,24 +1,21 @@
 -- A text read into a chunk turn by turn: a turn is a run of bytes that stand for themselves and the unit behind it; and the turns so far. Assumes nothing.
 use mathlib.Core.Path.{_≡_, refl, ap, ap₂, sym, _∙_}
 use mathlib.Core.Bool.{Bool, true, false, _&&_, not, false≢true}
-use mathlib.Core.Logic.{⊎-elim}
-use mathlib.Core.List.{List, [], _∷_, _++_, append-nil}
+use mathlib.Core.List.{List, [], _∷_, _++_}
 use Prim.Native.Nat.{ℕ, zero, suc, _+_, _-_, _≤_, _<_}
-use native.Mathlib.Nat.{le-of-eq, eq-or-lt-of-le, eq-zero-or-pos}
 use native.Mathlib.Numerals.{add-one}
 use native.Mathlib.Omega.{arith}
 use lib.Dec.{eqb}
-use lib.ListN.{length, take, drop, length-append, length-take, length-drop, drop-of-length-le, List·getD-eq-default}
-use lib.Seq.{length-take-le, take-add, take-append-le, take-append-add}
+use lib.ListN.{length, take, drop, length-append, length-take, length-drop}
+use lib.Seq.{length-take-le, take-add, take-append-le}
 use borrow.Author.Tests.{eqb-true, not-true}
 use Rattle.meaning.specs.Bytes.{if_then_else_, _!_, span, quote, backslash}
-use Rattle.meaning.specs.Walk.{Step, keep, Trace, ended, stopped, kept, gave, size, value}
+use Rattle.meaning.specs.Walk.{Step, keep}
 use Rattle.laws.proofs.basics.Tests.{and-left, and-right, eqb-sym}
 use Rattle.laws.proofs.basics.Lists.{part-tail}
 use Rattle.laws.proofs.walking.Fronts.{Front, front-none, front-more, front-kept, front-brief}
 use Rattle.laws.proofs.utf8.Abreast.{Abreast, abreast-same, abreast-more}
 use Rattle.leaves.proofs.RunSteps.{span-length, KeepsAll}
-use Rattle.cutting.specs.declared.marks.Mark.the-variants.{Quote, DoubleQuote}
 use Rattle.cutting.specs.Marks.{markOf}
 use Rattle.escapes.specs.declared.units.Family.{Family}
 use Rattle.escapes.specs.declared.units.Family.the-variants.{Standard, Escape, Unicode}

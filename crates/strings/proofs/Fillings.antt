@@ -1,23 +1,21 @@
 -- A body that is read on, chunk by chunk. Assumes nothing.
-use mathlib.Core.Path.{_≡_, refl, ap, ap₂, sym, _∙_, subst}
-use mathlib.Core.Bool.{Bool, true, false, _&&_}
+use mathlib.Core.Path.{_≡_, refl, ap, sym, _∙_, subst}
+use mathlib.Core.Bool.{true, _&&_}
 use mathlib.Core.List.{List, [], _∷_, _++_, append-assoc, append-nil}
 use Prim.Native.Nat.{ℕ, suc, _+_, _-_, _≤_, _<_}
-use native.Mathlib.Nat.{le-of-eq}
 use native.Mathlib.Omega.{arith}
 use lib.Dec.{eqb}
-use lib.ListN.{length, getD, take, drop, length-append, length-take, length-drop, drop-of-length-le}
-use lib.Seq.{take-add, take-append-le, take-append-add, length-take-le, getD-drop}
+use lib.ListN.{length, take, drop, length-drop}
+use lib.Seq.{take-add, length-take-le, getD-drop}
 use Rattle.meaning.specs.Bytes.{_!_, backslash}
 use Rattle.laws.proofs.basics.Lists.{part-tail}
-use Rattle.laws.proofs.walking.Fronts.{Front, front-none, front-more, front-brief}
+use Rattle.laws.proofs.walking.Fronts.{front-none, front-more, front-brief}
 use Rattle.laws.proofs.utf8.Abreast.{Abreast, abreast-same, abreast-more}
 use Rattle.laws.proofs.cutting.Fronted.{Lone}
 use Rattle.escapes.specs.declared.units.Family.{Family}
-use Rattle.escapes.specs.Families.{checks}
 use Rattle.escapes.proofs.Turns.{steady}
 use Rattle.strings.specs.declared.chunks.End.{End}
-use Rattle.strings.specs.declared.chunks.End.the-variants.{Closed, Full}
+use Rattle.strings.specs.declared.chunks.End.the-variants.{Full}
 use Rattle.strings.specs.declared.chunks.Part.{Part}
 use Rattle.strings.specs.declared.storing.Store.{Store}
 use Rattle.strings.specs.declared.storing.Body.{Body}

@@ -1,27 +1,25 @@
 -- What the quick reading answers, by what was read and stored. Assumes nothing.
 use mathlib.Core.Path.{_≡_, refl, ap, ap₂, sym, _∙_, subst}
 use mathlib.Core.Bool.{Bool, true, false, not, false≢true}
-use mathlib.Core.List.{List, [], _∷_, _++_, append-nil}
-use Prim.Native.Nat.{ℕ, zero, suc, _+_, _-_, _≤_, _<_}
-use native.Mathlib.Nat.{le-of-eq}
+use mathlib.Core.List.{List, [], _++_, append-nil}
+use Prim.Native.Nat.{ℕ, _+_, _-_, _≤_, _<_}
 use native.Mathlib.Omega.{arith}
-use borrow.Author.Tests.{not-false, le-leb, lt-leb}
-use lib.Dec.{leb}
-use lib.ListN.{length, take, drop, length-append, length-drop, take-append-drop, drop-of-length-le}
+use borrow.Author.Tests.{not-false, le-leb}
+use lib.ListN.{length, take, drop, length-append, length-drop, drop-of-length-le}
 use lib.Seq.{take-all, length-take-le, drop-at}
 use Rattle.meaning.specs.declared.Settings.{Settings}
 use Rattle.meaning.specs.declared.Read.{Read}
 use Rattle.meaning.specs.declared.Read.the-variants as Read′
 use Rattle.meaning.specs.Bytes.{if_then_else_}
 use Rattle.meaning.specs.Answers.{filled}
-use Rattle.meaning.specs.Reading.{Answer, borrowed, written, refused, read}
+use Rattle.meaning.specs.Reading.{Answer, borrowed, written, read}
 use Rattle.meaning.specs.Reads.{Reads, readOf}
 use Rattle.laws.proofs.questions.Owed.{reads-short, reads-written, reads-borrowed}
 use Rattle.leaves.specs.Puts.{Puts}
 use Rattle.strings.specs.declared.quick.Segment.{Segment}
 use Rattle.strings.specs.declared.quick.Quick.{Quick}
 use Rattle.strings.specs.declared.quick.Quick.the-variants as Quick′
-use Rattle.strings.specs.Storing.{Stored, Behind}
+use Rattle.strings.specs.Storing.{Behind}
 use Rattle.strings.specs.declared.reading.Checked.the-variants as Checked′
 use Rattle.strings.specs.Driving.{Checks, Drives, Counted, Counts, Rewrites, QuickBy, QuickReads}
 use Rattle.strings.proofs.Storages.{stored-empty}

@@ -2,16 +2,16 @@
 use mathlib.Core.Path.{_≡_, refl, ap, ap₂, sym, _∙_, subst}
 use mathlib.Core.Bool.{Bool, true, false, _||_, not, false≢true}
 use borrow.Author.Tests.{not-false}
-use mathlib.Core.List.{List, [], _∷_, _++_}
+use mathlib.Core.List.{List, _∷_}
 use Prim.Native.Nat.{ℕ, zero, suc, _+_, _-_, _≤_, _<_}
 use native.Mathlib.Omega.{arith}
 use lib.Dec.{eqb}
-use lib.ListN.{length, getD, take, drop, length-drop, take-append-drop}
+use lib.ListN.{length, take, drop, length-drop, take-append-drop}
 use lib.Seq.{drop-cons, drop-drop, getD-drop}
 use Rattle.meaning.specs.declared.Settings.{Settings}
 use Rattle.meaning.specs.Bytes.{if_then_else_, _!_, ascii, has, isMark, quote, backslash}
 use Rattle.meaning.specs.Chars.{utf8}
-use Rattle.meaning.specs.Steps.{gap, standardStep, escapeStep, unicodeStep}
+use Rattle.meaning.specs.Steps.{gap, standardStep}
 use Rattle.meaning.specs.Cutting.{opening}
 use Rattle.laws.proofs.basics.Lists.{part-tail}
 use Rattle.laws.proofs.basics.Tests.{or-right}
@@ -33,7 +33,7 @@ use Rattle.strings.specs.declared.storing.Store.{Store}
 use Rattle.strings.specs.declared.storing.Body.{Body}
 use Rattle.strings.specs.declared.quick.Segment.{Segment}
 use Rattle.strings.specs.Quick.{stepBy, markBy}
-use Rattle.strings.specs.Storing.{Reading, Reads-body}
+use Rattle.strings.specs.Storing.{Reads-body}
 use Rattle.strings.specs.declared.quick.Opened.{Opened}
 use Rattle.strings.specs.Driving.{familyBy, isBits, Opening, Opens, closedBy, Closes, SegmentRead, ReadsSegment}
 

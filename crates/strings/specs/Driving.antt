@@ -1,12 +1,10 @@
 -- What the quick reading says of a segment and of a text. Assumes nothing.
 use mathlib.Core.Path.{_≡_}
 use mathlib.Core.Bool.{Bool, true, false}
-use mathlib.Core.List.{List, [], _++_}
+use mathlib.Core.List.{List, _++_}
 use Prim.Native.Nat.{ℕ, suc, _+_, _-_, _≤_, _<_}
-use lib.Dec.{eqb}
 use lib.ListN.{length, take, drop}
 use Rattle.meaning.specs.declared.Settings.{Settings}
-use Rattle.meaning.specs.declared.Read.{Read}
 use Rattle.meaning.specs.Bytes.{if_then_else_, _!_, ascii, has}
 use Rattle.meaning.specs.Steps.{gap}
 use Rattle.meaning.specs.Cutting.{opening}

@@ -1,12 +1,12 @@
 -- What the quick reading owes, piece by piece: a front of the text behind an opening, and the bytes that it stands for. Nothing is said where it takes nothing:
 -- the reading by units answers there. Assumes nothing.
 use mathlib.Core.Path.{_≡_}
-use mathlib.Core.Bool.{Bool, true, false}
+use mathlib.Core.Bool.{true, false}
 use mathlib.Core.List.{List, [], _∷_}
-use Prim.Native.Nat.{ℕ, suc, _+_, _≤_, _<_}
-use lib.Dec.{eqb, ltb}
+use Prim.Native.Nat.{ℕ, _≤_, _<_}
+use lib.Dec.{ltb}
 use lib.ListN.{length, take, drop}
-use Rattle.meaning.specs.Bytes.{if_then_else_, _!_, span, quote, backslash}
+use Rattle.meaning.specs.Bytes.{if_then_else_, span, quote, backslash}
 use Rattle.meaning.specs.Chars.{encode}
 use Rattle.meaning.specs.Walk.{Step, give}
 use Rattle.meaning.specs.Steps.{byteOf, mysqlTable, mayEscape, lowHalf, escapeStep}
@@ -20,7 +20,7 @@ use Rattle.escapes.specs.Families.{stepOf, checks}
 use Rattle.strings.specs.declared.taking.Taken.{Taken}
 use Rattle.strings.specs.declared.taking.Raw.{Raw}
 use Rattle.strings.specs.declared.chunks.End.{End}
-use Rattle.strings.specs.declared.chunks.End.the-variants.{Closed, Full, Unread}
+use Rattle.strings.specs.declared.chunks.End.the-variants.{Closed, Full}
 use Rattle.strings.specs.declared.chunks.Part.{Part}
 use Rattle.strings.specs.declared.chunks.Turn.{Turn}
 use Rattle.leaves.specs.Words.{neither}
