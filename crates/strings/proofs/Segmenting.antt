@@ -159,30 +159,8 @@ pub next-room : (t : List ℕ) (f : ℕ) (b : Body) (g : ℕ) → (b .end ≡ Cl
     → f + b .at + 1 + g ≤ length t
 next-room t f b g h c e = omega (arith, h c, gap-fits (drop (f + b .at + 1) t), length-drop (f + b .at + 1) t)
 
-pub closes-one : (t : List ℕ) (f : ℕ) (b : Body) (g : ℕ) → b .end ≡ Closed → g ≡ gap (drop (f + b .at + 1) t)
-    → Closes t f b (record {
-      read = true;
-      from = f;
-      end = f + b .at + 1;
-      next = f + b .at + 1 + g;
-      plain = b .plain;
-      total = b .total;
-      n = b .n;
-    })
-closes-one t f b g e eg = record {
-  closed = λ h. (
-    e,
-    ap (λ (y : ℕ). record {
-      read = true;
-      from = f;
-      end = f + b .at + 1;
-      next = f + b .at + 1 + y;
-      plain = b .plain;
-      total = b .total;
-      n = b .n;
-    }) eg,
-  );
-}
+pub closes-one : (t : List ℕ) (f : ℕ) (b : Body) (g : ℕ) → b .end ≡ Closed → g ≡ gap (drop (f + b .at + 1) t) → Closes t f b (closedBy f b g)
+closes-one t f b g e eg = record { closed = λ h. (e, ap (closedBy f b) eg) }
 
 pub closes-none : (t : List ℕ) (f : ℕ) (b : Body) (r : Segment) → r .read ≡ false → Closes t f b r
 closes-none t f b r e = record { closed = λ h. absurd (false≢true (sym e ∙ h)) }
@@ -223,7 +201,7 @@ module _ (σ : Settings) (t : List ℕ) (at : ℕ) (s : Store) (chunk out : List
       reads = λ e. subst (λ (y : Segment). SegmentRead σ t at s chunk out y chunk′ out′) (sym (c .closed e .1)) (read (c .closed e .0));
     }
       where
-        read : b .end ≡ Closed → SegmentRead σ t at s chunk out (closedBy t (op .from) b) chunk′ out′
+        read : b .end ≡ Closed → SegmentRead σ t at s chunk out (closedBy (op .from) b (gap (drop (op .from + b .at + 1) t))) chunk′ out′
         read closed =
             let l = r .closed closed in
             let gp = gap-fits (drop (op .from + b .at + 1) t) in

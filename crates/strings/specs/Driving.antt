@@ -48,20 +48,12 @@ pub record Opening (σ : Settings) (t : List ℕ) (at : ℕ) (r : Opened) : Type
 pub record Opens (σ : Settings) (t : List ℕ) (at : ℕ) (r : Opened) : Type 0 where
   pub opens : r .known ≡ true → Opening σ t at r
 
--- a segment whose body was read from a place on
-abbrev pub closedBy : List ℕ → ℕ → Body → Segment
-closedBy t f b = record {
-  read = true;
-  from = f;
-  end = f + b .at + 1;
-  next = f + b .at + 1 + gap (drop (f + b .at + 1) t);
-  plain = b .plain;
-  total = b .total;
-  n = b .n;
-}
+-- a segment whose body was read from a place on, with the white space behind it
+abbrev pub closedBy : ℕ → Body → ℕ → Segment
+closedBy f b g = record { read = true; from = f; end = f + b .at + 1; next = f + b .at + 1 + g; plain = b .plain; total = b .total; n = b .n }
 
 pub record Closes (t : List ℕ) (f : ℕ) (b : Body) (r : Segment) : Type 0 where
-  pub closed : r .read ≡ true → (b .end ≡ Closed) × (r ≡ closedBy t f b)
+  pub closed : r .read ≡ true → (b .end ≡ Closed) × (r ≡ closedBy f b (gap (drop (f + b .at + 1) t)))
 
 -- a segment that was read, from what was stored before it: its value is v
 pub record SegmentRead (σ : Settings) (t : List ℕ) (at : ℕ) (s : Store) (chunk out : List ℕ) (r : Segment) (chunk′ out′ : List ℕ) : Type 0 where
