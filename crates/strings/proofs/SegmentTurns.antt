@@ -56,12 +56,12 @@ none-before (b ∷ w) v e = absurd (omega arith)
 
 module _ {σ : Settings} {t d : List ℕ} {at : ℕ} {s : Store} {chunk out : List ℕ} (i : Going σ t d at s chunk out)
     (g : Segment) (chunk′ out′ : List ℕ) (x : ReadsSegment σ t at s chunk out g chunk′ out′) where
-  drives : (q : Segment) → (q .read ≡ true → DrivenBy σ t d q chunk′ out′) → Drives σ t d q chunk′ out′
-  drives q r = record { out-same = x .out-same ∙ i .stored .same; chunk-same = x .chunk-same ∙ i .size; reads = r }
+  drives : {q : Segment} → (q .read ≡ true → DrivenBy σ t d q chunk′ out′) → Drives σ t d q chunk′ out′
+  drives r = record { out-same = x .out-same ∙ i .stored .same; chunk-same = x .chunk-same ∙ i .size; reads = r }
 
   -- several, of which the second does not begin with a mark
   pub drives-not : Drives σ t d (record { read = false; from = g .from; end = g .end; next = g .next; plain = g .plain; total = g .total; n = g .n }) chunk′ out′
-  drives-not = drives (record { read = false; from = g .from; end = g .end; next = g .next; plain = g .plain; total = g .total; n = g .n }) (λ h. absurd (false≢true h))
+  drives-not = drives (λ h. absurd (false≢true h))
 
   module _ (rd : g .read ≡ true) where
     abbrev y : SegmentRead σ t at s chunk out g chunk′ out′
@@ -94,7 +94,7 @@ module _ {σ : Settings} {t d : List ℕ} {at : ℕ} {s : Store} {chunk out : Li
 
   -- nothing, or one segment that is all of the text
   pub drives-first : (not (g .read) || (eqb at 0 && eqb (g .end) (length t))) ≡ true → Drives σ t d g chunk′ out′
-  drives-first e = drives g (λ h. alone h (rw h at e))
+  drives-first e = drives (λ h. alone h (rw h at e))
 
   module _ (f : (not (g .read) || (eqb at 0 && eqb (g .end) (length t))) ≡ false) where
     rd : g .read ≡ true
@@ -120,8 +120,7 @@ module _ {σ : Settings} {t d : List ℕ} {at : ℕ} {s : Store} {chunk out : Li
       pub drives-joined : length t ≤ g .next
           → Drives σ t d (record { read = g .read; from = g .from; end = g .end; next = g .next; plain = false; total = g .total; n = g .n }) chunk′ out′
       drives-joined l =
-          drives (record { read = g .read; from = g .from; end = g .end; next = g .next; plain = false; total = g .total; n = g .n })
-          (λ h. let y = x .reads h in
+          drives (λ h. let y = x .reads h in
           record { w = i .w ++ y .v; reads = walked-end (walked h) joins l; stored = stored h; sum = omega (arith, y .sum, y .inside); some = omega (arith, y .goes, y .inside) })
 
       pub going-more : Going σ t d (g .next) (record { total = g .total; n = g .n }) chunk′ out′

@@ -6,11 +6,4 @@ use Rattle.strings.proofs.chunks.end_at.Tie as tie
 
 pub end-at-spec : {M : Type 1} → statement M
 end-at-spec =
-    tie.close
-    (tie.spec
-    (λ c. search ends-unread)
-    (λ c. search needs)
-    (λ c. search needs)
-    (λ c κs. search needs)
-    (λ c. search ends-closed)
-    (λ c. search ends-unread))
+    tie.close (tie.spec (λ c. search ends-unread) (λ c. search needs) (λ c. search needs) (λ c κs. search needs) (λ c. search ends-closed) (λ c. search ends-unread))
