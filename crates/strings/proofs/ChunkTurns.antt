@@ -9,13 +9,15 @@ use lib.Dec.{eqb}
 use lib.ListN.{length, take, drop, length-append, length-take, length-drop}
 use lib.Seq.{length-take-le, take-add, take-append-le}
 use borrow.Author.Tests.{eqb-true, not-true}
-use Rattle.meaning.specs.Bytes.{if_then_else_, _!_, span, quote, backslash}
+use Rattle.meaning.specs.Bytes.{_!_, quote, backslash}
 use Rattle.meaning.specs.Walk.{Step, keep}
 use Rattle.laws.proofs.basics.Tests.{and-left, and-right, eqb-sym}
 use Rattle.laws.proofs.basics.Lists.{part-tail}
 use Rattle.laws.proofs.walking.Fronts.{Front, front-none, front-more, front-kept, front-brief}
 use Rattle.laws.proofs.utf8.Abreast.{Abreast, abreast-same, abreast-more}
-use Rattle.leaves.proofs.RunSteps.{span-length, KeepsAll}
+use Rattle.leaves.specs.Blocks.{passes}
+use Rattle.leaves.proofs.RunSteps.{KeepsAll}
+use Rattle.leaves.proofs.Scans.{passes-inside}
 use Rattle.cutting.specs.Marks.{markOf}
 use Rattle.escapes.specs.declared.units.Family.{Family}
 use Rattle.escapes.specs.declared.units.Family.the-variants.{Standard, Escape, Unicode}
@@ -45,23 +47,17 @@ keeps (Standard m false) b t h = rw (not-mark (markOf m) (markOf m) b h)
 keeps Escape b t h = rw (not-other quote backslash b h, not-mark quote backslash b h)
 keeps (Unicode m) b t h = rw (not-mark (markOf m) backslash b h, eqb-sym backslash b ∙ not-other (markOf m) backslash b h)
 
-keep-each : (p : ℕ → Bool) (step : List ℕ → Step) → KeepsAll p step → (l : List ℕ) (j : ℕ) → j < span p l → step (drop j l) ≡ keep
-keep-each p step k [] j h = absurd (omega arith)
-keep-each p step k (b ∷ t) j h = go (p b) refl j h (keep-each p step k t)
-  where
-    go : (x : Bool) → p b ≡ x → (j : ℕ) → j < (if x then suc (span p t) else 0) → ((i : ℕ) → i < span p t → step (drop i t) ≡ keep) → step (drop j (b ∷ t)) ≡ keep
-    go true e zero h ih = k b t e
-    go true e (suc j) h ih = ih j (omega arith)
-    go false e j h ih = absurd (omega arith)
+keep-each : (p : ℕ → Bool) (step : List ℕ → Step) → KeepsAll p step → (r : ℕ) (l : List ℕ) → passes p r l ≡ true → (j : ℕ) → j < r → step (drop j l) ≡ keep
+keep-each p step k zero l e j h = absurd (omega arith)
+keep-each p step k (suc r) [] e j h = absurd (false≢true e)
+keep-each p step k (suc r) (b ∷ t) e zero h = k b t (and-left (p b) (passes p r t) e)
+keep-each p step k (suc r) (b ∷ t) e (suc j) h = keep-each p step k r t (and-right (p b) (passes p r t) e) j (omega arith)
 
-run-front : (f : Family) (t : List ℕ) (r : ℕ) → r ≤ span (neither (markBy f) (otherBy f)) t → Front (stepBy f) t r (take r t) true
+run-front : (f : Family) (t : List ℕ) (r : ℕ) → passes (neither (markBy f) (otherBy f)) r t ≡ true → Front (stepBy f) t r (take r t) true
 run-front f t r h =
     let p = neither (markBy f) (otherBy f) in
     front-kept (stepBy f) t r
-    (record {
-      room = omega (arith, span-length p t);
-      each = λ j q. let z : 0 + j ≡ j = omega arith in rw z (keep-each p (stepBy f) (keeps f) t j (omega arith));
-    })
+    (record { room = omega (arith, passes-inside p r t h); each = λ j q. let z : 0 + j ≡ j = omega arith in rw z (keep-each p (stepBy f) (keeps f) r t h j q) })
 
 -- A TURN: the run is copied, into a buffer that held d
 module _ (f : Family) (text d : List ℕ) (run : ℕ) (out : List ℕ) (c : Copies (markBy f) (otherBy f) text d run out) where

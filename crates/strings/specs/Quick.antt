@@ -6,7 +6,7 @@ use mathlib.Core.List.{List, [], _∷_}
 use Prim.Native.Nat.{ℕ, _≤_, _<_}
 use lib.Dec.{ltb}
 use lib.ListN.{length, take, drop}
-use Rattle.meaning.specs.Bytes.{if_then_else_, span, quote, backslash}
+use Rattle.meaning.specs.Bytes.{if_then_else_, quote, backslash}
 use Rattle.meaning.specs.Chars.{encode}
 use Rattle.meaning.specs.Walk.{Step, give}
 use Rattle.meaning.specs.Steps.{byteOf, mysqlTable, mayEscape, lowHalf, escapeStep}
@@ -23,6 +23,7 @@ use Rattle.strings.specs.declared.chunks.End.{End}
 use Rattle.strings.specs.declared.chunks.End.the-variants.{Closed, Full}
 use Rattle.strings.specs.declared.chunks.Part.{Part}
 use Rattle.strings.specs.declared.chunks.Turn.{Turn}
+use Rattle.leaves.specs.Blocks.{passes}
 use Rattle.leaves.specs.Words.{neither}
 
 -- U& is read with the backslash: a text with a UESCAPE clause is not read here
@@ -74,7 +75,7 @@ pub record Raws (text : List ℕ) (r : Raw) : Type 0 where
 pub record Copies (first second : ℕ) (text out : List ℕ) (r : ℕ) (after : List ℕ) : Type 0 where
   pub same : length after ≡ length out
   pub most : r ≤ 16
-  pub free : r ≤ span (neither first second) text
+  pub free : passes (neither first second) r text ≡ true
   pub copied : take r after ≡ take r text
 
 -- TURNS
