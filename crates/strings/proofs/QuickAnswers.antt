@@ -21,7 +21,7 @@ use Rattle.strings.specs.declared.quick.Quick.{Quick}
 use Rattle.strings.specs.declared.quick.Quick.the-variants as Quick′
 use Rattle.strings.specs.Storing.{Behind}
 use Rattle.strings.specs.declared.reading.Checked.the-variants as Checked′
-use Rattle.strings.specs.Driving.{Checks, Drives, Counted, Counts, Rewrites, QuickBy, QuickReads}
+use Rattle.strings.specs.Driving.{Checks, DrivenBy, Drives, Rewrites, QuickBy, QuickReads}
 use Rattle.strings.proofs.Storages.{stored-empty}
 
 -- two answers that are written have one value
@@ -54,33 +54,19 @@ module _ (σ : Settings) (t out : List ℕ) (q : Segment) (chunk′ out′ : Lis
           s .laid n ∙ ap (take (q .total + q .n) (r .w) ++_) rest ∙ append-nil (take (q .total + q .n) (r .w))
           ∙ take-all (q .total + q .n) (r .w) (omega (arith, c)) ∙ w
 
--- COUNTED
-pub counts : (σ : Settings) (t d : List ℕ) (q : Segment) (chunk′ out′ : List ℕ) → Drives σ t d q chunk′ out′ → Counts σ t q chunk′
-counts σ t d q chunk′ out′ x = record {
-  size = x .chunk-same;
-  reads = λ e.
-      let r = x .reads e in
-      record {
-        w = r .w;
-        reads = r .reads;
-        count = r .stored .count;
-        held = λ z. ap (λ (i : ℕ). drop i (r .w)) (sym z) ∙ r .stored .held;
-        few = again-few σ t d q chunk′ out′ x e;
-        sum = r .sum;
-        some = r .some;
-      };
-}
-
 -- ANSWERS
-module _ (σ : Settings) (t : List ℕ) (q : Segment) (chunk : List ℕ) (c : Counts σ t q chunk) (e : not (q .read) ≡ false) where
-  k : Counted σ t q chunk
+module _ (σ : Settings) (t d : List ℕ) (q : Segment) (chunk none : List ℕ) (c : Drives σ t d q chunk none) (e : not (q .read) ≡ false) where
+  k : DrivenBy σ t d q chunk none
   k = c .reads (not-false (q .read) e)
+
+  count : length (k .w) ≡ q .total + q .n
+  count = k .stored .count
 
   pub counted-some : 1 ≤ length t
   counted-some = k .some
 
   pub counted-held : q .total ≡ 0 → q .total + q .n ≤ length chunk
-  counted-held z = omega (arith, z, k .few)
+  counted-held z = omega (arith, z, again-few σ t d q chunk none c (not-false (q .read) e))
 
   pub counted-fits : q .total + q .n ≤ length t
   counted-fits = k .sum
@@ -96,22 +82,22 @@ module _ (σ : Settings) (t : List ℕ) (q : Segment) (chunk : List ℕ) (c : Co
     value = told false p
 
     pub quick-lacks : (out : List ℕ) → length out < q .total + q .n → QuickReads (read σ t) out (Quick′.Answer (Read′.NoRoom (q .total + q .n))) out
-    quick-lacks out h = record { by = reads-short (read σ t) (k .w) out (q .total + q .n) value (k .count) h }
+    quick-lacks out h = record { by = reads-short (read σ t) (k .w) out (q .total + q .n) value (count) h }
 
     module _ (out : List ℕ) (h : q .total + q .n ≤ length out) where
       -- the value stands at the buffer's start
       done : (after : List ℕ) → after ≡ k .w ++ drop (length (k .w)) out → QuickReads (read σ t) out (Quick′.Answer (Read′.Written (q .total + q .n))) after
-      done after l = record { by = reads-written (read σ t) (k .w) out after (q .total + q .n) value (k .count) h l }
+      done after l = record { by = reads-written (read σ t) (k .w) out after (q .total + q .n) value (count) h l }
 
       holds : (o : List ℕ) → length o ≡ length out → filled (k .w) o ≡ k .w ++ drop (length (k .w)) o
       unfolding filled
-      holds o e = rw (le-leb (length (k .w)) (length o) (omega (arith, k .count)))
+      holds o e = rw (le-leb (length (k .w)) (length o) (omega (arith, count)))
 
       pub quick-put : q .total ≡ 0 → (i : ℕ) (after : List ℕ) → Puts (take (q .total + q .n) chunk) out i after
           → QuickReads (read σ t) out (Quick′.Answer (Read′.Written (q .total + q .n))) after
       quick-put z i after b =
           let n : q .total + q .n ≡ q .n = omega (arith, z) in
-          let w : take (q .total + q .n) chunk ≡ k .w = ap (λ (j : ℕ). take j chunk) n ∙ sym (k .held z) in
+          let w : take (q .total + q .n) chunk ≡ k .w = ap (λ (j : ℕ). take j chunk) n ∙ sym (ap (λ (j : ℕ). drop j (k .w)) (sym z) ∙ k .stored .held) in
           done after (b .buffer ∙ ap (λ (y : List ℕ). filled y out) w ∙ holds out refl)
 
       module _ (x : Bool) (after : List ℕ) (b : Rewrites σ t (take (q .total + q .n) out) x after) where
@@ -123,13 +109,13 @@ module _ (σ : Settings) (t : List ℕ) (q : Segment) (chunk : List ℕ) (c : Co
 
         pub quick-again : x ≡ true → QuickReads (read σ t) out (Quick′.Answer (Read′.Written (q .total + q .n))) whole
         quick-again y =
-            done whole (ap₂ (λ (x : List ℕ) (j : ℕ). x ++ drop j out) (b .done y (k .w) value (k .count ∙ sym size)) (sym (k .count)))
+            done whole (ap₂ (λ (x : List ℕ) (j : ℕ). x ++ drop j out) (b .done y (k .w) value (count ∙ sym size)) (sym (count)))
 
         pub quick-left : QuickReads (read σ t) out Quick′.Unread whole
         quick-left =
             let n : length after ≡ q .total + q .n = b .same ∙ size in
             let same : length whole ≡ length out = length-append after (drop (q .total + q .n) out) ∙ omega (arith, n, length-drop (q .total + q .n) out, h) in
-            let rest : drop (length (k .w)) whole ≡ drop (length (k .w)) out = rw (k .count) (drop-at after (drop (q .total + q .n) out) (q .total + q .n) n) in
+            let rest : drop (length (k .w)) whole ≡ drop (length (k .w)) out = rw (count) (drop-at after (drop (q .total + q .n) out) (q .total + q .n) n) in
             record { by = (same, rw value (holds whole same ∙ ap (k .w ++_) rest ∙ sym (holds out refl))) }
 
 -- WITH AN ANSWER it is the definition's

@@ -3,7 +3,7 @@ use mathlib.Core.Path.{_≡_}
 use mathlib.Core.Bool.{Bool, true, false}
 use mathlib.Core.List.{List, _++_}
 use Prim.Native.Nat.{ℕ, suc, _+_, _-_, _≤_, _<_}
-use lib.ListN.{length, take, drop}
+use lib.ListN.{length, drop}
 use Rattle.meaning.specs.declared.Settings.{Settings}
 use Rattle.meaning.specs.Bytes.{if_then_else_, _!_, ascii, has}
 use Rattle.meaning.specs.Steps.{gap}
@@ -87,20 +87,6 @@ pub record Drives (σ : Settings) (t d : List ℕ) (r : Segment) (chunk′ out�
   pub out-same : length out′ ≡ length d
   pub chunk-same : length chunk′ ≡ 272
   pub reads : r .read ≡ true → DrivenBy σ t d r chunk′ out′
-
--- the same, of which only the chunk is left
-pub record Counted (σ : Settings) (t : List ℕ) (r : Segment) (chunk : List ℕ) : Type 0 where
-  pub w : List ℕ
-  pub reads : read σ t ≡ (if r .plain then borrowed (r .from) (length t - 1) else written w)
-  pub count : length w ≡ r .total + r .n
-  pub held : r .total ≡ 0 → w ≡ take (r .n) chunk
-  pub few : r .n ≤ length chunk
-  pub sum : r .total + r .n ≤ length t
-  pub some : 1 ≤ length t
-
-pub record Counts (σ : Settings) (t : List ℕ) (r : Segment) (chunk : List ℕ) : Type 0 where
-  pub size : length chunk ≡ 272
-  pub reads : r .read ≡ true → Counted σ t r chunk
 
 -- a value that is written by a second walk, into a buffer of just its length
 pub record Rewrites (σ : Settings) (t out : List ℕ) (r : Bool) (after : List ℕ) : Type 0 where

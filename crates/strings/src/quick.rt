@@ -23,7 +23,7 @@ ghost use Rattle.meaning.specs.Chars.{utf8};
 ghost use Rattle.meaning.specs.Reading.{read};
 ghost use Rattle.cutting.specs.Marks.{markOf};
 ghost use Rattle.strings.specs.declared.chunks.End.the-variants.{Closed};
-ghost use Rattle.strings.specs.Driving.{familyBy, isBits, Opens, Closes, ReadsSegment, Drives, Counts, Rewrites, QuickReads};
+ghost use Rattle.strings.specs.Driving.{familyBy, isBits, Opens, Closes, ReadsSegment, Drives, Rewrites, QuickReads};
 
 // An answer, or none.
 pub(crate) enum Quick {
@@ -203,15 +203,6 @@ fn drive(text: &[u8], settings: Settings, chunk: &mut [u8], out: &mut [u8]) -> S
     }
 }
 
-// Reads a text into the chunk alone: what fills it up is counted and lost.
-fn count(text: &[u8], settings: Settings, chunk: &mut [u8]) -> Segment
-    requires { ⌜ (has 0 (now text) ≡ false) × (utf8 (now text) ≡ true) × (length (now chunk) ≡ 272) ⌝ }
-    ensures { λ r. ⌜ Counts settings (now (text .entry)) r (now (chunk .exit)) ⌝ }
-{
-    let mut nowhere = [0u8; 1];
-    drive(text, settings, chunk, &mut nowhere)
-}
-
 // Writes by a second walk what a first has counted.
 fn write_again(text: &[u8], settings: Settings, chunk: &mut [u8], out: &mut [u8]) -> bool
     requires { ⌜ (has 0 (now text) ≡ false) × (utf8 (now text) ≡ true) × (length (now chunk) ≡ 272) ⌝ }
@@ -225,14 +216,15 @@ fn write_again(text: &[u8], settings: Settings, chunk: &mut [u8], out: &mut [u8]
     driven.read
 }
 
-// Reads a text that is UTF-8 and holds no NUL, if it can be read so. The buffer is touched once all is known: what never filled the chunk is copied out of it, anything else is
-// walked again and written. That the second walk reads what the first has read need not be shown: if it did not, the reading by units would write the same.
+// Reads a text that is UTF-8 and holds no NUL, if it can be read so. The buffer is touched once all is known: a first walk only counts what fills the chunk up. What
+// never filled it is copied out of it, anything else is walked again and written. That the second walk reads what the first has read need not be shown: if it did not, the reading by units would write the same.
 pub(crate) fn read_quick(text: &[u8], settings: Settings, out: &mut [u8]) -> Quick
     requires { ⌜ (has 0 (now text) ≡ false) × (utf8 (now text) ≡ true) ⌝ }
     ensures { λ r. ⌜ QuickReads (read settings (now (text .entry))) (now (out .entry)) r (now (out .exit)) ⌝ }
 {
     let mut chunk = [0u8; 272];
-    let driven = count(text, settings, &mut chunk);
+    let mut nowhere = [0u8; 1];
+    let driven = drive(text, settings, &mut chunk, &mut nowhere);
     if !driven.read {
         return Quick::Unread;
     }
