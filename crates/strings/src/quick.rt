@@ -82,6 +82,7 @@ fn family_of(first: u8, mark: Mark, settings: Settings) -> Family
 }
 
 // What opens a segment at a place, if it is one of a string: most are opened by a quote mark alone.
+// Rules out: such a segment read with the setting on (must-fail: quote_with_the_setting_on).
 fn open_segment(text: &[u8], at: usize, settings: Settings) -> Opened
     requires { ⌜ at ≤ length (now text) ⌝ }
     ensures { λ r. ⌜ Opens settings (now (text .entry)) at r ⌝ }
