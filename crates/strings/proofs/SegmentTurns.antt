@@ -7,10 +7,10 @@ use Prim.Native.Nat.{ℕ, _+_, _-_, _≤_, _<_}
 use native.Mathlib.Omega.{arith}
 use lib.Dec.{eqb}
 use lib.ListN.{length, take, drop}
-use lib.Seq.{take-all, drop-drop, getD-drop}
+use lib.Seq.{take-all}
 use Rattle.meaning.specs.declared.Settings.{Settings}
 use Rattle.meaning.specs.Bytes.{if_then_else_, _!_, isMark}
-use Rattle.meaning.specs.Steps.{gap, trim}
+use Rattle.meaning.specs.Steps.{trim}
 use Rattle.meaning.specs.Cutting.{continues}
 use Rattle.meaning.specs.Reading.{borrowed, written, one}
 use Rattle.laws.proofs.basics.Tests.{and-left, and-right, or-left}
@@ -19,6 +19,7 @@ use Rattle.laws.proofs.joining.Walked.{Walked, walked-none, walked-more, walked
 use Rattle.strings.specs.declared.storing.Store.{Store}
 use Rattle.strings.specs.declared.quick.Segment.{Segment}
 use Rattle.strings.specs.Storing.{Stored}
+use Rattle.strings.proofs.Cuts.{behind-gap}
 use Rattle.strings.specs.Driving.{SegmentRead, ReadsSegment, DrivenBy, Drives}
 
 -- where the loop stands: the segments before a place mean w, which is stored; behind the first the text is joined
@@ -43,12 +44,6 @@ going-none σ t d chunk h = record {
   sum = omega arith;
   joins = λ n. absurd (n refl);
 }
-
--- the byte behind a gap
-behind-gap : (t : List ℕ) (i : ℕ) → t ! (i + gap (drop i t)) ≡ trim (drop i t) ! 0
-behind-gap t i =
-    let z : i + gap (drop i t) + 0 ≡ i + gap (drop i t) = omega arith in
-    ap (t !_) (sym z) ∙ sym (getD-drop (i + gap (drop i t)) t 0 0) ∙ ap (_! 0) (sym (drop-drop (gap (drop i t)) i t))
 
 none-before : (w v : List ℕ) → length w ≡ 0 → w ++ v ≡ v
 none-before [] v e = refl

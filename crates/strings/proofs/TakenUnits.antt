@@ -297,18 +297,27 @@ may-scalar : (v : ℕ) → mayEscape v ≡ true → isScalar v ≡ true
 unfolding mayEscape
 may-scalar v h = and-right (ltb 0 v) (isScalar v) h
 
--- w digits follow the letter c
-pub escape-scalar : (w c : ℕ) (text : List ℕ) (b v : ℕ) (r : Taken) → b ≡ text ! 0 → c ≡ text ! 1 → b ≡ 92 → 0 < c → c < 0x80
-    → escaped (c ∷ drop 2 text) ≡ scalarBy w (suc w) (drop 2 text) → v ≡ hexBy w (drop 2 text) → Scalars (suc (suc w)) v r → Takes Escape text r
-escape-scalar w c text b v r eb ec e92 o l s ev k =
-    let n : 92 ∷ c ∷ drop 2 text ≡ text = second text 92 c (sym e92 ∙ eb) ec o in
-    let st : 0 < r .len → escaped (c ∷ drop 2 text) ≡ give (suc w) (take (r .put) (r .bytes)) =
-    λ h. s ∙ scalar-by w (suc w) (drop 2 text) ∙ ap (scalarOf (suc w)) (sym ev) ∙ scalar-step (suc w) k h in
+-- w digits follow the letter l
+pub escape-scalar : (w l : ℕ) → 0 < l → l < 0x80 → ((t : List ℕ) → escaped (l ∷ t) ≡ scalarBy w (suc w) t) → (text : List ℕ) (b c v : ℕ) (r : Taken)
+    → b ≡ text ! 0 → c ≡ text ! 1 → (eqb b 92 && eqb c l) ≡ true → v ≡ hexBy w (drop 2 text) → Scalars (suc (suc w)) v r → Takes Escape text r
+escape-scalar w l o low s text b c v r eb ec h ev k =
+    let n : 92 ∷ l ∷ drop 2 text ≡ text = second text 92 l (sym (eqb-true b 92 (and-left (eqb b 92) (eqb c l) h)) ∙ eb)
+    (sym (eqb-true c l (and-right (eqb b 92) (eqb c l) h)) ∙ ec) o in
+    let st : 0 < r .len → escaped (l ∷ drop 2 text) ≡ give (suc w) (take (r .put) (r .bytes)) =
+    λ h. s (drop 2 text) ∙ scalar-by w (suc w) (drop 2 text) ∙ ap (scalarOf (suc w)) (sym ev) ∙ scalar-step (suc w) k h in
     subst (λ (t : List ℕ). Takes Escape t r) n
-    (takes-unit Escape 92 (c ∷ drop 2 text) (suc w) r (k .few) (k .four) (k .long) st
-    (λ h _. abreast-whole 92 (take (suc w) (c ∷ drop 2 text)) (take (r .put) (r .bytes))
-    (unit-low c (drop 2 text) l (suc w) (take (r .put) (r .bytes)) (st h))
+    (takes-unit Escape 92 (l ∷ drop 2 text) (suc w) r (k .few) (k .four) (k .long) st
+    (λ h _. abreast-whole 92 (take (suc w) (l ∷ drop 2 text)) (take (r .put) (r .bytes))
+    (unit-low l (drop 2 text) low (suc w) (take (r .put) (r .bytes)) (st h))
     (rw (k .put h) (encode-utf8 v (may-scalar v (k .may h))))))
+
+pub escape-four : (t : List ℕ) → escaped (117 ∷ t) ≡ scalarBy 4 5 t
+unfolding digit within
+escape-four t = refl
+
+pub escape-eight : (t : List ℕ) → escaped (85 ∷ t) ≡ scalarBy 8 9 t
+unfolding digit within
+escape-eight t = refl
 
 -- a letter is itself, or it and its byte are ASCII
 letter-kind : (c : ℕ) → (letterOf c ≡ c) ⊎ ((0 < letterOf c) × (letterOf c < 0x80) × (c < 0x80))
@@ -373,20 +382,6 @@ escape-takes text b c x v r eb ec m u w ex d ev er =
     (subst (Takes Escape (b ∷ c ∷ drop 2 text)) (sym er)
     (takes-unit Escape b (c ∷ drop 2 text) 1 (record { len = 2; put = 1; bytes = v ∷ 0 ∷ 0 ∷ 0 ∷ [] }) (omega arith) refl (λ _. refl)
     (λ _. k .step) (λ _ _. k .abreast)))
-
-pub escape-four : (text : List ℕ) (b c v : ℕ) (r : Taken) → b ≡ text ! 0 → c ≡ text ! 1 → (eqb b 92 && eqb c 117) ≡ true
-    → v ≡ hexBy 4 (drop 2 text) → Scalars 6 v r → Takes Escape text r
-unfolding digit within
-escape-four text b c v r eb ec h ev k =
-    let e = eqb-true c 117 (and-right (eqb b 92) (eqb c 117) h) in
-    escape-scalar 4 c text b v r eb ec (eqb-true b 92 (and-left (eqb b 92) (eqb c 117) h)) (omega arith) (omega arith) (rw e) ev k
-
-pub escape-eight : (text : List ℕ) (b c v : ℕ) (r : Taken) → b ≡ text ! 0 → c ≡ text ! 1 → (eqb b 92 && eqb c 85) ≡ true
-    → v ≡ hexBy 8 (drop 2 text) → Scalars 10 v r → Takes Escape text r
-unfolding digit within
-escape-eight text b c v r eb ec h ev k =
-    let e = eqb-true c 85 (and-right (eqb b 92) (eqb c 85) h) in
-    escape-scalar 8 c text b v r eb ec (eqb-true b 92 (and-left (eqb b 92) (eqb c 85) h)) (omega arith) (omega arith) (rw e) ev k
 
 -- U&
 unicode-two : (q b : ℕ) (t : List ℕ) → (eqb b 92 || eqb b q) ≡ true → unicodeStep (92 ∷ []) q (b ∷ b ∷ t) ≡ give 1 (b ∷ [])
