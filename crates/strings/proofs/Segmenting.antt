@@ -47,7 +47,7 @@ other-letter b e x u =
     has-append b (ascii "Ee") (ascii "BbXxUu") ∙ ap₂ (λ (p q : Bool). p || q) e (has-append b (ascii "BbXx") (ascii "Uu") ∙ ap₂ (λ (p q : Bool). p || q) x u)
 
 module _ (σ : Settings) (t : List ℕ) (at n k : ℕ) (v : List ℕ) (p : Bool) (m : Mark) (z : has 0 t ≡ false) (u8 : utf8 t ≡ true) (h : at ≤ length t)
-    (o : opening (drop at t) ≡ suc n) (bits : isBits (t ! at) ≡ false) (is : isMark (t ! (at + n)) ≡ true → markOf m ≡ t ! (at + n)) where
+    (o : opening (drop at t) ≡ suc n) (bits : isBits (t ! at) ≡ false) (is : markOf m ≡ t ! (at + n)) where
   abbrev u : List ℕ
   u = drop at t
 
@@ -58,7 +58,7 @@ module _ (σ : Settings) (t : List ℕ) (at n k : ℕ) (v : List ℕ) (p : Bool)
   mark-place = getD-drop at t n 0
 
   mark-is : markOf m ≡ u ! n
-  mark-is = is (ap isMark (sym mark-place) ∙ opening-mark u n o) ∙ sym mark-place
+  mark-is = is ∙ sym mark-place
 
   rest : drop (suc n) u ≡ drop (suc (at + n)) t
   rest = let e : at + suc n ≡ suc (at + n) = omega arith in drop-drop (suc n) at t ∙ ap (λ (i : ℕ). drop i t) e
@@ -66,7 +66,7 @@ module _ (σ : Settings) (t : List ℕ) (at n k : ℕ) (v : List ℕ) (p : Bool)
   behind : {q : ℕ} → u ! n ≡ q → Lone (drop (suc n) u) k q → Lone (drop (suc n) u) k (u ! n)
   behind e l = subst (λ (x : ℕ). Lone (drop (suc n) u) k x) (sym e) l
 
-  pub segmented-by : Front (stepBy (familyBy σ (t ! at) m)) (drop (suc n) u) k v p → (checks-e : has (t ! at) (ascii "Ee") ≡ true → Abreast (take k (drop (suc n) u)) v)
+  segmented-by : Front (stepBy (familyBy σ (t ! at) m)) (drop (suc n) u) k v p → (checks (familyBy σ (t ! at) m) ≡ true → Abreast (take k (drop (suc n) u)) v)
       → Lone (drop (suc n) u) k (markBy (familyBy σ (t ! at) m)) → Segmented σ u (suc n) k v p
   segmented-by f a l = go (has (t ! at) (ascii "Ee")) (has (t ! at) (ascii "Uu")) refl refl f l
     where
@@ -80,7 +80,7 @@ module _ (σ : Settings) (t : List ℕ) (at n k : ℕ) (v : List ℕ) (p : Bool)
           let i : at + n < length t = omega (arith, l .inside, length-drop (suc n) u, length-drop at t) in
           let w : utf8 v ≡ true = abreast-body t (at + n) k quote v (omega arith) u8 i (sym mark-place ∙ q)
           (subst (λ (y : List ℕ). k < length y) rest (l .inside)) (ap (_! k) (sym rest) ∙ l .here)
-          (subst (λ (y : List ℕ). Abreast (take k y) v) rest (a ex)) in
+          (subst (λ (y : List ℕ). Abreast (take k y) v) rest (a (rw ex))) in
           fronted-escape σ u n k v p o (none-behind 0 t at z) (behind q l) e w f
       go false true ex ey f l =
           let e : has (u ! 0) (ascii "Uu") ≡ true = ap (λ (b : ℕ). has b (ascii "Uu")) first ∙ ey in
@@ -90,10 +90,6 @@ module _ (σ : Settings) (t : List ℕ) (at n k : ℕ) (v : List ℕ) (p : Bool)
           fronted-standard σ u n k v p o (none-behind 0 t at z) (behind (sym mark-is) l)
           (other-letter (u ! 0) e (ap isBits first ∙ bits) (ap (λ (b : ℕ). has b (ascii "Uu")) first ∙ ey)) e
           (subst (λ (x : ℕ). Front (standardStep (σ .backslash) x) (drop (suc n) u) k v p) mark-is f)
-
--- E's value stands abreast of its text
-checked-letter : (σ : Settings) (b : ℕ) (m : Mark) → has b (ascii "Ee") ≡ true → checks (familyBy σ b m) ≡ true
-checked-letter σ b m e = rw e
 
 -- OPENINGS
 module _ (σ : Settings) (t : List ℕ) (at : ℕ) where
@@ -209,8 +205,8 @@ module _ (σ : Settings) (t : List ℕ) (at : ℕ) (s : Store) (chunk out : List
               o = suc (x .n);
               k = b .at;
               v = r .reading .v;
-              segmented = segmented-by σ t at (x .n) (b .at) (r .reading .v) (b .plain) (x .m) z u8 h (x .is) (x .bits) (λ y. x .mark) (r .reading .front)
-                  (λ ee. r .reading .abreast (checked-letter σ (t ! at) (x .m) ee)) l;
+              segmented = segmented-by σ t at (x .n) (b .at) (r .reading .v) (b .plain) (x .m) z u8 h (x .is) (x .bits) (x .mark) (r .reading .front)
+                  (r .reading .abreast) l;
               begins = x .from;
               ends = omega (arith, x .from);
               passes = refl;
