@@ -5,11 +5,11 @@ use mathlib.Core.List.{List}
 use Prim.Native.Nat.{ℕ, zero, suc, _+_, _≤_, _<_}
 use native.Mathlib.Omega.{arith}
 use lib.ListN.{length, drop, getD, length-drop}
-use lib.Seq.{getD-drop}
+use lib.Seq.{getD-drop, drop-drop}
 use borrow.Author.Tests.{lt-ltb}
 use Rattle.meaning.specs.declared.Settings.{Settings}
 use Rattle.meaning.specs.Bytes.{_!_, isMark}
-use Rattle.meaning.specs.Steps.{gap}
+use Rattle.meaning.specs.Steps.{gap, trim}
 use Rattle.meaning.specs.Cutting.{opening, segment, continues}
 use Rattle.laws.proofs.cutting.Gaps.{gap-fits}
 use Rattle.laws.proofs.cutting.Openings.{segment-fits}
@@ -24,6 +24,12 @@ found-bytes σ t r o n e q = go (segment σ t) refl (sym e ∙ q)
     go : (x : ℕ) → segment σ t ≡ x → foundBy (opening t) x ≡ Found o n → (segment σ t ≡ n) × (0 < n)
     go zero s f = let z : _≡_ {A = ℕ} 0 1 = cc in absurd (omega arith)
     go (suc k) s f = let z : suc k ≡ n = cc in (s ∙ z, omega arith)
+
+-- the byte behind a gap
+pub behind-gap : (t : List ℕ) (i : ℕ) → t ! (i + gap (drop i t)) ≡ trim (drop i t) ! 0
+behind-gap t i =
+    let z : i + gap (drop i t) + 0 ≡ i + gap (drop i t) = omega arith in
+    ap (t !_) (sym z) ∙ sym (getD-drop (i + gap (drop i t)) t 0 0) ∙ ap (_! 0) (sym (drop-drop (gap (drop i t)) i t))
 
 -- DOES IT GO ON
 module _ (σ : Settings) (t : List ℕ) (r : Segment) (e : r ≡ segmentOf σ t) where
@@ -47,7 +53,5 @@ module _ (σ : Settings) (t : List ℕ) (r : Segment) (e : r ≡ segmentOf σ t)
     unfolding continues
     goes-on b x eb ex =
         let s = found-bytes σ t r o n e q in
-        let d : drop (gap (drop n t)) (drop n t) ! 0 ≡ b =
-        getD-drop (gap (drop n t)) (drop n t) 0 0 ∙ getD-drop n t (gap (drop n t) + 0) 0
-        ∙ ap (λ (m : ℕ). getD t m 0) (omega (arith, eg)) ∙ sym eb in
+        let d : trim (drop n t) ! 0 ≡ b = sym (behind-gap t n) ∙ ap (λ (m : ℕ). t ! (n + m)) (sym eg) ∙ sym eb in
         ex ∙ sym (rw (s .0, lt-ltb 0 n (s .1)) (ap isMark d))

@@ -1,17 +1,15 @@
 -- How a segment's body is read, by its first byte. Assumes nothing.
 use mathlib.Core.Path.{_≡_, refl, ap, ap₂, sym, _∙_}
 use mathlib.Core.Bool.{Bool, true, false, _||_, or-false}
-use mathlib.Core.List.{List, [], _∷_}
+use mathlib.Core.List.{[], _∷_}
 use Prim.Native.Nat.{ℕ}
 use lib.Dec.{eqb}
 use Rattle.meaning.specs.declared.Settings.{Settings}
-use Rattle.meaning.specs.Bytes.{if_then_else_, ascii, has, isMark, quote, dquote}
+use Rattle.meaning.specs.Bytes.{has, isMark}
 use borrow.Author.Tests.{eqb-true, ne-eqb}
-use Rattle.laws.proofs.basics.Tests.{eqb-sym}
 use Rattle.cutting.specs.declared.marks.Mark.{Mark}
 use Rattle.cutting.specs.declared.marks.Mark.the-variants.{Quote, DoubleQuote}
 use Rattle.cutting.specs.Marks.{markOf}
-use Rattle.escapes.specs.declared.units.Family.{Family}
 use Rattle.escapes.specs.declared.units.Family.the-variants.{Standard, Escape, Unicode}
 use Rattle.strings.specs.Driving.{familyBy, isBits}
 

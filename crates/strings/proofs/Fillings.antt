@@ -1,28 +1,27 @@
 -- A body that is read on, chunk by chunk. Assumes nothing.
-use mathlib.Core.Path.{_≡_, refl, ap, ap₂, sym, _∙_, subst}
-use mathlib.Core.Bool.{Bool, true, false, _&&_}
+use mathlib.Core.Path.{_≡_, refl, ap, sym, _∙_, subst}
+use mathlib.Core.Bool.{true, _&&_}
 use mathlib.Core.List.{List, [], _∷_, _++_, append-assoc, append-nil}
-use Prim.Native.Nat.{ℕ, zero, suc, _+_, _-_, _≤_, _<_}
-use native.Mathlib.Nat.{le-of-eq}
+use Prim.Native.Nat.{ℕ, suc, _+_, _-_, _≤_, _<_}
 use native.Mathlib.Omega.{arith}
 use lib.Dec.{eqb}
-use lib.ListN.{length, getD, take, drop, length-append, length-take, length-drop, drop-of-length-le}
-use lib.Seq.{take-add, take-append-le, take-append-add, length-take-le, getD-drop}
+use lib.ListN.{length, take, drop, length-drop}
+use lib.Seq.{take-add, length-take-le, getD-drop}
 use Rattle.meaning.specs.Bytes.{_!_, backslash}
 use Rattle.laws.proofs.basics.Lists.{part-tail}
-use Rattle.laws.proofs.walking.Fronts.{Front, front-none, front-more, front-brief}
+use Rattle.laws.proofs.walking.Fronts.{front-none, front-more, front-brief}
 use Rattle.laws.proofs.utf8.Abreast.{Abreast, abreast-same, abreast-more}
 use Rattle.laws.proofs.cutting.Fronted.{Lone}
 use Rattle.escapes.specs.declared.units.Family.{Family}
-use Rattle.escapes.specs.Families.{checks}
 use Rattle.escapes.proofs.Turns.{steady}
 use Rattle.strings.specs.declared.chunks.End.{End}
-use Rattle.strings.specs.declared.chunks.End.the-variants.{Closed, Full}
+use Rattle.strings.specs.declared.chunks.End.the-variants.{Full}
 use Rattle.strings.specs.declared.chunks.Part.{Part}
 use Rattle.strings.specs.declared.storing.Store.{Store}
 use Rattle.strings.specs.declared.storing.Body.{Body}
 use Rattle.strings.specs.Quick.{stepBy, markBy, Expands}
 use Rattle.strings.specs.Storing.{Stored, Empties, Reading, Fills, Reads-body}
+use Rattle.strings.proofs.Lending.{lent, back, back-same, back-take}
 use Rattle.strings.proofs.Storages.{stored-more}
 
 -- a mark alone, counted from another place
@@ -38,35 +37,21 @@ lone-at t i k q h m =
 module _ (f : Family) (text : List ℕ) (b : Body) (chunk out : List ℕ) (ready : Store) (out′ : List ℕ) (part : Part) (last : List ℕ)
     (size : length chunk ≡ 272) (n : b .n ≤ 272) (inside : b .at ≤ length text)
     (e : Empties (record { total = b .total; n = b .n }) chunk out ready out′)
-    (x′ : Expands f (take (length text - b .at) (drop (b .at) text)) (take (length chunk - ready .n) (drop (ready .n) chunk)) part last) where
+    (x′ : Expands f (lent (b .at) text) (lent (ready .n) chunk) part last) where
   abbrev chunk′ : List ℕ
-  chunk′ = take (ready .n) chunk ++ (last ++ drop (length chunk - ready .n) (drop (ready .n) chunk))
+  chunk′ = back (ready .n) chunk last
 
   abbrev result : Body
   result = record { at = b .at + part .at; plain = b .plain && part .plain; total = ready .total; n = ready .n + part .n; end = part .end }
 
   x : Expands f (drop (b .at) text) (drop (ready .n) chunk) part last
-  x = subst (λ (y : List ℕ). Expands f y (drop (ready .n) chunk) part last) (part-tail text (b .at))
-      (subst (λ (y : List ℕ). Expands f (take (length text - b .at) (drop (b .at) text)) y part last) (part-tail chunk (ready .n)) x′)
+  x = rw (part-tail text (b .at), part-tail chunk (ready .n)) at x′
 
-  last-length : length last ≡ 272 - ready .n
-  last-length = x .same ∙ length-drop (ready .n) chunk ∙ omega (arith, size)
+  in-chunk : ready .n ≤ length chunk
+  in-chunk = omega (arith, e .small, size)
 
   few : ready .n + part .n ≤ 272
-  few = omega (arith, x .room, x .same, last-length, e .small)
-
-  chunk-is : chunk′ ≡ take (ready .n) chunk ++ last
-  chunk-is = ap (λ (y : List ℕ). take (ready .n) chunk ++ (last ++ y))
-      (drop-of-length-le (drop (ready .n) chunk) (le-of-eq (length-drop (ready .n) chunk))) ∙ ap (take (ready .n) chunk ++_) (append-nil last)
-
-  front-length : length (take (ready .n) chunk) ≡ ready .n
-  front-length = length-take-le (ready .n) chunk (omega (arith, e .small, size))
-
-  held : take (ready .n + part .n) chunk′ ≡ take (ready .n) chunk ++ take (part .n) last
-  held =
-      ap (take (ready .n + part .n)) chunk-is
-      ∙ ap (λ (i : ℕ). take (i + part .n) (take (ready .n) chunk ++ last)) (sym front-length)
-      ∙ take-append-add (take (ready .n) chunk) last (part .n)
+  few = omega (arith, x .room, length-drop (ready .n) chunk, size, in-chunk)
 
   value-length : length (take (part .n) last) ≡ part .n
   value-length = length-take-le (part .n) last (omega (arith, x .room, x .same))
@@ -86,11 +71,12 @@ module _ (f : Family) (text : List ℕ) (b : Body) (chunk out : List ℕ) (ready
         (abreast-more (take (b .at) text) (r .v) (take (part .at) (drop (b .at) text)) (take (part .n) last) (r .abreast h) (x .abreast h));
     stores = λ d w st.
         subst (λ (y : List ℕ). Stored d y chunk′ out′ (ready .total) (ready .n + part .n)) (append-assoc w (r .v) (take (part .n) last))
-        (stored-more (e .stores d (w ++ r .v) (r .stores d w st)) (take (part .n) last) chunk′ (part .n) value-length held);
+        (stored-more (e .stores d (w ++ r .v) (r .stores d w st)) (take (part .n) last) chunk′ (part .n) value-length
+        (back-take chunk last (ready .n) in-chunk (x′ .same) (part .n)));
     sum = omega (arith, r .sum, e .sum, brief);
     inside = reaches;
     few = few;
-    chunk-same = ap length chunk-is ∙ length-append (take (ready .n) chunk) last ∙ omega (arith, front-length, last-length, size, e .small, r .chunk-same);
+    chunk-same = back-same chunk last (ready .n) in-chunk (x′ .same) ∙ r .chunk-same;
     out-same = e .same ∙ r .out-same;
   }
 
@@ -115,3 +101,21 @@ reading-none f text s chunk out end h = record {
   chunk-same = refl;
   out-same = refl;
 }
+
+-- BY TURNS: what a turn asks, and what holds behind it
+module _ {f : Family} {text : List ℕ} {s : Store} {chunk₀ out₀ : List ℕ} {b : Body} {chunk out : List ℕ} (r : Reading f text s chunk₀ out₀ b chunk out) where
+  pub reading-size : length chunk₀ ≡ 272 → length chunk ≡ 272
+  reading-size e = r .chunk-same ∙ e
+
+  pub reading-room : s .total + s .n + length text < 18446744073709551616 → b .total + b .n + length text < 18446744073709551616 + b .at
+  reading-room h = omega (arith, r .sum)
+
+  module _ {b′ : Body} {chunk′ out′ : List ℕ} (x : Fills f text b chunk out b′ chunk′ out′) where
+    pub reading-on : Reading f text s chunk₀ out₀ b′ chunk′ out′
+    reading-on = x .onward s chunk₀ out₀ r
+
+    pub reading-less : b′ .end ≡ Full → length text - b′ .at < length text - b .at
+    reading-less e = omega (arith, x .goes e, reading-on .inside)
+
+    pub reading-ends : Reads-body f text s chunk₀ out₀ b′ chunk′ out′
+    reading-ends = record { reading = reading-on; closed = x .closed }

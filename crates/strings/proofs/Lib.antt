@@ -1,4 +1,5 @@
 -- What the functions of this crate share, callees first.
+pub mod Lending
 pub mod Bodies
 pub mod Cuts
 pub mod Segments
@@ -14,5 +15,5 @@ pub mod Storages
 pub mod Fillings
 pub mod Families
 pub mod Segmenting
-pub mod Restings
+pub mod SegmentTurns
 pub mod QuickAnswers

@@ -1,28 +1,27 @@
 -- What the quick reading answers, by what was read and stored. Assumes nothing.
 use mathlib.Core.Path.{_≡_, refl, ap, ap₂, sym, _∙_, subst}
 use mathlib.Core.Bool.{Bool, true, false, not, false≢true}
-use mathlib.Core.List.{List, [], _∷_, _++_, append-nil}
-use Prim.Native.Nat.{ℕ, zero, suc, _+_, _-_, _≤_, _<_}
-use native.Mathlib.Nat.{le-of-eq}
+use mathlib.Core.List.{List, [], _++_, append-nil}
+use Prim.Native.Nat.{ℕ, _+_, _-_, _≤_, _<_}
 use native.Mathlib.Omega.{arith}
-use borrow.Author.Tests.{not-false, le-leb, lt-leb}
-use lib.Dec.{leb}
-use lib.ListN.{length, take, drop, length-append, length-drop, take-append-drop, drop-of-length-le}
+use borrow.Author.Tests.{not-false, le-leb}
+use lib.ListN.{length, take, drop, length-append, length-drop, drop-of-length-le}
 use lib.Seq.{take-all, length-take-le, drop-at}
 use Rattle.meaning.specs.declared.Settings.{Settings}
 use Rattle.meaning.specs.declared.Read.{Read}
 use Rattle.meaning.specs.declared.Read.the-variants as Read′
 use Rattle.meaning.specs.Bytes.{if_then_else_}
 use Rattle.meaning.specs.Answers.{filled}
-use Rattle.meaning.specs.Reading.{Answer, borrowed, written, refused, read}
-use Rattle.meaning.specs.Reads.{Reads, readOf, bufferOf}
+use Rattle.meaning.specs.Reading.{Answer, borrowed, written, read}
+use Rattle.meaning.specs.Reads.{Reads, readOf}
+use Rattle.laws.proofs.questions.Owed.{reads-short, reads-written, reads-borrowed}
 use Rattle.leaves.specs.Puts.{Puts}
-use Rattle.strings.specs.declared.quick.Driven.{Driven}
+use Rattle.strings.specs.declared.quick.Segment.{Segment}
 use Rattle.strings.specs.declared.quick.Quick.{Quick}
 use Rattle.strings.specs.declared.quick.Quick.the-variants as Quick′
-use Rattle.strings.specs.Storing.{Stored, Behind}
+use Rattle.strings.specs.Storing.{Behind}
 use Rattle.strings.specs.declared.reading.Checked.the-variants as Checked′
-use Rattle.strings.specs.Driving.{Checks, Drives, Counted, Counts, Rewrites, QuickBy, QuickReads}
+use Rattle.strings.specs.Driving.{Checks, DrivenBy, Drives, Rewrites, QuickBy, QuickReads}
 use Rattle.strings.proofs.Storages.{stored-empty}
 
 -- two answers that are written have one value
@@ -31,14 +30,14 @@ written-same true f u w v e = let y : _≡_ {A = ℕ} 0 1 = cc in absurd (omega 
 written-same false f u w v e = cc
 
 -- WRITING AGAIN
-module _ (σ : Settings) (t out : List ℕ) (q : Driven) (chunk′ out′ : List ℕ) (d : Drives σ t out q chunk′ out′) where
+module _ (σ : Settings) (t out : List ℕ) (q : Segment) (chunk′ out′ : List ℕ) (d : Drives σ t out q chunk′ out′) where
   pub again-not : q .read ≡ false → Rewrites σ t out (q .read) out′
   again-not e = record { same = d .out-same; done = λ h. absurd (false≢true (sym e ∙ h)) }
 
   pub again-few : q .read ≡ true → q .n ≤ length chunk′
   again-few e =
       let r = d .reads e in
-      omega (arith, r .2 .count, ap length (r .2 .held), length-drop (q .total) (r .0), lib.ListN.length-take (q .n) chunk′)
+      omega (arith, r .stored .count, ap length (r .stored .held), length-drop (q .total) (r .w), lib.ListN.length-take (q .n) chunk′)
 
   pub again-all : q .read ≡ true → (after : List ℕ) → Behind (take (q .n) chunk′) (q .total) out′ after → Rewrites σ t out (q .read) after
   again-all e after b = record { same = b .same ∙ d .out-same; done = λ h v ev l. go h v ev l }
@@ -46,117 +45,78 @@ module _ (σ : Settings) (t out : List ℕ) (q : Driven) (chunk′ out′ : List
       go : q .read ≡ true → (v : List ℕ) → read σ t ≡ written v → length v ≡ length out → after ≡ v
       go h v ev l =
           let r = d .reads h in
-          let w = written-same (q .plain) (q .from) (length t - 1) (r .0) v (sym (r .1) ∙ ev) in
-          let s = stored-empty (r .2) after (again-few h) b in
+          let w = written-same (q .plain) (q .from) (length t - 1) (r .w) v (sym (r .reads) ∙ ev) in
+          let s = stored-empty (r .stored) after (again-few h) b in
           let c = s .count in
           let n : q .total + q .n ≤ length out = omega (arith, c, ap length w, l) in
           let all : length out ≤ q .total + q .n = omega (arith, c, ap length w, l) in
           let rest : drop (q .total + q .n) out ≡ [] = drop-of-length-le out all in
-          s .laid n ∙ ap (take (q .total + q .n) (r .0) ++_) rest ∙ append-nil (take (q .total + q .n) (r .0))
-          ∙ take-all (q .total + q .n) (r .0) (omega (arith, c)) ∙ w
-
--- COUNTED
-pub counts : (σ : Settings) (t d : List ℕ) (q : Driven) (chunk′ out′ : List ℕ) → Drives σ t d q chunk′ out′ → Counts σ t q chunk′
-counts σ t d q chunk′ out′ x = record {
-  size = x .chunk-same;
-  reads = λ e.
-      let r = x .reads e in
-      record {
-        w = r .0;
-        reads = r .1;
-        count = r .2 .count;
-        held = λ z. ap (λ (i : ℕ). drop i (r .0)) (sym z) ∙ r .2 .held;
-        few = again-few σ t d q chunk′ out′ x e;
-        sum = x .sum e;
-        some = x .some e;
-      };
-}
+          s .laid n ∙ ap (take (q .total + q .n) (r .w) ++_) rest ∙ append-nil (take (q .total + q .n) (r .w))
+          ∙ take-all (q .total + q .n) (r .w) (omega (arith, c)) ∙ w
 
 -- ANSWERS
-pub quick-unread : (a : Answer) (out : List ℕ) → QuickReads a out Quick′.Unread out
-quick-unread a out = record { by = (refl, refl) }
-
-module _ (σ : Settings) (t : List ℕ) (q : Driven) (chunk : List ℕ) (c : Counts σ t q chunk) (e : not (q .read) ≡ false) where
-  k : Counted σ t q chunk
+module _ (σ : Settings) (t d : List ℕ) (q : Segment) (chunk none : List ℕ) (c : Drives σ t d q chunk none) (e : not (q .read) ≡ false) where
+  k : DrivenBy σ t d q chunk none
   k = c .reads (not-false (q .read) e)
+
+  count : length (k .w) ≡ q .total + q .n
+  count = k .stored .count
 
   pub counted-some : 1 ≤ length t
   counted-some = k .some
 
   pub counted-held : q .total ≡ 0 → q .total + q .n ≤ length chunk
-  counted-held z = omega (arith, z, k .few)
+  counted-held z = omega (arith, z, again-few σ t d q chunk none c (not-false (q .read) e))
 
   pub counted-fits : q .total + q .n ≤ length t
   counted-fits = k .sum
 
+  told : (x : Bool) → q .plain ≡ x → read σ t ≡ (if x then borrowed (q .from) (length t - 1) else written (k .w))
+  told x p = k .reads ∙ ap (λ (y : Bool). if y then borrowed (q .from) (length t - 1) else written (k .w)) p
+
   pub quick-borrowed : (out : List ℕ) → q .plain ≡ true → QuickReads (read σ t) out (Quick′.Answer (Read′.Borrowed (q .from) (length t - 1))) out
-  quick-borrowed out p =
-      let r : read σ t ≡ borrowed (q .from) (length t - 1) = k .reads ∙ ap (λ (x : Bool). if x then borrowed (q .from) (length t - 1) else written (k .w)) p in
-      record { by = record { answer = sym (ap (readOf (length out)) r); buffer = sym (ap (bufferOf out) r) } }
+  quick-borrowed out p = record { by = reads-borrowed (read σ t) out (q .from) (length t - 1) (told true p) }
 
   module _ (p : q .plain ≡ false) where
     value : read σ t ≡ written (k .w)
-    value = k .reads ∙ ap (λ (x : Bool). if x then borrowed (q .from) (length t - 1) else written (k .w)) p
+    value = told false p
 
     pub quick-lacks : (out : List ℕ) → length out < q .total + q .n → QuickReads (read σ t) out (Quick′.Answer (Read′.NoRoom (q .total + q .n))) out
-    unfolding filled
-    quick-lacks out h =
-        let n : leb (length (k .w)) (length out) ≡ false = lt-leb (length (k .w)) (length out) (omega (arith, k .count)) in
-        record {
-          by = record {
-            answer = sym (ap (readOf (length out)) value ∙ rw n (ap Read′.NoRoom (k .count)));
-            buffer = sym (ap (bufferOf out) value ∙ rw n refl);
-          };
-        }
+    quick-lacks out h = record { by = reads-short (read σ t) (k .w) out (q .total + q .n) value (count) h }
 
     module _ (out : List ℕ) (h : q .total + q .n ≤ length out) where
-      fits : leb (length (k .w)) (length out) ≡ true
-      fits = le-leb (length (k .w)) (length out) (omega (arith, k .count))
-
-      holds : (o : List ℕ) → leb (length (k .w)) (length o) ≡ true → filled (k .w) o ≡ k .w ++ drop (length (k .w)) o
-      unfolding filled
-      holds o f = rw f refl
-
       -- the value stands at the buffer's start
       done : (after : List ℕ) → after ≡ k .w ++ drop (length (k .w)) out → QuickReads (read σ t) out (Quick′.Answer (Read′.Written (q .total + q .n))) after
+      done after l = record { by = reads-written (read σ t) (k .w) out after (q .total + q .n) value (count) h l }
+
+      holds : (o : List ℕ) → length o ≡ length out → filled (k .w) o ≡ k .w ++ drop (length (k .w)) o
       unfolding filled
-      done after l = record {
-        by = record {
-          answer = sym (ap (readOf (length out)) value ∙ rw fits (ap Read′.Written (k .count)));
-          buffer = l ∙ sym (ap (bufferOf out) value ∙ rw fits refl);
-        };
-      }
+      holds o e = rw (le-leb (length (k .w)) (length o) (omega (arith, count)))
 
       pub quick-put : q .total ≡ 0 → (i : ℕ) (after : List ℕ) → Puts (take (q .total + q .n) chunk) out i after
           → QuickReads (read σ t) out (Quick′.Answer (Read′.Written (q .total + q .n))) after
-      unfolding filled
       quick-put z i after b =
           let n : q .total + q .n ≡ q .n = omega (arith, z) in
-          let w : take (q .total + q .n) chunk ≡ k .w = ap (λ (j : ℕ). take j chunk) n ∙ sym (k .held z) in
-          done after (b .buffer ∙ ap (λ (y : List ℕ). filled y out) w ∙ rw fits refl)
+          let w : take (q .total + q .n) chunk ≡ k .w = ap (λ (j : ℕ). take j chunk) n ∙ sym (ap (λ (j : ℕ). drop j (k .w)) (sym z) ∙ k .stored .held) in
+          done after (b .buffer ∙ ap (λ (y : List ℕ). filled y out) w ∙ holds out refl)
 
-      pub quick-again : (x : Bool) (after : List ℕ) → x ≡ true → Rewrites σ t (take (q .total + q .n) out) x after
-          → QuickReads (read σ t) out (Quick′.Answer (Read′.Written (q .total + q .n))) (after ++ drop (q .total + q .n) out)
-      quick-again x after xt b =
-          let n : length (take (q .total + q .n) out) ≡ q .total + q .n = length-take-le (q .total + q .n) out h in
-          done (after ++ drop (q .total + q .n) out)
-          (ap₂ (λ (x : List ℕ) (j : ℕ). x ++ drop j out) (b .done xt (k .w) value (k .count ∙ sym n)) (sym (k .count)))
+      module _ (x : Bool) (after : List ℕ) (b : Rewrites σ t (take (q .total + q .n) out) x after) where
+        abbrev whole : List ℕ
+        whole = after ++ drop (q .total + q .n) out
 
-      pub quick-left : (x : Bool) (after : List ℕ) → Rewrites σ t (take (q .total + q .n) out) x after
-          → QuickReads (read σ t) out Quick′.Unread (after ++ drop (q .total + q .n) out)
-      unfolding filled
-      quick-left x after b =
-          let n : length after ≡ q .total + q .n = b .same ∙ length-take-le (q .total + q .n) out h in
-          let same : length (after ++ drop (q .total + q .n) out) ≡ length out =
-          length-append after (drop (q .total + q .n) out) ∙ omega (arith, n, length-drop (q .total + q .n) out, h) in
-          let there : leb (length (k .w)) (length (after ++ drop (q .total + q .n) out)) ≡ true =
-          le-leb (length (k .w)) (length (after ++ drop (q .total + q .n) out)) (omega (arith, k .count, same, h)) in
-          let rest : drop (length (k .w)) (after ++ drop (q .total + q .n) out) ≡ drop (length (k .w)) out =
-          ap (λ (j : ℕ). drop j (after ++ drop (q .total + q .n) out)) (k .count) ∙ drop-at after (drop (q .total + q .n) out) (q .total + q .n) n
-          ∙ ap (λ (j : ℕ). drop j out) (sym (k .count)) in
-          let left : bufferOf (after ++ drop (q .total + q .n) out) (read σ t) ≡ k .w ++ drop (length (k .w)) out =
-          ap (bufferOf (after ++ drop (q .total + q .n) out)) value ∙ holds (after ++ drop (q .total + q .n) out) there ∙ ap (k .w ++_) rest in
-          record { by = (same, left ∙ sym (ap (bufferOf out) value ∙ holds out fits)) }
+        size : length (take (q .total + q .n) out) ≡ q .total + q .n
+        size = length-take-le (q .total + q .n) out h
+
+        pub quick-again : x ≡ true → QuickReads (read σ t) out (Quick′.Answer (Read′.Written (q .total + q .n))) whole
+        quick-again y =
+            done whole (ap₂ (λ (x : List ℕ) (j : ℕ). x ++ drop j out) (b .done y (k .w) value (count ∙ sym size)) (sym (count)))
+
+        pub quick-left : QuickReads (read σ t) out Quick′.Unread whole
+        quick-left =
+            let n : length after ≡ q .total + q .n = b .same ∙ size in
+            let same : length whole ≡ length out = length-append after (drop (q .total + q .n) out) ∙ omega (arith, n, length-drop (q .total + q .n) out, h) in
+            let rest : drop (length (k .w)) whole ≡ drop (length (k .w)) out = rw (count) (drop-at after (drop (q .total + q .n) out) (q .total + q .n) n) in
+            record { by = (same, rw value (holds whole same ∙ ap (k .w ++_) rest ∙ sym (holds out refl))) }
 
 -- WITH AN ANSWER it is the definition's
 pub answered-reads : (a : Answer) (out : List ℕ) (q : Quick) (after : List ℕ) → QuickReads a out q after → (r : Read) → q ≡ Quick′.Answer r → Reads a out r after

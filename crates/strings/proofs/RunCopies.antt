@@ -1,17 +1,19 @@
 -- Runs copied to a buffer's start while they are looked for: a block of sixteen bytes at once, or the last bytes of a text one by one. Assumes nothing.
-use mathlib.Core.Path.{_≡_, ap, _∙_}
-use mathlib.Core.Bool.{Bool, true, false, _||_}
+use mathlib.Core.Path.{_≡_, refl, ap, _∙_}
+use mathlib.Core.Bool.{Bool, true, false, _&&_, _||_, false≢true}
 use mathlib.Core.List.{List, [], _∷_, _++_, append-nil}
 use Prim.Native.Nat.{ℕ, zero, suc, _+_, _≤_, _<_}
 use native.Mathlib.Omega.{arith}
 use lib.Dec.{eqb, leb}
 use lib.ListN.{length, take, drop, getD, set, length-append, length-take, length-drop, drop-of-length-le}
-use lib.Seq.{sets-eq, length-take-le, take-all, take-take, take-append-le, take-at, getD-take}
+use lib.Seq.{drop-cons, sets-eq, length-take-le, take-all, take-take, take-append-le, take-at, getD-take}
 use Rattle.meaning.specs.Bytes.{if_then_else_, _!_, span}
 use Rattle.laws.proofs.basics.Copies.{Copying, copying-none, copying-turn, copying-all}
-use Rattle.laws.proofs.basics.Tests.{or-left, or-right}
+use Rattle.laws.proofs.basics.Tests.{and-left, and-right, or-left, or-right}
 use Rattle.leaves.proofs.RunSteps.{span-length}
+use Rattle.leaves.specs.Blocks.{passes}
 use Rattle.leaves.specs.Words.{neither, eightRun}
+use Rattle.leaves.proofs.Scans.{passes-append, span-passes}
 use Rattle.strings.specs.Quick.{Copies}
 
 -- A BLOCK: the first i of a text's first sixteen bytes are put into a buffer that held d
@@ -53,46 +55,15 @@ four-put (x ∷ y ∷ z ∷ []) out e h = absurd (omega arith)
 four-put (x ∷ y ∷ z ∷ w ∷ []) out e h = sets-eq (x ∷ y ∷ z ∷ w ∷ []) out 0 (omega arith)
 four-put (x ∷ y ∷ z ∷ w ∷ v ∷ b) out e h = absurd (omega arith)
 
--- THE RUN at a text's front
-pub span-more : (p : ℕ → Bool) (t : List ℕ) (j : ℕ) → j < length t → j ≤ span p t → p (t ! j) ≡ true → j + 1 ≤ span p t
-span-more p [] j i h e = absurd (omega arith)
-span-more p (b ∷ t) zero i h e = rw e (omega arith)
-span-more p (b ∷ t) (suc j) i h e = go (p b) h (span-more p t j (omega arith))
-  where
-    go : (x : Bool) → suc j ≤ (if x then suc (span p t) else 0) → (j ≤ span p t → p (t ! j) ≡ true → j + 1 ≤ span p t)
-        → suc j + 1 ≤ (if x then suc (span p t) else 0)
-    go true h ih = let r = ih (omega arith) e in omega arith
-    go false h ih = absurd (omega arith)
-
--- of its first n bytes; and behind those, where all of them belong to it
-span-take : (p : ℕ → Bool) (n : ℕ) (t : List ℕ) → span p (take n t) ≤ span p t
-span-take p zero t = omega arith
-span-take p (suc n) [] = omega arith
-span-take p (suc n) (b ∷ t) = go (p b) (span-take p n t)
-  where
-    go : (x : Bool) → span p (take n t) ≤ span p t → (if x then suc (span p (take n t)) else 0) ≤ (if x then suc (span p t) else 0)
-    go true h = omega arith
-    go false h = omega arith
-
-span-behind : (p : ℕ → Bool) (n : ℕ) (t : List ℕ) → n ≤ span p t → span p t ≡ n + span p (drop n t)
-span-behind p zero t h = omega arith
-span-behind p (suc n) [] h = absurd (omega arith)
-span-behind p (suc n) (b ∷ t) h = go (p b) h (span-behind p n t)
-  where
-    go : (x : Bool) → suc n ≤ (if x then suc (span p t) else 0) → (n ≤ span p t → span p t ≡ n + span p (drop n t))
-        → (if x then suc (span p t) else 0) ≡ suc n + span p (drop n t)
-    go true h ih = let r = ih (omega arith) in omega arith
-    go false h ih = absurd (omega arith)
-
 -- THE LAST BYTES: those before j are copied, and belong to the run
 pub record Lasting (first second : ℕ) (s d out : List ℕ) (j : ℕ) : Type 0 where
   pub copying : Copying s d out j
-  pub free : j ≤ span (neither first second) s
+  pub free : passes (neither first second) j s ≡ true
 
 pub lasting-none : (first second : ℕ) (s d : List ℕ) → length s < 16 → 16 ≤ length d → Lasting first second s d d 0
 lasting-none first second s d h k = record {
   copying = copying-none s d (omega arith);
-  free = omega arith;
+  free = refl;
 }
 
 module _ {first second : ℕ} {s d out : List ℕ} {j : ℕ} (l : Lasting first second s d out j) where
@@ -101,8 +72,8 @@ module _ {first second : ℕ} {s d out : List ℕ} {j : ℕ} (l : Lasting first 
   lasting-turn h e = record {
     copying = copying-turn (l .copying) h;
     free =
-        span-more (neither first second) s j h (l .free)
-        (rw (or-left (eqb (getD s j 0) first) (eqb (getD s j 0) second) e, or-right (eqb (getD s j 0) first) (eqb (getD s j 0) second) e));
+        passes-append (neither first second) j 1 (j + 1) s refl
+        ∙ rw (l .free, drop-cons s j 0, or-left (eqb (getD s j 0) first) (eqb (getD s j 0) second) e, or-right (eqb (getD s j 0) first) (eqb (getD s j 0) second) e);
   }
 
   pub lasting-end : length s < 16 → Copies first second s d j out
@@ -114,22 +85,30 @@ module _ {first second : ℕ} {s d out : List ℕ} {j : ℕ} (l : Lasting first 
   }
 
 -- A BLOCK that was put, and the run in it, told by eight bytes and eight more
-eight-part : (p : ℕ → Bool) (t : List ℕ) (at : ℕ) → (eightRun p t at ≤ 8) × (eightRun p t at ≤ span p (drop at t))
+passes-part : (p : ℕ → Bool) (n k : ℕ) (t : List ℕ) → passes p n (take k t) ≡ true → passes p n t ≡ true
+passes-part p zero k t h = refl
+passes-part p (suc n) zero t h = absurd (false≢true h)
+passes-part p (suc n) (suc k) [] h = h
+passes-part p (suc n) (suc k) (b ∷ t) h = rw (and-left (p b) (passes p n (take k t)) h) (passes-part p n k t (and-right (p b) (passes p n (take k t)) h))
+
+eight-part : (p : ℕ → Bool) (t : List ℕ) (at r : ℕ) → r ≡ eightRun p t at → (r ≤ 8) × (passes p r (drop at t) ≡ true)
 unfolding eightRun
-eight-part p t at = go (leb (at + 8) (length t))
+eight-part p t at r e = rw e (go (leb (at + 8) (length t)))
   where
-    go : (x : Bool) → let n = if x then span p (take 8 (drop at t)) else 0 in (n ≤ 8) × (n ≤ span p (drop at t))
-    go true = (omega (arith, span-length p (take 8 (drop at t)), length-take 8 (drop at t)), span-take p 8 (drop at t))
-    go false = (omega arith, omega arith)
+    go : (x : Bool) → let n = if x then span p (take 8 (drop at t)) else 0 in (n ≤ 8) × (passes p n (drop at t) ≡ true)
+    go true =
+        let n = span p (take 8 (drop at t)) in
+        (omega (arith, span-length p (take 8 (drop at t)), length-take 8 (drop at t)), passes-part p n 8 (drop at t) (span-passes p (take 8 (drop at t))))
+    go false = (omega arith, refl)
 
 pub eight-most : (p : ℕ → Bool) (t : List ℕ) (at r : ℕ) → r ≡ eightRun p t at → r ≤ 8
-eight-most p t at r e = omega (arith, eight-part p t at .0)
+eight-most p t at r e = eight-part p t at r e .0
 
 module _ (first second : ℕ) (s d b out : List ℕ) (h : 16 ≤ length s) (k : 16 ≤ length d) (eb : b ≡ take 16 s) (eo : out ≡ b ++ drop 16 d) where
   e : out ≡ take 16 s ++ drop 16 d
   e = eo ∙ ap (_++ drop 16 d) eb
 
-  put : (r : ℕ) → r ≤ 16 → r ≤ span (neither first second) s → Copies first second s d r out
+  put : (r : ℕ) → r ≤ 16 → passes (neither first second) r s ≡ true → Copies first second s d r out
   put r m f =
       let n : length (take 16 s) ≡ 16 = length-take-le 16 s h in
       record {
@@ -141,11 +120,12 @@ module _ (first second : ℕ) (s d b out : List ℕ) (h : 16 ≤ length s) (k : 
 
   module _ (low : ℕ) (el : low ≡ eightRun (neither first second) s 0) where
     pub copied-low : low < 8 → Copies first second s d low out
-    copied-low i = put low (omega arith) (omega (arith, eight-part (neither first second) s 0))
+    copied-low i = put low (omega arith) (eight-part (neither first second) s 0 low el .1)
 
     pub copied-high : 8 ≤ low → (high : ℕ) → high ≡ eightRun (neither first second) s 8 → Copies first second s d (8 + high) out
     copied-high i high eh =
         let p = neither first second in
-        let a = eight-part p s 0 in
-        let b = eight-part p s 8 in
-        put (8 + high) (omega arith) (omega (arith, span-behind p 8 s (omega arith)))
+        let a = eight-part p s 0 low el in
+        let b = eight-part p s 8 high eh in
+        let z : low ≡ 8 = omega arith in
+        put (8 + high) (omega arith) (passes-append p 8 high (8 + high) s refl ∙ rw (b .1) (ap (_&& true) (rw z at (a .1))))

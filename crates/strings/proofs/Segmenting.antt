@@ -1,18 +1,20 @@
 -- A segment that is read from a text: by its opening, its family's walk, and the mark that stands alone. Assumes nothing.
 use mathlib.Core.Path.{_≡_, refl, ap, ap₂, sym, _∙_, subst}
-use mathlib.Core.Bool.{Bool, true, false, _||_, false≢true}
-use mathlib.Core.List.{List, [], _∷_, _++_}
+use mathlib.Core.Bool.{Bool, true, false, _||_, not, false≢true}
+use borrow.Author.Tests.{not-false}
+use mathlib.Core.List.{List, _∷_}
 use Prim.Native.Nat.{ℕ, zero, suc, _+_, _-_, _≤_, _<_}
 use native.Mathlib.Omega.{arith}
 use lib.Dec.{eqb}
-use lib.ListN.{length, getD, take, drop, length-drop, take-append-drop}
-use lib.Seq.{drop-drop, getD-drop}
+use lib.ListN.{length, take, drop, length-drop, take-append-drop}
+use lib.Seq.{drop-cons, drop-drop, getD-drop}
 use Rattle.meaning.specs.declared.Settings.{Settings}
 use Rattle.meaning.specs.Bytes.{if_then_else_, _!_, ascii, has, isMark, quote, backslash}
 use Rattle.meaning.specs.Chars.{utf8}
-use Rattle.meaning.specs.Steps.{gap, standardStep, escapeStep, unicodeStep}
+use Rattle.meaning.specs.Steps.{gap, standardStep}
 use Rattle.meaning.specs.Cutting.{opening}
 use Rattle.laws.proofs.basics.Lists.{part-tail}
+use Rattle.laws.proofs.basics.Tests.{or-right}
 use Rattle.laws.proofs.basics.Enclosed.{has-append}
 use Rattle.laws.proofs.utf8.Abreast.{Abreast, abreast-body}
 use Rattle.laws.proofs.walking.Fronts.{Front}
@@ -31,13 +33,9 @@ use Rattle.strings.specs.declared.storing.Store.{Store}
 use Rattle.strings.specs.declared.storing.Body.{Body}
 use Rattle.strings.specs.declared.quick.Segment.{Segment}
 use Rattle.strings.specs.Quick.{stepBy, markBy}
-use Rattle.strings.specs.Storing.{Reading, Reads-body}
+use Rattle.strings.specs.Storing.{Reads-body}
 use Rattle.strings.specs.declared.quick.Opened.{Opened}
 use Rattle.strings.specs.Driving.{familyBy, isBits, Opening, Opens, closedBy, Closes, SegmentRead, ReadsSegment}
-
-or-right : (x y : Bool) → (x || y) ≡ false → y ≡ false
-or-right true y e = absurd (false≢true (sym e))
-or-right false y e = e
 
 -- what was passed over holds no NUL either
 none-behind : (b : ℕ) (t : List ℕ) (i : ℕ) → has b t ≡ false → has b (drop i t) ≡ false
@@ -49,7 +47,7 @@ other-letter b e x u =
     has-append b (ascii "Ee") (ascii "BbXxUu") ∙ ap₂ (λ (p q : Bool). p || q) e (has-append b (ascii "BbXx") (ascii "Uu") ∙ ap₂ (λ (p q : Bool). p || q) x u)
 
 module _ (σ : Settings) (t : List ℕ) (at n k : ℕ) (v : List ℕ) (p : Bool) (m : Mark) (z : has 0 t ≡ false) (u8 : utf8 t ≡ true) (h : at ≤ length t)
-    (o : opening (drop at t) ≡ suc n) (bits : isBits (t ! at) ≡ false) (is : isMark (t ! (at + n)) ≡ true → markOf m ≡ t ! (at + n)) where
+    (o : opening (drop at t) ≡ suc n) (bits : isBits (t ! at) ≡ false) (is : markOf m ≡ t ! (at + n)) where
   abbrev u : List ℕ
   u = drop at t
 
@@ -60,7 +58,7 @@ module _ (σ : Settings) (t : List ℕ) (at n k : ℕ) (v : List ℕ) (p : Bool)
   mark-place = getD-drop at t n 0
 
   mark-is : markOf m ≡ u ! n
-  mark-is = is (ap isMark (sym mark-place) ∙ opening-mark u n o) ∙ sym mark-place
+  mark-is = is ∙ sym mark-place
 
   rest : drop (suc n) u ≡ drop (suc (at + n)) t
   rest = let e : at + suc n ≡ suc (at + n) = omega arith in drop-drop (suc n) at t ∙ ap (λ (i : ℕ). drop i t) e
@@ -68,7 +66,7 @@ module _ (σ : Settings) (t : List ℕ) (at n k : ℕ) (v : List ℕ) (p : Bool)
   behind : {q : ℕ} → u ! n ≡ q → Lone (drop (suc n) u) k q → Lone (drop (suc n) u) k (u ! n)
   behind e l = subst (λ (x : ℕ). Lone (drop (suc n) u) k x) (sym e) l
 
-  pub segmented-by : Front (stepBy (familyBy σ (t ! at) m)) (drop (suc n) u) k v p → (checks-e : has (t ! at) (ascii "Ee") ≡ true → Abreast (take k (drop (suc n) u)) v)
+  segmented-by : Front (stepBy (familyBy σ (t ! at) m)) (drop (suc n) u) k v p → (checks (familyBy σ (t ! at) m) ≡ true → Abreast (take k (drop (suc n) u)) v)
       → Lone (drop (suc n) u) k (markBy (familyBy σ (t ! at) m)) → Segmented σ u (suc n) k v p
   segmented-by f a l = go (has (t ! at) (ascii "Ee")) (has (t ! at) (ascii "Uu")) refl refl f l
     where
@@ -82,7 +80,7 @@ module _ (σ : Settings) (t : List ℕ) (at n k : ℕ) (v : List ℕ) (p : Bool)
           let i : at + n < length t = omega (arith, l .inside, length-drop (suc n) u, length-drop at t) in
           let w : utf8 v ≡ true = abreast-body t (at + n) k quote v (omega arith) u8 i (sym mark-place ∙ q)
           (subst (λ (y : List ℕ). k < length y) rest (l .inside)) (ap (_! k) (sym rest) ∙ l .here)
-          (subst (λ (y : List ℕ). Abreast (take k y) v) rest (a ex)) in
+          (subst (λ (y : List ℕ). Abreast (take k y) v) rest (a (rw ex))) in
           fronted-escape σ u n k v p o (none-behind 0 t at z) (behind q l) e w f
       go false true ex ey f l =
           let e : has (u ! 0) (ascii "Uu") ≡ true = ap (λ (b : ℕ). has b (ascii "Uu")) first ∙ ey in
@@ -93,14 +91,30 @@ module _ (σ : Settings) (t : List ℕ) (at n k : ℕ) (v : List ℕ) (p : Bool)
           (other-letter (u ! 0) e (ap isBits first ∙ bits) (ap (λ (b : ℕ). has b (ascii "Uu")) first ∙ ey)) e
           (subst (λ (x : ℕ). Front (standardStep (σ .backslash) x) (drop (suc n) u) k v p) mark-is f)
 
--- E's value stands abreast of its text
-checked-letter : (σ : Settings) (b : ℕ) (m : Mark) → has b (ascii "Ee") ≡ true → checks (familyBy σ b m) ≡ true
-checked-letter σ b m e = rw e
-
 -- OPENINGS
 module _ (σ : Settings) (t : List ℕ) (at : ℕ) where
   pub opens-none : (r : Opened) → r .known ≡ false → Opens σ t at r
   opens-none r e = record { opens = λ h. absurd (false≢true (sym e ∙ h)) }
+
+  -- a quote mark alone
+  pub opens-quote : (b : ℕ) → b ≡ t ! at → b ≡ 39 → Opens σ t at (record { known = true; from = at + 1; family = Standard Quote (σ .backslash) })
+  unfolding isMark
+  opens-quote b eb e =
+      let q : t ! at ≡ 39 = sym eb ∙ e in
+      let i : at < length t = mark-inside t at (ap isMark q) in
+      let here : at + 0 ≡ at = omega arith in
+      record {
+        opens = λ k. record {
+          n = 0;
+          m = Quote;
+          is = ap opening (drop-cons t at 0 i ∙ ap (_∷ drop (suc at) t) q);
+          from = refl;
+          inside = omega arith;
+          mark = sym (ap (t !_) here ∙ q);
+          family = sym (ap (λ (y : ℕ). familyBy σ y Quote) q);
+          bits = ap isBits q;
+        };
+      }
 
   pub opening-room : (len : ℕ) → at ≤ length t → len ≡ opening (take (length t - at) (drop at t)) → at + len ≤ length t
   opening-room zero h e = omega arith
@@ -137,33 +151,12 @@ module _ (σ : Settings) (t : List ℕ) (at : ℕ) where
           }
 
 -- CLOSING
-pub next-room : (t : List ℕ) (f a g : ℕ) → f + a < length t → g ≡ gap (drop (f + a + 1) t) → f + a + 1 + g ≤ length t
-next-room t f a g h e = omega (arith, gap-fits (drop (f + a + 1) t), length-drop (f + a + 1) t)
+pub next-room : (t : List ℕ) (f : ℕ) (b : Body) (g : ℕ) → (b .end ≡ Closed → f + b .at < length t) → b .end ≡ Closed → g ≡ gap (drop (f + b .at + 1) t)
+    → f + b .at + 1 + g ≤ length t
+next-room t f b g h c e = omega (arith, h c, gap-fits (drop (f + b .at + 1) t), length-drop (f + b .at + 1) t)
 
-pub closes-one : (t : List ℕ) (f : ℕ) (b : Body) (g : ℕ) → b .end ≡ Closed → g ≡ gap (drop (f + b .at + 1) t)
-    → Closes t f b (record {
-      read = true;
-      from = f;
-      end = f + b .at + 1;
-      next = f + b .at + 1 + g;
-      plain = b .plain;
-      total = b .total;
-      n = b .n;
-    })
-closes-one t f b g e eg = record {
-  closed = λ h. (
-    e,
-    ap (λ (y : ℕ). record {
-      read = true;
-      from = f;
-      end = f + b .at + 1;
-      next = f + b .at + 1 + y;
-      plain = b .plain;
-      total = b .total;
-      n = b .n;
-    }) eg,
-  );
-}
+pub closes-one : (t : List ℕ) (f : ℕ) (b : Body) (g : ℕ) → b .end ≡ Closed → g ≡ gap (drop (f + b .at + 1) t) → Closes t f b (closedBy f b g)
+closes-one t f b g e eg = record { closed = λ h. (e, ap (closedBy f b) eg) }
 
 pub closes-none : (t : List ℕ) (f : ℕ) (b : Body) (r : Segment) → r .read ≡ false → Closes t f b r
 closes-none t f b r e = record { closed = λ h. absurd (false≢true (sym e ∙ h)) }
@@ -172,10 +165,13 @@ module _ (σ : Settings) (t : List ℕ) (at : ℕ) (s : Store) (chunk out : List
   pub segment-none : (r : Segment) → r .read ≡ false → ReadsSegment σ t at s chunk out r chunk out
   segment-none r e = record { chunk-same = refl; out-same = refl; reads = λ h. absurd (false≢true (sym e ∙ h)) }
 
-  module _ (op : Opened) (b : Body) (chunk′ out′ : List ℕ) (os : Opens σ t at op) (known : op .known ≡ true)
+  pub opens-inside : (op : Opened) → Opens σ t at op → not (op .known) ≡ false → op .from ≤ length t
+  opens-inside op os known = os .opens (not-false (op .known) known) .inside
+
+  module _ (op : Opened) (b : Body) (chunk′ out′ : List ℕ) (os : Opens σ t at op) (known : not (op .known) ≡ false)
       (rb : Reads-body (op .family) (take (length t - op .from) (drop (op .from) t)) s chunk out b chunk′ out′) where
     x : Opening σ t at op
-    x = os .opens known
+    x = os .opens (not-false (op .known) known)
 
     body : take (length t - op .from) (drop (op .from) t) ≡ drop (suc (x .n)) (drop at t)
     body = part-tail t (op .from) ∙ ap (λ (i : ℕ). drop i t) (x .from) ∙ sym (drop-drop (suc (x .n)) at t)
@@ -201,7 +197,7 @@ module _ (σ : Settings) (t : List ℕ) (at : ℕ) (s : Store) (chunk out : List
       reads = λ e. subst (λ (y : Segment). SegmentRead σ t at s chunk out y chunk′ out′) (sym (c .closed e .1)) (read (c .closed e .0));
     }
       where
-        read : b .end ≡ Closed → SegmentRead σ t at s chunk out (closedBy t (op .from) b) chunk′ out′
+        read : b .end ≡ Closed → SegmentRead σ t at s chunk out (closedBy (op .from) b (gap (drop (op .from + b .at + 1) t))) chunk′ out′
         read closed =
             let l = r .closed closed in
             let gp = gap-fits (drop (op .from + b .at + 1) t) in
@@ -209,8 +205,8 @@ module _ (σ : Settings) (t : List ℕ) (at : ℕ) (s : Store) (chunk out : List
               o = suc (x .n);
               k = b .at;
               v = r .reading .v;
-              segmented = segmented-by σ t at (x .n) (b .at) (r .reading .v) (b .plain) (x .m) z u8 h (x .is) (x .bits) (λ y. x .mark) (r .reading .front)
-                  (λ ee. r .reading .abreast (checked-letter σ (t ! at) (x .m) ee)) l;
+              segmented = segmented-by σ t at (x .n) (b .at) (r .reading .v) (b .plain) (x .m) z u8 h (x .is) (x .bits) (x .mark) (r .reading .front)
+                  (r .reading .abreast) l;
               begins = x .from;
               ends = omega (arith, x .from);
               passes = refl;

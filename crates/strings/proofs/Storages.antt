@@ -1,13 +1,12 @@
 -- A value that is stored piece by piece: more bytes in the chunk, a chunk that is emptied, a body read on. Assumes nothing.
-use mathlib.Core.Path.{_≡_, refl, ap, ap₂, sym, _∙_, subst}
-use mathlib.Core.Bool.{Bool, true, false, _&&_}
-use mathlib.Core.List.{List, [], _∷_, _++_, append-assoc, append-nil}
-use Prim.Native.Nat.{ℕ, zero, suc, _+_, _-_, _≤_, _<_}
-use native.Mathlib.Nat.{le-of-eq}
+use mathlib.Core.Path.{_≡_, refl, ap, ap₂, sym, _∙_}
+use mathlib.Core.Bool.{Bool, true, false}
+use mathlib.Core.List.{List, _++_, append-assoc}
+use Prim.Native.Nat.{ℕ, _+_, _-_, _≤_, _<_}
 use native.Mathlib.Omega.{arith}
 use lib.Dec.{leb}
-use lib.ListN.{length, take, drop, length-append, length-take, length-drop, take-append-drop, drop-of-length-le}
-use lib.Seq.{take-all, take-add, take-at, drop-at, drop-drop, take-append-le, drop-append-le, length-take-le}
+use lib.ListN.{length, take, drop, length-append, length-drop, take-append-drop, drop-of-length-le}
+use lib.Seq.{take-all, take-at, drop-at, drop-drop, take-append-le, drop-append-le, length-take-le}
 use borrow.Author.Tests.{le-leb}
 use Rattle.meaning.specs.Bytes.{if_then_else_}
 use Rattle.meaning.specs.Answers.{filled}
@@ -15,22 +14,19 @@ use Rattle.laws.proofs.basics.Lists.{part-tail}
 use Rattle.leaves.specs.Puts.{Puts}
 use Rattle.strings.specs.declared.storing.Store.{Store}
 use Rattle.strings.specs.Storing.{Stored, Behind, Empties}
+use Rattle.strings.proofs.Lending.{lent, back, back-whole, back-same}
 
 -- PUT BEHIND the first bytes of a buffer, whose rest is lent
 pub behind-put : (bytes : List ℕ) (total : ℕ) (out : List ℕ) (k : ℕ) (last : List ℕ) → total ≤ length out
-    → Puts bytes (take (length out - total) (drop total out)) k last
-    → Behind bytes total out (take total out ++ (last ++ drop (length out - total) (drop total out)))
+    → Puts bytes (lent total out) k last → Behind bytes total out (back total out last)
 unfolding filled
 behind-put bytes total out k last h p =
-    let tail : drop (length out - total) (drop total out) ≡ [] = drop-of-length-le (drop total out) (le-of-eq (length-drop total out)) in
-    let whole : take total out ++ (last ++ drop (length out - total) (drop total out)) ≡ take total out ++ last =
-    ap (take total out ++_) (ap (last ++_) tail ∙ append-nil last) in
-    let rest : take (length out - total) (drop total out) ≡ drop total out = part-tail out total in
     let l : last ≡ (if leb (length bytes) (length (drop total out)) then bytes ++ drop (length bytes) (drop total out) else drop total out) =
-    p .buffer ∙ ap (λ (x : List ℕ). if leb (length bytes) (length x) then bytes ++ drop (length bytes) x else x) rest in
+    rw (part-tail out total) at (p .buffer) in
+    let same : length last ≡ length (lent total out) = size (leb (length bytes) (length (drop total out))) refl l ∙ ap length (sym (part-tail out total)) in
     record {
-      same = ap length whole ∙ length-append (take total out) last ∙ omega (arith, length-take-le total out h, size (leb (length bytes) (length (drop total out))) refl l, length-drop total out);
-      laid = λ r. whole ∙ ap (take total out ++_) (room r l);
+      same = back-same out last total h same;
+      laid = λ r. back-whole out last total h same ∙ ap (take total out ++_) (room r l);
     }
   where
     size : (x : Bool) → leb (length bytes) (length (drop total out)) ≡ x

@@ -113,12 +113,11 @@ second (a ∷ []) b c e f h = absurd (omega arith)
 second (a ∷ d ∷ t) b c e f h = cc
 
 -- STANDARD
-pub mysql-of : (c : ℕ)
-    → (if eqb c 48 then 0 else if eqb c 98 then 8 else if eqb c 110 then 10 else if eqb c 114 then 13 else if eqb c 116 then 9 else if eqb c 90 then 26 else c)
-    ≡ mysqlOf c
+pub mysql-of : (c u v w x y z : ℕ) → u ≡ (if eqb c 90 then 26 else c) → v ≡ (if eqb c 116 then 9 else u) → w ≡ (if eqb c 114 then 13 else v)
+    → x ≡ (if eqb c 110 then 10 else w) → y ≡ (if eqb c 98 then 8 else x) → z ≡ (if eqb c 48 then 0 else y) → z ≡ mysqlOf c
 unfolding mysqlOf
-mysql-of c =
-    rw (eqb-sym c 48, eqb-sym c 98, eqb-sym c 110, eqb-sym c 114, eqb-sym c 116, eqb-sym c 90)
+mysql-of c u v w x y z eu ev ew ex ey ez =
+    rw (ez, ey, ex, ew, ev, eu, eqb-sym c 48, eqb-sym c 98, eqb-sym c 110, eqb-sym c 114, eqb-sym c 116, eqb-sym c 90)
     (go (eqb 48 c) (eqb 98 c) (eqb 110 c) (eqb 114 c) (eqb 116 c) (eqb 90 c))
   where
     by : Bool → Bool → Bool → Bool → Bool → Bool → ℕ → ℕ
@@ -268,18 +267,22 @@ raw-letter c h = go (ltb (digit c) 8) refl h
         omega (arith, leb-true 48 c (and-left (leb 48 c) (leb c 55) o), leb-true c 55 (and-right (leb 48 c) (leb c 55) o))
     go false e k = omega (arith, eqb-true c 120 k)
 
-pub raws-byte : (text : List ℕ) (c b : ℕ) (x : Bool) (p : Piece) (byte more : ℕ) → c ≡ text ! 1 → b ≡ text ! 0 → x ≡ ltb (digit c) 8
-    → (eqb b 92 && (x || eqb c 120)) ≡ true → Is p (escaped (drop 1 text)) → p ≡ Byte byte more → Raws text (record { len = more + 1; byte = byte })
-raws-byte text c b x p byte more ec eb ex h i ep =
-    let k = raw-letter c (rw ex at (and-right (eqb b 92) (x || eqb c 120) h)) in
-    let d = second text b c eb ec (k .0) in
-    let n : 92 ∷ c ∷ drop 2 text ≡ text = ap (_∷ (c ∷ drop 2 text)) (sym (eqb-true b 92 (and-left (eqb b 92) (x || eqb c 120) h))) ∙ d in
-    let s : escaped (c ∷ drop 2 text) ≡ give more (byte ∷ []) = ap (λ (t : List ℕ). escaped (drop 1 t)) d ∙ sym (ap (meaningOf []) (sym ep) ∙ i .means []) in
-    subst (λ (t : List ℕ). Raws t (record { len = more + 1; byte = byte })) n
-    (rw add-one (record {
-      front = λ _. there Escape 92 (c ∷ drop 2 text) more (byte ∷ []) s;
-      lows = λ _. unit-low c (drop 2 text) (k .1) more (byte ∷ []) s;
-    }))
+module _ (text : List ℕ) (c b : ℕ) (x : Bool) (p : Piece) (byte more : ℕ) (ec : c ≡ text ! 1) (eb : b ≡ text ! 0) (ex : x ≡ ltb (digit c) 8)
+    (h : (eqb b 92 && (x || eqb c 120)) ≡ true) (i : Is p (escaped (drop 1 text))) (ep : p ≡ Byte byte more) where
+  pub raws-byte : Raws text (record { len = more + 1; byte = byte })
+  raws-byte =
+      let k = raw-letter c (rw ex at (and-right (eqb b 92) (x || eqb c 120) h)) in
+      let d = second text b c eb ec (k .0) in
+      let n : 92 ∷ c ∷ drop 2 text ≡ text = ap (_∷ (c ∷ drop 2 text)) (sym (eqb-true b 92 (and-left (eqb b 92) (x || eqb c 120) h))) ∙ d in
+      let s : escaped (c ∷ drop 2 text) ≡ give more (byte ∷ []) = ap (λ (t : List ℕ). escaped (drop 1 t)) d ∙ sym (ap (meaningOf []) (sym ep) ∙ i .means []) in
+      subst (λ (t : List ℕ). Raws t (record { len = more + 1; byte = byte })) n
+      (rw add-one (record {
+        front = λ _. there Escape 92 (c ∷ drop 2 text) more (byte ∷ []) s;
+        lows = λ _. unit-low c (drop 2 text) (k .1) more (byte ∷ []) s;
+      }))
+
+  pub raws-there : more + 1 ≤ length text
+  raws-there = raws-byte .front (omega arith) .so-far .inside
 
 -- ASCII that stands for whole characters
 pub abreast-low : (a v : List ℕ) → 0 < length a → Lows a → utf8 v ≡ true → Abreast a v
@@ -294,18 +297,27 @@ may-scalar : (v : ℕ) → mayEscape v ≡ true → isScalar v ≡ true
 unfolding mayEscape
 may-scalar v h = and-right (ltb 0 v) (isScalar v) h
 
--- w digits follow the letter c
-pub escape-scalar : (w c : ℕ) (text : List ℕ) (b v : ℕ) (r : Taken) → b ≡ text ! 0 → c ≡ text ! 1 → b ≡ 92 → 0 < c → c < 0x80
-    → escaped (c ∷ drop 2 text) ≡ scalarBy w (suc w) (drop 2 text) → v ≡ hexBy w (drop 2 text) → Scalars (suc (suc w)) v r → Takes Escape text r
-escape-scalar w c text b v r eb ec e92 o l s ev k =
-    let n : 92 ∷ c ∷ drop 2 text ≡ text = second text 92 c (sym e92 ∙ eb) ec o in
-    let st : 0 < r .len → escaped (c ∷ drop 2 text) ≡ give (suc w) (take (r .put) (r .bytes)) =
-    λ h. s ∙ scalar-by w (suc w) (drop 2 text) ∙ ap (scalarOf (suc w)) (sym ev) ∙ scalar-step (suc w) k h in
+-- w digits follow the letter l
+pub escape-scalar : (w l : ℕ) → 0 < l → l < 0x80 → ((t : List ℕ) → escaped (l ∷ t) ≡ scalarBy w (suc w) t) → (text : List ℕ) (b c v : ℕ) (r : Taken)
+    → b ≡ text ! 0 → c ≡ text ! 1 → (eqb b 92 && eqb c l) ≡ true → v ≡ hexBy w (drop 2 text) → Scalars (suc (suc w)) v r → Takes Escape text r
+escape-scalar w l o low s text b c v r eb ec h ev k =
+    let n : 92 ∷ l ∷ drop 2 text ≡ text = second text 92 l (sym (eqb-true b 92 (and-left (eqb b 92) (eqb c l) h)) ∙ eb)
+    (sym (eqb-true c l (and-right (eqb b 92) (eqb c l) h)) ∙ ec) o in
+    let st : 0 < r .len → escaped (l ∷ drop 2 text) ≡ give (suc w) (take (r .put) (r .bytes)) =
+    λ h. s (drop 2 text) ∙ scalar-by w (suc w) (drop 2 text) ∙ ap (scalarOf (suc w)) (sym ev) ∙ scalar-step (suc w) k h in
     subst (λ (t : List ℕ). Takes Escape t r) n
-    (takes-unit Escape 92 (c ∷ drop 2 text) (suc w) r (k .few) (k .four) (k .long) st
-    (λ h _. abreast-whole 92 (take (suc w) (c ∷ drop 2 text)) (take (r .put) (r .bytes))
-    (unit-low c (drop 2 text) l (suc w) (take (r .put) (r .bytes)) (st h))
+    (takes-unit Escape 92 (l ∷ drop 2 text) (suc w) r (k .few) (k .four) (k .long) st
+    (λ h _. abreast-whole 92 (take (suc w) (l ∷ drop 2 text)) (take (r .put) (r .bytes))
+    (unit-low l (drop 2 text) low (suc w) (take (r .put) (r .bytes)) (st h))
     (rw (k .put h) (encode-utf8 v (may-scalar v (k .may h))))))
+
+pub escape-four : (t : List ℕ) → escaped (117 ∷ t) ≡ scalarBy 4 5 t
+unfolding digit within
+escape-four t = refl
+
+pub escape-eight : (t : List ℕ) → escaped (85 ∷ t) ≡ scalarBy 8 9 t
+unfolding digit within
+escape-eight t = refl
 
 -- a letter is itself, or it and its byte are ASCII
 letter-kind : (c : ℕ) → (letterOf c ≡ c) ⊎ ((0 < letterOf c) × (letterOf c < 0x80) × (c < 0x80))
@@ -370,20 +382,6 @@ escape-takes text b c x v r eb ec m u w ex d ev er =
     (subst (Takes Escape (b ∷ c ∷ drop 2 text)) (sym er)
     (takes-unit Escape b (c ∷ drop 2 text) 1 (record { len = 2; put = 1; bytes = v ∷ 0 ∷ 0 ∷ 0 ∷ [] }) (omega arith) refl (λ _. refl)
     (λ _. k .step) (λ _ _. k .abreast)))
-
-pub escape-four : (text : List ℕ) (b c v : ℕ) (r : Taken) → b ≡ text ! 0 → c ≡ text ! 1 → (eqb b 92 && eqb c 117) ≡ true
-    → v ≡ hexBy 4 (drop 2 text) → Scalars 6 v r → Takes Escape text r
-unfolding digit within
-escape-four text b c v r eb ec h ev k =
-    let e = eqb-true c 117 (and-right (eqb b 92) (eqb c 117) h) in
-    escape-scalar 4 c text b v r eb ec (eqb-true b 92 (and-left (eqb b 92) (eqb c 117) h)) (omega arith) (omega arith) (rw e) ev k
-
-pub escape-eight : (text : List ℕ) (b c v : ℕ) (r : Taken) → b ≡ text ! 0 → c ≡ text ! 1 → (eqb b 92 && eqb c 85) ≡ true
-    → v ≡ hexBy 8 (drop 2 text) → Scalars 10 v r → Takes Escape text r
-unfolding digit within
-escape-eight text b c v r eb ec h ev k =
-    let e = eqb-true c 85 (and-right (eqb b 92) (eqb c 85) h) in
-    escape-scalar 8 c text b v r eb ec (eqb-true b 92 (and-left (eqb b 92) (eqb c 85) h)) (omega arith) (omega arith) (rw e) ev k
 
 -- U&
 unicode-two : (q b : ℕ) (t : List ℕ) → (eqb b 92 || eqb b q) ≡ true → unicodeStep (92 ∷ []) q (b ∷ b ∷ t) ≡ give 1 (b ∷ [])

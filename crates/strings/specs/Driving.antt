@@ -1,19 +1,16 @@
--- What the quick reading says of a segment, of joined text and of a text. Assumes nothing.
+-- What the quick reading says of a segment and of a text. Assumes nothing.
 use mathlib.Core.Path.{_≡_}
 use mathlib.Core.Bool.{Bool, true, false}
-use mathlib.Core.List.{List, [], _++_}
+use mathlib.Core.List.{List, _++_}
 use Prim.Native.Nat.{ℕ, suc, _+_, _-_, _≤_, _<_}
-use lib.Dec.{eqb}
-use lib.ListN.{length, take, drop}
+use lib.ListN.{length, drop}
 use Rattle.meaning.specs.declared.Settings.{Settings}
-use Rattle.meaning.specs.declared.Read.{Read}
 use Rattle.meaning.specs.Bytes.{if_then_else_, _!_, ascii, has}
 use Rattle.meaning.specs.Steps.{gap}
 use Rattle.meaning.specs.Cutting.{opening}
 use Rattle.meaning.specs.Reading.{Answer, borrowed, written, read}
 use Rattle.meaning.specs.Reads.{Reads, bufferOf}
 use Rattle.laws.proofs.cutting.Fronted.{Segmented}
-use Rattle.laws.proofs.joining.Walked.{Walked}
 use Rattle.cutting.specs.Marks.{markOf}
 use Rattle.cutting.specs.declared.marks.Mark.{Mark}
 use Rattle.cutting.specs.declared.marks.Mark.the-variants.{Quote}
@@ -24,7 +21,6 @@ use Rattle.strings.specs.declared.storing.Store.{Store}
 use Rattle.strings.specs.declared.storing.Body.{Body}
 use Rattle.strings.specs.declared.quick.Opened.{Opened}
 use Rattle.strings.specs.declared.quick.Segment.{Segment}
-use Rattle.strings.specs.declared.quick.Driven.{Driven}
 use Rattle.strings.specs.declared.quick.Quick.{Quick}
 use Rattle.strings.specs.declared.quick.Quick.the-variants as Quick′
 use Rattle.strings.specs.declared.reading.Checked.{Checked}
@@ -52,20 +48,12 @@ pub record Opening (σ : Settings) (t : List ℕ) (at : ℕ) (r : Opened) : Type
 pub record Opens (σ : Settings) (t : List ℕ) (at : ℕ) (r : Opened) : Type 0 where
   pub opens : r .known ≡ true → Opening σ t at r
 
--- a segment whose body was read from a place on
-abbrev pub closedBy : List ℕ → ℕ → Body → Segment
-closedBy t f b = record {
-  read = true;
-  from = f;
-  end = f + b .at + 1;
-  next = f + b .at + 1 + gap (drop (f + b .at + 1) t);
-  plain = b .plain;
-  total = b .total;
-  n = b .n;
-}
+-- a segment whose body was read from a place on, with the white space behind it
+abbrev pub closedBy : ℕ → Body → ℕ → Segment
+closedBy f b g = record { read = true; from = f; end = f + b .at + 1; next = f + b .at + 1 + g; plain = b .plain; total = b .total; n = b .n }
 
 pub record Closes (t : List ℕ) (f : ℕ) (b : Body) (r : Segment) : Type 0 where
-  pub closed : r .read ≡ true → (b .end ≡ Closed) × (r ≡ closedBy t f b)
+  pub closed : r .read ≡ true → (b .end ≡ Closed) × (r ≡ closedBy f b (gap (drop (f + b .at + 1) t)))
 
 -- a segment that was read, from what was stored before it: its value is v
 pub record SegmentRead (σ : Settings) (t : List ℕ) (at : ℕ) (s : Store) (chunk out : List ℕ) (r : Segment) (chunk′ out′ : List ℕ) : Type 0 where
@@ -87,37 +75,18 @@ pub record ReadsSegment (σ : Settings) (t : List ℕ) (at : ℕ) (s : Store) (c
   pub out-same : length out′ ≡ length out
   pub reads : r .read ≡ true → SegmentRead σ t at s chunk out r chunk′ out′
 
--- joined text behind its first segments, which mean w
-pub record Resting (σ : Settings) (t : List ℕ) (s : Segment) (chunk out : List ℕ) (r : Driven) (chunk′ out′ : List ℕ) : Type 0 where
-  pub chunk-same : length chunk′ ≡ length chunk
-  pub out-same : length out′ ≡ length out
-  pub plain : r .plain ≡ false
-  pub reads : r .read ≡ true → (d w : List ℕ) → Walked σ t (s .next) w → Stored d w chunk out (s .total) (s .n)
-      → (v : List ℕ) × (at : ℕ) × (length t ≤ at) × Walked σ t at v × Stored d v chunk′ out′ (r .total) (r .n)
-  pub sum : r .read ≡ true → r .total + r .n ≤ length t
-
--- a text that was read, into a buffer that held d
-pub record Drives (σ : Settings) (t d : List ℕ) (r : Driven) (chunk′ out′ : List ℕ) : Type 0 where
-  pub out-same : length out′ ≡ length d
-  pub chunk-same : length chunk′ ≡ 272
-  pub reads : r .read ≡ true
-      → (w : List ℕ) × (read σ t ≡ (if r .plain then borrowed (r .from) (length t - 1) else written w)) × Stored d w chunk′ out′ (r .total) (r .n)
-  pub sum : r .read ≡ true → r .total + r .n ≤ length t
-  pub some : r .read ≡ true → 1 ≤ length t
-
--- the same, of which only the chunk is left
-pub record Counted (σ : Settings) (t : List ℕ) (r : Driven) (chunk : List ℕ) : Type 0 where
+-- a text that was read, into a buffer that held d: its value is w
+pub record DrivenBy (σ : Settings) (t d : List ℕ) (r : Segment) (chunk′ out′ : List ℕ) : Type 0 where
   pub w : List ℕ
   pub reads : read σ t ≡ (if r .plain then borrowed (r .from) (length t - 1) else written w)
-  pub count : length w ≡ r .total + r .n
-  pub held : r .total ≡ 0 → w ≡ take (r .n) chunk
-  pub few : r .n ≤ length chunk
+  pub stored : Stored d w chunk′ out′ (r .total) (r .n)
   pub sum : r .total + r .n ≤ length t
   pub some : 1 ≤ length t
 
-pub record Counts (σ : Settings) (t : List ℕ) (r : Driven) (chunk : List ℕ) : Type 0 where
-  pub size : length chunk ≡ 272
-  pub reads : r .read ≡ true → Counted σ t r chunk
+pub record Drives (σ : Settings) (t d : List ℕ) (r : Segment) (chunk′ out′ : List ℕ) : Type 0 where
+  pub out-same : length out′ ≡ length d
+  pub chunk-same : length chunk′ ≡ 272
+  pub reads : r .read ≡ true → DrivenBy σ t d r chunk′ out′
 
 -- a value that is written by a second walk, into a buffer of just its length
 pub record Rewrites (σ : Settings) (t out : List ℕ) (r : Bool) (after : List ℕ) : Type 0 where

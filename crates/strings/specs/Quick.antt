@@ -1,12 +1,12 @@
 -- What the quick reading owes, piece by piece: a front of the text behind an opening, and the bytes that it stands for. Nothing is said where it takes nothing:
 -- the reading by units answers there. Assumes nothing.
 use mathlib.Core.Path.{_≡_}
-use mathlib.Core.Bool.{Bool, true, false}
+use mathlib.Core.Bool.{true, false}
 use mathlib.Core.List.{List, [], _∷_}
-use Prim.Native.Nat.{ℕ, suc, _+_, _≤_, _<_}
-use lib.Dec.{eqb, ltb}
+use Prim.Native.Nat.{ℕ, _≤_, _<_}
+use lib.Dec.{ltb}
 use lib.ListN.{length, take, drop}
-use Rattle.meaning.specs.Bytes.{if_then_else_, _!_, span, quote, backslash}
+use Rattle.meaning.specs.Bytes.{if_then_else_, quote, backslash}
 use Rattle.meaning.specs.Chars.{encode}
 use Rattle.meaning.specs.Walk.{Step, give}
 use Rattle.meaning.specs.Steps.{byteOf, mysqlTable, mayEscape, lowHalf, escapeStep}
@@ -20,9 +20,10 @@ use Rattle.escapes.specs.Families.{stepOf, checks}
 use Rattle.strings.specs.declared.taking.Taken.{Taken}
 use Rattle.strings.specs.declared.taking.Raw.{Raw}
 use Rattle.strings.specs.declared.chunks.End.{End}
-use Rattle.strings.specs.declared.chunks.End.the-variants.{Closed, Full, Unread}
+use Rattle.strings.specs.declared.chunks.End.the-variants.{Closed, Full}
 use Rattle.strings.specs.declared.chunks.Part.{Part}
 use Rattle.strings.specs.declared.chunks.Turn.{Turn}
+use Rattle.leaves.specs.Blocks.{passes}
 use Rattle.leaves.specs.Words.{neither}
 
 -- U& is read with the backslash: a text with a UESCAPE clause is not read here
@@ -74,7 +75,7 @@ pub record Raws (text : List ℕ) (r : Raw) : Type 0 where
 pub record Copies (first second : ℕ) (text out : List ℕ) (r : ℕ) (after : List ℕ) : Type 0 where
   pub same : length after ≡ length out
   pub most : r ≤ 16
-  pub free : r ≤ span (neither first second) text
+  pub free : passes (neither first second) r text ≡ true
   pub copied : take r after ≡ take r text
 
 -- TURNS
@@ -85,9 +86,14 @@ pub record Turns (f : Family) (text out : List ℕ) (r : Turn) (after : List ℕ
   pub abreast : checks f ≡ true → Abreast (take (r .at) text) (take (r .n) after)
   pub goes : r .ends ≡ false → 0 < r .at
 
+-- the unit behind a run that is copied already, from a buffer that held d
+pub record TurnsBehind (f : Family) (text : List ℕ) (run : ℕ) (out : List ℕ) (r : Turn) (after : List ℕ) : Type 0 where
+  pub same : length after ≡ length out
+  pub turns : (d : List ℕ) → Copies (markBy f) (otherBy f) text d run out → Turns f text d r after
+
 -- where reading ended
 pub record Ends (text : List ℕ) (at mark : ℕ) (r : End) : Type 0 where
-  pub closed : r ≡ Closed → 0 < mark → Lone text at mark
+  pub closed : r ≡ Closed → Lone text at mark
   pub never : r ≡ Full → ⊥
 
 -- a chunk, as far as it was read

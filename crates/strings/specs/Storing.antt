@@ -1,6 +1,6 @@
 -- What is stored of a value while it is read: its first bytes in what is lent of a buffer, as far as they fit, the others in a chunk. Assumes nothing.
 use mathlib.Core.Path.{_≡_}
-use mathlib.Core.Bool.{Bool, true}
+use mathlib.Core.Bool.{true}
 use mathlib.Core.List.{List, _++_}
 use Prim.Native.Nat.{ℕ, _+_, _≤_, _<_}
 use lib.ListN.{length, take, drop}

@@ -7,9 +7,9 @@ use escapes::units::Family;
 use leaves::bytes::byte_at;
 ghost use mathlib.Core.Path.{_≡_};
 ghost use mathlib.Core.List.{_++_};
-ghost use Prim.Native.Nat.{_≤_};
+ghost use Prim.Native.Nat.{_+_, _≤_};
 ghost use lib.ListN.{length, drop};
-ghost use Rattle.strings.specs.Quick.{markBy, otherBy, Turns, Ends, Expands};
+ghost use Rattle.strings.specs.Quick.{markBy, otherBy, TurnsBehind, Turns, Ends, Expands};
 
 // Why no turn follows.
 pub(crate) enum End {
@@ -75,23 +75,12 @@ fn put_four(bytes: [u8; 4], out: &mut [u8])
     out[3] = bytes[3];
 }
 
-// A turn: a run of bytes that stand for themselves, and the unit behind it.
-fn take_turn(text: &[u8], family: Family, first: u8, second: u8, out: &mut [u8]) -> Turn
-    requires { ⌜ (32 ≤ length (now out)) × (first ≡ markBy family) × (second ≡ otherBy family) ⌝ }
-    ensures { λ r. ⌜ Turns family (now (text .entry)) (now (out .entry)) r (now (out .exit)) ⌝ }
+// The unit behind a run that stands in the buffer already.
+fn take_behind(text: &[u8], run: usize, family: Family, out: &mut [u8]) -> Turn
+    requires { ⌜ (run ≤ length (now text)) × (run + 4 ≤ length (now out)) ⌝ }
+    ensures { λ r. ⌜ TurnsBehind family (now (text .entry)) run (now (out .entry)) r (now (out .exit)) ⌝ }
 {
-    let run = copy_run(text, first, second, out);
-    if run == 16 {
-        return Turn {
-            at: 16,
-            n: 16,
-            plain: true,
-            ends: false,
-        };
-    }
     let unit = take_unit(&text[run..], family);
-    let bytes = unit.bytes;
-    put_four(bytes, &mut out[run..]);
     if unit.len == 0 {
         return Turn {
             at: run,
@@ -100,6 +89,8 @@ fn take_turn(text: &[u8], family: Family, first: u8, second: u8, out: &mut [u8])
             ends: true,
         };
     }
+    let bytes = unit.bytes;
+    put_four(bytes, &mut out[run..]);
     Turn {
         at: run + unit.len,
         n: run + unit.put,
@@ -108,12 +99,31 @@ fn take_turn(text: &[u8], family: Family, first: u8, second: u8, out: &mut [u8])
     }
 }
 
+// A turn: a run of bytes that stand for themselves, and the unit behind it.
+fn take_turn(text: &[u8], family: Family, first: u8, second: u8, out: &mut [u8]) -> Turn
+    requires { ⌜ (32 ≤ length (now out)) × (first ≡ markBy family) × (second ≡ otherBy family) ⌝ }
+    ensures { λ r. ⌜ Turns family (now (text .entry)) (now (out .entry)) r (now (out .exit)) ⌝ }
+{
+    let run = copy_run(text, first, second, out);
+    if run == 16 {
+        return Turn {
+            at: run,
+            n: run,
+            plain: true,
+            ends: false,
+        };
+    }
+    take_behind(text, run, family, out)
+}
+
 // Whether a mark that is not doubled stands where reading ended.
 fn end_at(text: &[u8], at: usize, mark: u8) -> End
-    requires { ⌜ at ≤ length (now text) ⌝ }
     ensures { λ r. ⌜ Ends (now (text .entry)) at mark r ⌝ }
 {
-    if (byte_at(text, at) == mark) & (byte_at(text, at + 1) != mark) {
+    if text.len() <= at {
+        return End::Unread;
+    }
+    if (text[at] == mark) & (byte_at(text, at + 1) != mark) {
         return End::Closed;
     }
     End::Unread

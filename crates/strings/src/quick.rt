@@ -11,7 +11,6 @@ use escapes::units::Family;
 use leaves::bytes::byte_at;
 use leaves::names::is_mark;
 use leaves::puts::put_bytes;
-use leaves::texts::string_literal_embeds_nul;
 use meaning::Read;
 use meaning::Settings;
 use spaces::gap_at;
@@ -21,11 +20,10 @@ ghost use Prim.Native.Nat.{_+_, _≤_, _<_};
 ghost use lib.ListN.{length};
 ghost use Rattle.meaning.specs.Bytes.{has, isMark};
 ghost use Rattle.meaning.specs.Chars.{utf8};
-ghost use Rattle.meaning.specs.Cutting.{continues};
 ghost use Rattle.meaning.specs.Reading.{read};
 ghost use Rattle.cutting.specs.Marks.{markOf};
 ghost use Rattle.strings.specs.declared.chunks.End.the-variants.{Closed};
-ghost use Rattle.strings.specs.Driving.{familyBy, isBits, Opens, Closes, ReadsSegment, Resting, Drives, Counts, Rewrites, QuickReads};
+ghost use Rattle.strings.specs.Driving.{familyBy, isBits, Opens, Closes, ReadsSegment, Drives, Rewrites, QuickReads};
 
 // An answer, or none.
 pub(crate) enum Quick {
@@ -46,15 +44,6 @@ pub(crate) struct Segment {
     pub from: usize,
     pub end: usize,
     pub next: usize,
-    pub plain: bool,
-    pub total: usize,
-    pub n: usize,
-}
-
-// A text that was read: as `Segment` where it is one, else as written.
-pub(crate) struct Driven {
-    pub read: bool,
-    pub from: usize,
     pub plain: bool,
     pub total: usize,
     pub n: usize,
@@ -92,13 +81,24 @@ fn family_of(first: u8, mark: Mark, settings: Settings) -> Family
     Family::Standard { mark, backslash }
 }
 
-// What opens a segment at a place, if it is one of a string.
+// What opens a segment at a place, if it is one of a string: most are opened by a quote mark alone.
+// Rules out: such a segment read with the setting on (must-fail: quote_with_the_setting_on).
 fn open_segment(text: &[u8], at: usize, settings: Settings) -> Opened
     requires { ⌜ at ≤ length (now text) ⌝ }
     ensures { λ r. ⌜ Opens settings (now (text .entry)) at r ⌝ }
 {
-    let len = opening_len(&text[at..]);
     let first = byte_at(text, at);
+    if first == 39 {
+        return Opened {
+            known: true,
+            from: at + 1,
+            family: Family::Standard {
+                mark: Mark::Quote,
+                backslash: settings.backslash,
+            },
+        };
+    }
+    let len = opening_len(&text[at..]);
     if (len == 0) | is_bits(first) {
         return Opened {
             known: false,
@@ -174,82 +174,34 @@ fn read_segment(
     close_segment(text, from, body)
 }
 
-fn undriven() -> Driven
-    ensures { λ r. ⌜ (r .read ≡ false) × (r .plain ≡ false) ⌝ }
-{
-    Driven {
-        read: false,
-        from: 0,
-        plain: false,
-        total: 0,
-        n: 0,
-    }
-}
-
-// Reads the segments behind the first, up to the end.
-fn read_rest(
-    text: &[u8],
-    settings: Settings,
-    first: Segment,
-    chunk: &mut [u8],
-    out: &mut [u8],
-) -> Driven
-    requires { ⌜ (has 0 (now text) ≡ false) × (utf8 (now text) ≡ true) × (first .next ≤ length (now text)) × (length (now chunk) ≡ 272) × (first .n ≤ 272) × (first .total + first .n ≤ first .next) ⌝ }
-    ensures { λ r. ⌜ Resting settings (now (text .entry)) first (now (chunk .entry)) (now (out .entry)) r (now (chunk .exit)) (now (out .exit)) ⌝ }
-{
-    let mut segment = first;
-    while segment.next < text.len() {
-        let at = segment.next;
-        let store = Store {
-            total: segment.total,
-            n: segment.n,
-        };
-        segment = read_segment(text, at, settings, store, chunk, out);
-        if !segment.read {
-            return undriven();
-        }
-    }
-    Driven {
-        read: true,
-        from: 0,
-        plain: false,
-        total: segment.total,
-        n: segment.n,
-    }
-}
-
-// Reads a text: one segment that is all of it, or several of which the second begins with a mark.
-fn drive(text: &[u8], settings: Settings, chunk: &mut [u8], out: &mut [u8]) -> Driven
+// Reads a text: one segment that is all of it, or several of which the second begins with a mark, told as their last, which then does not stand for itself. All
+// segments are read by one call, so that it is compiled into the loop once.
+// Rules out: white space behind a lone segment passed over; several segments of which the second begins with a letter (must-fail: white_space_behind_one, second_by_a_letter).
+fn drive(text: &[u8], settings: Settings, chunk: &mut [u8], out: &mut [u8]) -> Segment
     requires { ⌜ (has 0 (now text) ≡ false) × (utf8 (now text) ≡ true) × (length (now chunk) ≡ 272) ⌝ }
     ensures { λ r. ⌜ Drives settings (now (text .entry)) (now (out .entry)) r (now (chunk .exit)) (now (out .exit)) ⌝ }
 {
-    let nothing = Store { total: 0, n: 0 };
-    let first = read_segment(text, 0, settings, nothing, chunk, out);
-    if !first.read {
-        return undriven();
-    }
-    if first.end == text.len() {
-        return Driven {
-            read: true,
-            from: first.from,
-            plain: first.plain,
-            total: first.total,
-            n: first.n,
+    let mut at: usize = 0;
+    let mut store = Store { total: 0, n: 0 };
+    loop {
+        let mut segment = read_segment(text, at, settings, store, chunk, out);
+        if !segment.read | ((at == 0) & (segment.end == text.len())) {
+            return segment;
+        }
+        if (at == 0) & !is_mark(byte_at(text, segment.next)) {
+            segment.read = false;
+            return segment;
+        }
+        if text.len() <= segment.next {
+            segment.plain = false;
+            return segment;
+        }
+        at = segment.next;
+        store = Store {
+            total: segment.total,
+            n: segment.n,
         };
     }
-    if is_mark(byte_at(text, first.next)) {
-        return read_rest(text, settings, first, chunk, out);
-    }
-    undriven()
-}
-
-// Reads a text into the chunk alone: what fills it up is counted and lost.
-fn count(text: &[u8], settings: Settings, chunk: &mut [u8]) -> Driven
-    requires { ⌜ (has 0 (now text) ≡ false) × (utf8 (now text) ≡ true) × (length (now chunk) ≡ 272) ⌝ }
-    ensures { λ r. ⌜ Counts settings (now (text .entry)) r (now (chunk .exit)) ⌝ }
-{
-    let mut nowhere = [0u8; 1];
-    drive(text, settings, chunk, &mut nowhere)
 }
 
 // Writes by a second walk what a first has counted.
@@ -265,17 +217,15 @@ fn write_again(text: &[u8], settings: Settings, chunk: &mut [u8], out: &mut [u8]
     driven.read
 }
 
-// Reads a text that is UTF-8, if it can be read so. The buffer is touched once all is known: what never filled the chunk is copied out of it, anything else is
-// walked again and written. That the second walk reads what the first has read need not be shown: if it did not, the reading by units would write the same.
+// Reads a text that is UTF-8 and holds no NUL, if it can be read so. The buffer is touched once all is known: a first walk only counts what fills the chunk up. What
+// never filled it is copied out of it, anything else is walked again and written. That the second walk reads what the first has read need not be shown: if it did not, the reading by units would write the same.
 pub(crate) fn read_quick(text: &[u8], settings: Settings, out: &mut [u8]) -> Quick
-    requires { ⌜ utf8 (now text) ≡ true ⌝ }
+    requires { ⌜ (has 0 (now text) ≡ false) × (utf8 (now text) ≡ true) ⌝ }
     ensures { λ r. ⌜ QuickReads (read settings (now (text .entry))) (now (out .entry)) r (now (out .exit)) ⌝ }
 {
-    if string_literal_embeds_nul(text) {
-        return Quick::Unread;
-    }
     let mut chunk = [0u8; 272];
-    let driven = count(text, settings, &mut chunk);
+    let mut nowhere = [0u8; 1];
+    let driven = drive(text, settings, &mut chunk, &mut nowhere);
     if !driven.read {
         return Quick::Unread;
     }

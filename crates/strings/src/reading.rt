@@ -5,6 +5,7 @@ use crate::plain::is_plain;
 use crate::plain::is_plain_ascii;
 use crate::quick::Quick;
 use crate::quick::read_quick;
+use leaves::texts::string_literal_embeds_nul;
 use meaning::Read;
 use meaning::Settings;
 use utf8::check::is_utf8;
@@ -26,6 +27,9 @@ fn read_utf8(text: &[u8], settings: Settings, out: &mut [u8]) -> Read
     requires { ⌜ utf8 (now text) ≡ true ⌝ }
     ensures { λ r. ⌜ Reads (read settings (now (text .entry))) (now (out .entry)) r (now (out .exit)) ⌝ }
 {
+    if string_literal_embeds_nul(text) {
+        return read_by_units(text, settings, out);
+    }
     let quick = read_quick(text, settings, out);
     if let Quick::Answer(answer) = quick {
         return answer;

@@ -1,7 +1,7 @@
 -- `strings::joined::put_segments` meets its contract. The loop's invariant, `JoinsAt`: the segments before the cursor mean n bytes, which are put where there is
 -- room. The measure is what is left behind the cursor. Assumes nothing.
 use Prim.Native.Nat.{_-_}
-use native.Mathlib.Omega.{arith}
+use Rattle.strings.proofs.Lending.{place-fits}
 use borrow.Author.Needs.{needs}
 use lib.ListN.{length}
 use Rattle.strings.proofs.Joinings.{JoinsAt, joins-start, joins-end, joins-remainder, segment-ordered, segment-inside, cursor-less, joins-turn}
@@ -14,30 +14,6 @@ Inv-loop text settings out₀ cursor₀ n₀ out cursor n = JoinsAt settings tex
 
 abbrev μ-loop : tie.MeasureT-loop
 μ-loop text settings out₀ cursor₀ n₀ out cursor n = length text - cursor .at
-
--- in a turn: behind `put_segment`, and where the segment is found
-add-n : tie.Need-add-n Inv-loop μ-loop
-add-n c =
-    let p = c .before .before .before .before .before in
-    let s = p .before .before .before .before .before in
-    let h = joins-fits (s .before .before .before .loop .inv) _ (s .before .before .next .ensures) _ _ _ _ (s .start .given .1) _ (p .before .before .before .least .ensures) _ _ (p .put-segment .ensures) _
-    (c .before .k .given .1) in
-    omega (arith, h, s .before .before .before .before .before .before .before .good .0 .0)
-
-add-t22 : tie.Need-add-t22 Inv-loop μ-loop
-add-t22 c =
-    let p = c .before .before .before .before .before in
-    let s = p .before .before .before .before .before in
-    let h = refused-fits (s .before .before .before .loop .inv) _ (s .before .before .next .ensures) _ _ _ _ (s .start .given .1) _ (p .before .before .before .least .ensures) _ _ (p .put-segment .ensures) _
-    (c .before .p .given .1) in
-    omega (arith, h, s .before .before .before .before .before .before .before .good .0 .0)
-
-loop-again : tie.Need-loop-again Inv-loop μ-loop
-loop-again c =
-    let p = c .before .before .before .before .before in
-    let s = p .before .before .before .before .before in
-    joins-turn (s .before .before .before .loop .inv) _ (s .before .before .next .ensures) _ _ _ _ (s .start .given .1) _ (p .before .before .before .least .ensures) _ _ (p .put-segment .ensures) _
-    (c .before .k .given .1) (search needs)
 
 pub put-segments-spec : {M : Type 1} → statement M
 put-segments-spec =
@@ -58,13 +34,13 @@ put-segments-spec =
     (λ c. search needs)
     (λ c κs. search needs)
     (λ c. search needs)
-    add-n
+    (λ c. search (place-fits, joins-fits))
     (λ c. search needs)
-    add-t22
+    (λ c. search (place-fits, refused-fits))
     (λ c. search needs)
     (λ c. search joins-refused)
     (λ c. search cursor-less)
-    loop-again
+    (λ c. search (joins-turn, needs))
     (λ c. search needs)
     (λ c. c .before .before .before .loop .inv .same)
     (λ c. search joins-end)

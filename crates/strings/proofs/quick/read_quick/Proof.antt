@@ -3,25 +3,22 @@ use native.Mathlib.Omega.{arith}
 use mathlib.Core.Path.{sym}
 use lib.Seq.{length-take-le}
 use borrow.Author.Needs.{needs}
+use Rattle.strings.proofs.Lending.{place-fits}
 use Rattle.strings.proofs.QuickAnswers.{counted-some, counted-held, counted-fits, quick-borrowed, quick-lacks, quick-put, quick-again, quick-left}
 use Rattle.strings.proofs.quick.read_quick.Statement.{statement}
 use Rattle.strings.proofs.quick.read_quick.Tie as tie
-
-add-needed : tie.Need-add-needed
-add-needed c = omega (arith, counted-fits _ _ _ _ (c .before .before .before .before .before .count .ensures) (c .before .before .if2 .left))
 
 pub read-quick-spec : {M : Type 1} → statement M
 read-quick-spec =
     tie.close
     (tie.spec
-    (λ c κs. search needs)
     (λ c. search needs)
     (λ c. search needs)
     (λ c κs. search needs)
     (λ c. search needs)
     (λ c. search counted-some)
     (λ c. search quick-borrowed)
-    add-needed
+    (λ c. search (place-fits, counted-fits))
     (λ c. search quick-lacks)
     (λ c. search counted-held)
     (λ c. sym (length-take-le _ _ (search counted-held)))

@@ -4,18 +4,6 @@ use Rattle.strings.proofs.TakenUnits.{mysql-of}
 use Rattle.strings.proofs.taking.mysql_byte.Statement.{statement}
 use Rattle.strings.proofs.taking.mysql_byte.Tie as tie
 
-returns : tie.Need-returns
-returns c =
-    rw (
-      c .choose6 .ensures,
-      c .before .choose5 .ensures,
-      c .before .before .choose4 .ensures,
-      c .before .before .before .choose3 .ensures,
-      c .before .before .before .before .choose2 .ensures,
-      c .before .before .before .before .before .choose .ensures,
-    )
-    (mysql-of (c .before .before .before .before .before .before .args .letter))
-
 pub mysql-byte-spec : {M : Type 1} → statement M
 mysql-byte-spec =
     tie.close
@@ -26,4 +14,4 @@ mysql-byte-spec =
     (λ c κs. search needs)
     (λ c κs. search needs)
     (λ c κs. search needs)
-    returns)
+    (λ c. search mysql-of))
