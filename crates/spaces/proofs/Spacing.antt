@@ -1,21 +1,23 @@
 -- White space at a place, by the number of the character there; and a loop that steps from one white-space character to the next. Assumes nothing.
 use mathlib.Core.Path.{_≡_, refl, ap, sym, _∙_}
-use mathlib.Core.Bool.{Bool, true, false, _&&_}
+use mathlib.Core.Bool.{Bool, true, false, _&&_, _||_}
 use mathlib.Core.List.{List, [], _∷_}
 use Prim.Native.Nat.{ℕ, zero, suc, _+_, _-_, _≤_, _<_}
 use native.Mathlib.Omega.{arith}
 use native.Mathlib.Decide.{decLt}
-use lib.Dec.{leb}
+use lib.Dec.{eqb, leb}
 use lib.ListN.{length, drop, getD, length-drop, drop-of-length-le}
 use lib.Seq.{drop-cons, drop-drop}
 use Rattle.meaning.specs.Bytes.{if_then_else_, within}
 use Rattle.meaning.specs.Chars.{Due, due, broken, lead, width, widthBy, isSpace, space, spaceAt}
 use Rattle.meaning.specs.Steps.{spaceStep, spaceBy, gap}
 use Rattle.laws.proofs.walking.Walks.{FitsIn}
-use Rattle.laws.proofs.basics.Tests.{within-below, within-above}
+use borrow.Author.Tests.{leb-true, eqb-true, eqb-false}
+use Rattle.laws.proofs.basics.Tests.{and-right, or-left, or-right, within-below, within-above}
 use Rattle.laws.proofs.utf8.Utf8.{low-lead}
 use Rattle.laws.proofs.cutting.Gaps.{no-space, space-fits}
 use Rattle.laws.proofs.walking.Courses.{SoFar, so-far-none, so-far-give, size-here, size-end}
+use Rattle.spaces.specs.Blanks.{isBlank}
 use Rattle.scalars.specs.Scalars.{scalarFrom, scalarOf}
 
 pub space-none : (text : List ℕ) (at : ℕ) → length text ≤ at → 0 ≡ space (drop at text)
@@ -87,11 +89,11 @@ module _ {text : List ℕ} {at i : ℕ} (v : Spacing text at i) where
 
 -- AN ASCII BYTE
 module _ (b : ℕ) where
-  pub ascii-controls : (leb 9 b && leb b 13) ≡ true → _≡_ {A = ℕ} 1 (if isSpace b then 1 else 0)
+  ascii-controls : (leb 9 b && leb b 13) ≡ true → _≡_ {A = ℕ} 1 (if isSpace b then 1 else 0)
   unfolding isSpace within
   ascii-controls h = rw h
 
-  pub ascii-blank : b ≡ 32 → _≡_ {A = ℕ} 1 (if isSpace b then 1 else 0)
+  ascii-blank : b ≡ 32 → _≡_ {A = ℕ} 1 (if isSpace b then 1 else 0)
   unfolding isSpace within
   ascii-blank e = rw e
 
@@ -122,11 +124,34 @@ module _ (b : ℕ) where
         within-below 0x3000 0x3000 b (omega arith),
       )
 
-  pub ascii-solid : b < 0x80 → (leb 9 b && leb b 13) ≡ false → (b ≡ 32 → ⊥) → _≡_ {A = ℕ} 0 (if isSpace b then 1 else 0)
-  ascii-solid l h n = rw (not-space l h n)
+  -- as one test tells
+  module _ (x : Bool) (e : x ≡ isBlank b) where
+    pub blank-one : x ≡ true → _≡_ {A = ℕ} 1 (if isSpace b then 1 else 0)
+    blank-one y = go (leb 9 b && leb b 13) refl (sym e ∙ y)
+      where
+        go : (c : Bool) → (leb 9 b && leb b 13) ≡ c → (c || eqb b 32) ≡ true → _≡_ {A = ℕ} 1 (if isSpace b then 1 else 0)
+        go true k z = ascii-controls k
+        go false k z = ascii-blank (eqb-true b 32 z)
+
+    pub blank-low : x ≡ true → b < 0x80
+    blank-low y = go (leb 9 b && leb b 13) refl (sym e ∙ y)
+      where
+        go : (c : Bool) → (leb 9 b && leb b 13) ≡ c → (c || eqb b 32) ≡ true → b < 0x80
+        go true k z = let l = leb-true b 13 (and-right (leb 9 b) (leb b 13) k) in omega arith
+        go false k z = let w = eqb-true b 32 z in omega arith
+
+    pub solid-none : b < 0x80 → x ≡ false → _≡_ {A = ℕ} 0 (if isSpace b then 1 else 0)
+    solid-none l y =
+        let f = sym e ∙ y in
+        rw (not-space l (or-left (leb 9 b && leb b 13) (eqb b 32) f) (eqb-false b 32 (or-right (leb 9 b && leb b 13) (eqb b 32) f)))
 
 pub space-ascii : (text : List ℕ) (at : ℕ) → at < length text → getD text at 0 < 0x80 → (r : ℕ) → r ≡ (if isSpace (getD text at 0) then 1 else 0)
     → r ≡ space (drop at text)
 space-ascii text at h l r e =
     let z : getD text at 0 - 0 ≡ getD text at 0 = omega arith in
     e ∙ sym (ap space (drop-cons text at 0 h) ∙ rw (low-lead (getD text at 0) l, z))
+
+-- a blank of ASCII is white space of one byte
+pub blank-on : {text : List ℕ} {at i : ℕ} → Spacing text at i → i < length text → (x : Bool) → x ≡ isBlank (getD text i 0) → x ≡ true → Spacing text at (i + 1)
+blank-on {text} {at} {i} v h x e y =
+    spacing-on v h 1 (space-ascii text i h (blank-low (getD text i 0) x e y) 1 (blank-one (getD text i 0) x e y)) (λ z. omega arith)

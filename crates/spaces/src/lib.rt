@@ -7,6 +7,7 @@ ghost use lib.ListN.{drop};
 ghost use Rattle.meaning.specs.Bytes.{if_then_else_};
 ghost use Rattle.meaning.specs.Chars.{isSpace, space};
 ghost use Rattle.meaning.specs.Steps.{gap};
+ghost use Rattle.spaces.specs.Blanks.{isBlank};
 
 // The low and the high ends of the ranges.
 const LOWS: [u32; 10] = [
@@ -54,15 +55,19 @@ fn is_white_space(scalar: u32) -> bool
     false
 }
 
+// Whether a byte is one of the blanks of ASCII.
+fn is_blank(byte: u8) -> bool
+    ensures { λ r. ⌜ r ≡ isBlank byte ⌝ }
+{
+    ((9 <= byte) & (byte <= 13)) | (byte == 32)
+}
+
 // How many bytes an ASCII byte has as white space: one, or none.
 fn ascii_space(byte: u8) -> usize
     requires { ⌜ byte < 0x80 ⌝ }
     ensures { λ r. ⌜ r ≡ (if isSpace byte then 1 else 0) ⌝ }
 {
-    if (9 <= byte) & (byte <= 13) {
-        return 1;
-    }
-    if byte == 32 {
+    if is_blank(byte) {
         return 1;
     }
     0
@@ -86,18 +91,22 @@ pub fn space_at(text: &[u8], at: usize) -> usize
     0
 }
 
-// How many bytes of white space stand at a place.
+// How many bytes of white space stand at a place. A blank of ASCII is passed by a guess that it is one, so that what follows need not wait for its byte.
 // Rules out: a place told for a length; the first character asked again at each turn (must-fail: first_space_again, place_for_length).
 pub fn gap_at(text: &[u8], at: usize) -> usize
     ensures { λ r. ⌜ r ≡ gap (drop at (now (text .entry))) ⌝ }
 {
     let mut i = at;
     while i < text.len() {
-        let size = space_at(text, i);
-        if size == 0 {
-            return i - at;
+        if is_blank(text[i]) {
+            i += 1;
+        } else {
+            let size = space_at(text, i);
+            if size == 0 {
+                return i - at;
+            }
+            i += size;
         }
-        i += size;
     }
     i - at
 }
