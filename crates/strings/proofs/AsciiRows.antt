@@ -2,51 +2,35 @@
 use mathlib.Core.Path.{_≡_, refl, ap, sym, _∙_}
 use mathlib.Core.Bool.{Bool, true, false, _&&_, not, false≢true}
 use mathlib.Core.List.{List, [], _∷_, _++_}
-use Prim.Native.Nat.{ℕ, _+_, _-_, _%_, _^_, _≤_, _<_}
+use Prim.Native.Nat.{ℕ, _-_, _≤_}
 use native.Mathlib.Omega.{arith}
-use lib.Dec.{eqb, ltb}
+use lib.Dec.{eqb}
 use lib.ListN.{length, take, drop}
-use borrow.Author.Tests.{ltb-true, ltb-false, ne-eqb, not-false}
+use borrow.Author.Tests.{ne-eqb, not-false}
 use Rattle.meaning.specs.declared.Settings.{Settings}
 use Rattle.meaning.specs.declared.Read.the-variants as Read′
 use Rattle.meaning.specs.Bytes.{within, part, quote}
 use Rattle.meaning.specs.Chars.{Due, fresh, pushes, whole, utf8}
 use Rattle.meaning.specs.Spelling.{encloses}
 use Rattle.meaning.specs.Reading.{read}
-use Rattle.laws.proofs.basics.Tests.{and-left, and-right, within-yes, within-below, within-above, within-bounds}
-use Rattle.laws.proofs.utf8.Utf8.{low-lead}
+use Rattle.meaning.specs.Reads.{Reads}
+use Rattle.laws.proofs.basics.Tests.{and-left, and-right}
+use Rattle.laws.proofs.utf8.Utf8.{low-lead, pushes-append}
+use Rattle.utf8.specs.Plain.{plainOf}
+use Rattle.utf8.proofs.PlainBytes.{plain-bounds, plain-pushes}
 use Rattle.leaves.specs.declared.blocks.Stops.{Stops}
 use Rattle.leaves.specs.Blocks.{freeOf, passes}
 use Rattle.strings.specs.declared.reading.Checked.the-variants as Checked′
-use Rattle.strings.specs.Plain.{settingStops, isPlain, plainOf, PlainAscii}
+use Rattle.strings.specs.Plain.{settingStops, isPlain, PlainAscii}
 use Rattle.strings.specs.Driving.{Checks}
 use Rattle.strings.proofs.Plains.{enclosed-is, plain-long, plain-borrowed}
 
--- A BYTE from 1 to 127, by one comparison
-low-by : (b r : ℕ) → b < 2 ^ 8 → r < 2 ^ 8 → (r + 1) % 2 ^ 8 ≡ b → ltb r 127 ≡ within 1 127 b
-low-by b r h f e = go (ltb r 127) refl
-  where
-    go : (x : Bool) → ltb r 127 ≡ x → x ≡ within 1 127 b
-    go true y = let k = ltb-true r 127 y in sym (within-yes 1 127 b (omega arith) (omega arith))
-    go false y = outside (ltb r 255) refl
-      where
-        outside : (x : Bool) → ltb r 255 ≡ x → false ≡ within 1 127 b
-        outside true z = let l = ltb-true r 255 z in let k = ltb-false r 127 y in sym (within-above 1 127 b (omega arith))
-        outside false z = let l = ltb-false r 255 z in sym (within-below 1 127 b (omega arith))
-
-pub plain-byte : (b x y r : ℕ) → b < 2 ^ 8 → r < 2 ^ 8 → (r + 1) % 2 ^ 8 ≡ b → (ltb r 127 && not (eqb b x) && not (eqb b y)) ≡ plainOf x y b
-unfolding plainOf
-plain-byte b x y r h f e = rw (low-by b r h f e)
-
+-- A BYTE
 module _ (x y b : ℕ) (h : plainOf x y b ≡ true) where
-  bounds : (1 ≤ b) × (b ≤ 127)
-  unfolding plainOf
-  bounds = within-bounds 1 127 b (and-left (within 1 127 b) (not (eqb b x)) (and-left (within 1 127 b && not (eqb b x)) (not (eqb b y)) h))
-
   plain-free : freeOf (record { first = x; second = y; third = 0 }) b ≡ true
   unfolding plainOf freeOf
   plain-free =
-      let k = bounds in
+      let k = plain-bounds x y b h in
       rw (
         and-right (within 1 127 b) (not (eqb b x)) (and-left (within 1 127 b && not (eqb b x)) (not (eqb b y)) h),
         and-right (within 1 127 b && not (eqb b x)) (not (eqb b y)) h,
@@ -61,15 +45,11 @@ module _ (x y : ℕ) where
       rw (plain-free x y b (and-left (plainOf x y b) (passes (plainOf x y) (length v) v) h))
       (body-free v (and-right (plainOf x y b) (passes (plainOf x y) (length v) v) h))
 
-  body-pushes : (v : List ℕ) → passes (plainOf x y) (length v) v ≡ true → pushes fresh (v ++ (quote ∷ [])) ≡ fresh
-  body-pushes [] h = low-lead quote (omega arith)
-  body-pushes (b ∷ v) h =
-      let k = bounds x y b (and-left (plainOf x y b) (passes (plainOf x y) (length v) v) h) in
-      ap (λ (d : Due). pushes d (v ++ (quote ∷ []))) (low-lead b (omega arith)) ∙ body-pushes v (and-right (plainOf x y b) (passes (plainOf x y) (length v) v) h)
-
   body-utf8 : (v : List ℕ) → passes (plainOf x y) (length v) v ≡ true → utf8 (quote ∷ (v ++ (quote ∷ []))) ≡ true
   unfolding utf8
-  body-utf8 v h = ap whole (ap (λ (d : Due). pushes d (v ++ (quote ∷ []))) (low-lead quote (omega arith)) ∙ body-pushes v h)
+  body-utf8 v h =
+      ap whole (ap (λ (d : Due). pushes d (v ++ (quote ∷ []))) (low-lead quote (omega arith)) ∙ pushes-append fresh v (quote ∷ [])
+      ∙ ap (λ (d : Due). pushes d (quote ∷ [])) (plain-pushes x y v h) ∙ low-lead quote (omega arith))
 
 -- AS THE CODE ASKS: two marks first, then the body
 module _ (σ : Settings) (t : List ℕ) where
@@ -94,10 +74,3 @@ module _ (σ : Settings) (t : List ℕ) where
             rw enclosed (body-free quote (settingStops σ .second) v p),
             ap utf8 (enclosed-is quote t enclosed) ∙ body-utf8 quote (settingStops σ .second) v p,
           )
-
-  module _ (x : Bool) (a : PlainAscii σ t x) (y : x ≡ true) where
-    pub ascii-long : 1 ≤ length t
-    ascii-long = plain-long σ t true (sym (a .by y .0)) refl
-
-    pub ascii-checks : (out : List ℕ) → Checks (utf8 t) (read σ t) out (Checked′.Text (Read′.Borrowed 1 (length t - 1))) out
-    ascii-checks out = record { by = (a .by y .1, plain-borrowed σ t true (sym (a .by y .0)) refl out) }

@@ -1,4 +1,4 @@
--- A text read into a chunk turn by turn: a turn is a run of bytes that stand for themselves and the unit behind it; and the turns so far. Assumes nothing.
+-- A turn of reading: the part of a buffer that was lent comes back; a run of bytes that stand for themselves, the unit behind it, and what follows. Assumes nothing.
 use mathlib.Core.Path.{_≡_, refl, ap, ap₂, sym, _∙_}
 use mathlib.Core.Bool.{Bool, true, false, _&&_, not, false≢true}
 use mathlib.Core.List.{List, [], _∷_, _++_}
@@ -7,28 +7,26 @@ use native.Mathlib.Numerals.{add-one}
 use native.Mathlib.Omega.{arith}
 use lib.Dec.{eqb}
 use lib.ListN.{length, take, drop, length-append, length-take, length-drop}
-use lib.Seq.{length-take-le, take-add, take-append-le}
+use lib.Seq.{take-add, take-append-le}
 use borrow.Author.Tests.{eqb-true, not-true}
 use Rattle.meaning.specs.Bytes.{_!_, quote, backslash}
 use Rattle.meaning.specs.Walk.{Step, keep}
 use Rattle.laws.proofs.basics.Tests.{and-left, and-right, eqb-sym}
 use Rattle.laws.proofs.basics.Lists.{part-tail}
-use Rattle.laws.proofs.walking.Fronts.{Front, front-none, front-more, front-kept, front-brief}
-use Rattle.laws.proofs.utf8.Abreast.{Abreast, abreast-same, abreast-more}
+use Rattle.laws.proofs.walking.Fronts.{Front, front-more, front-kept}
+use Rattle.laws.proofs.utf8.Abreast.{abreast-same, abreast-more}
 use Rattle.leaves.specs.Blocks.{passes}
 use Rattle.leaves.proofs.RunSteps.{KeepsAll}
 use Rattle.leaves.proofs.Scans.{passes-inside}
 use Rattle.cutting.specs.Marks.{markOf}
 use Rattle.escapes.specs.declared.units.Family.{Family}
 use Rattle.escapes.specs.declared.units.Family.the-variants.{Standard, Escape, Unicode}
-use Rattle.escapes.specs.Families.{checks}
-use Rattle.escapes.proofs.Turns.{steady}
 use Rattle.strings.specs.declared.taking.Taken.{Taken}
 use Rattle.strings.specs.declared.chunks.End.{End}
-use Rattle.strings.specs.declared.chunks.End.the-variants.{Closed, Full, Unread}
+use Rattle.strings.specs.declared.chunks.End.the-variants.{More, Closed, Unread}
 use Rattle.strings.specs.declared.chunks.Turn.{Turn}
 use Rattle.leaves.specs.Words.{neither}
-use Rattle.strings.specs.Quick.{stepBy, markBy, otherBy, Takes, Copies, Turns, TurnsBehind, Ends, Expands}
+use Rattle.strings.specs.Quick.{stepBy, markBy, otherBy, Takes, Copies, Turns, TurnsBehind, Ends}
 use Rattle.strings.proofs.Lending.{lent, back, back-same, back-take}
 
 -- FREE BYTES stand for themselves
@@ -132,89 +130,26 @@ module _ (f : Family) (text d : List ℕ) (first second run : ℕ) (out : List �
   pub turn-on : (r : Turn) (after : List ℕ) → TurnsBehind f text run out r after → Turns f text d r after
   turn-on r after x = x .turns d c
 
--- THE END: whether a mark stands there alone
-pub ends-closed : (text : List ℕ) (at mark next : ℕ) → at < length text → next ≡ text ! (at + 1) → (eqb (text ! at) mark && not (eqb next mark)) ≡ true → Ends text at mark Closed
-ends-closed text at mark next l en h = record {
-  closed = λ q. record {
-    inside = l;
-    here = eqb-true (text ! at) mark (and-left (eqb (text ! at) mark) (not (eqb next mark)) h);
-    alone =
-        ap (λ (i : ℕ). eqb (text ! i) mark) (sym (add-one at)) ∙ ap (λ (b : ℕ). eqb b mark) (sym en)
-        ∙ not-true (eqb next mark) (and-right (eqb (text ! at) mark) (not (eqb next mark)) h);
-  };
-  never = λ q. let z : _≡_ {A = ℕ} 0 1 = cc in omega arith;
-}
+-- WHAT FOLLOWS: another turn, a mark that stands alone, or neither
+module _ (text : List ℕ) (at : ℕ) (f : Family) (ends : Bool) where
+  pub ends-more : not ends ≡ true → Ends text at f ends More
+  ends-more h = record { closed = λ q. absurd (let z : _≡_ {A = ℕ} 0 1 = cc in omega arith); more = λ q. not-true ends h }
 
-pub ends-unread : (text : List ℕ) (at mark : ℕ) → Ends text at mark Unread
-ends-unread text at mark = record {
-  closed = λ q. absurd (let z : _≡_ {A = ℕ} 0 1 = cc in omega arith);
-  never = λ q. let z : _≡_ {A = ℕ} 0 1 = cc in omega arith;
-}
-
--- THE TURNS SO FAR, into a chunk that held d
-pub record Chunked (f : Family) (text d chunk : List ℕ) (at n : ℕ) (p : Bool) : Type 0 where
-  pub same : length chunk ≡ length d
-  pub within : n ≤ length chunk
-  pub front : Front (stepBy f) text at (take n chunk) p
-  pub abreast : checks f ≡ true → Abreast (take at text) (take n chunk)
-
-pub chunked-none : (f : Family) (text d : List ℕ) → Chunked f text d d 0 0 true
-chunked-none f text d = record { same = refl; within = omega arith; front = front-none (stepBy f) text; abreast = λ x. abreast-same [] }
-
-module _ {f : Family} {text d chunk : List ℕ} {at n : ℕ} {p : Bool} (x : Chunked f text d chunk at n p) where
-  pub chunked-there : at ≤ length text
-  chunked-there = x .front .so-far .inside
-
-  pub chunked-full : 32 ≤ length d → length chunk - n < 32 → Expands f text d (record { at = at; n = n; plain = p; end = Full }) chunk
-  chunked-full h k = record {
-    same = x .same;
-    room = omega (arith, x .within, x .same);
-    front = x .front;
-    abreast = x .abreast;
+  pub ends-unread : Ends text at f ends Unread
+  ends-unread = record {
     closed = λ q. absurd (let z : _≡_ {A = ℕ} 0 1 = cc in omega arith);
-    goes = λ q. omega (arith, front-brief (steady f (backslash ∷ [])) (x .front), length-take-le n chunk (x .within), x .same);
+    more = λ q. absurd (let z : _≡_ {A = ℕ} 0 1 = cc in omega arith);
   }
 
-  -- a turn more
-  module _ {r : Turn} {last : List ℕ} (t : Turns f (lent at text) (lent n chunk) r last) where
-    turn-front : Front (stepBy f) (drop at text) (r .at) (take (r .n) last) (r .plain)
-    turn-front = let h = t .front in rw (part-tail text at) at h
-
-    pub turned-there : at + r .at ≤ length text
-    turned-there = omega (arith, turn-front .so-far .inside, length-drop at text, chunked-there)
-
-    pub turned-room : 32 ≤ length chunk - n → n + r .n ≤ length d
-    turned-room h = omega (arith, t .room, x .same)
-
-    pub turned-less : r .ends ≡ false → length text - (at + r .at) < length text - at
-    turned-less e = omega (arith, t .goes e, turned-there)
-
-    pub turned : 32 ≤ length chunk - n → Chunked f text d (back n chunk last) (at + r .at) (n + r .n) (p && r .plain)
-    turned room =
-        let k = back-take chunk last n (x .within) (t .same) (r .n) in
-        let s = back-same chunk last n (x .within) (t .same) in
-        record {
-          same = s ∙ x .same;
-          within = omega (arith, t .room, s);
-          front = rw k (front-more (x .front) (r .at) (take (r .n) last) (r .plain) turn-front);
-          abreast =
-              λ y. let a = t .abreast y in rw (k, take-add at (r .at) text)
-              (abreast-more (take at text) (take n chunk) (take (r .at) (drop at text)) (take (r .n) last) (x .abreast y) (rw (part-tail text at) at a));
-        }
-
-    pub turned-same : length (back n chunk last) ≡ length d
-    turned-same = back-same chunk last n (x .within) (t .same) ∙ x .same
-
-    -- and none behind it
-    pub turned-ends : 32 ≤ length chunk - n → (first : ℕ) (e : End) → Ends text (at + r .at) first e → first ≡ markBy f
-        → Expands f text d (record { at = at + r .at; n = n + r .n; plain = p && r .plain; end = e }) (back n chunk last)
-    turned-ends room first e y ef =
-        let c = turned room in
-        record {
-          same = c .same;
-          room = omega (arith, c .within, c .same);
-          front = c .front;
-          abreast = c .abreast;
-          closed = λ q. rw (← ef) (y .closed q);
-          goes = λ q. absurd (y .never q);
-        }
+  pub ends-closed : (mark next : ℕ) → at < length text → mark ≡ markBy f → next ≡ text ! (at + 1) → (eqb (text ! at) mark && not (eqb next mark)) ≡ true
+      → Ends text at f ends Closed
+  ends-closed mark next l em en h = record {
+    closed = λ q. rw (← em) (record {
+      inside = l;
+      here = eqb-true (text ! at) mark (and-left (eqb (text ! at) mark) (not (eqb next mark)) h);
+      alone =
+          ap (λ (i : ℕ). eqb (text ! i) mark) (sym (add-one at)) ∙ ap (λ (b : ℕ). eqb b mark) (sym en)
+          ∙ not-true (eqb next mark) (and-right (eqb (text ! at) mark) (not (eqb next mark)) h);
+    });
+    more = λ q. absurd (let z : _≡_ {A = ℕ} 0 1 = cc in omega arith);
+  }

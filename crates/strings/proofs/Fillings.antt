@@ -1,60 +1,48 @@
--- A body that is read on, chunk by chunk. Assumes nothing.
+-- A body that is read on, turn by turn. Assumes nothing.
 use mathlib.Core.Path.{_≡_, refl, ap, sym, _∙_, subst}
 use mathlib.Core.Bool.{true, _&&_}
 use mathlib.Core.List.{List, [], _∷_, _++_, append-assoc, append-nil}
-use Prim.Native.Nat.{ℕ, suc, _+_, _-_, _≤_, _<_}
+use Prim.Native.Nat.{ℕ, _+_, _-_, _≤_, _<_}
 use native.Mathlib.Omega.{arith}
-use lib.Dec.{eqb}
 use lib.ListN.{length, take, drop, length-drop}
-use lib.Seq.{take-add, length-take-le, getD-drop}
-use Rattle.meaning.specs.Bytes.{_!_, backslash}
+use lib.Seq.{take-add, length-take-le}
+use Rattle.meaning.specs.Bytes.{backslash}
 use Rattle.laws.proofs.basics.Lists.{part-tail}
 use Rattle.laws.proofs.walking.Fronts.{front-none, front-more, front-brief}
 use Rattle.laws.proofs.utf8.Abreast.{Abreast, abreast-same, abreast-more}
-use Rattle.laws.proofs.cutting.Fronted.{Lone}
 use Rattle.escapes.specs.declared.units.Family.{Family}
 use Rattle.escapes.proofs.Turns.{steady}
 use Rattle.strings.specs.declared.chunks.End.{End}
-use Rattle.strings.specs.declared.chunks.End.the-variants.{Full}
-use Rattle.strings.specs.declared.chunks.Part.{Part}
+use Rattle.strings.specs.declared.chunks.End.the-variants.{More}
+use Rattle.strings.specs.declared.chunks.Turn.{Turn}
 use Rattle.strings.specs.declared.storing.Store.{Store}
 use Rattle.strings.specs.declared.storing.Body.{Body}
-use Rattle.strings.specs.Quick.{stepBy, markBy, Expands}
+use Rattle.strings.specs.Quick.{stepBy, Turns, Ends}
 use Rattle.strings.specs.Storing.{Stored, Empties, Reading, Fills, Reads-body}
 use Rattle.strings.proofs.Lending.{lent, back, back-same, back-take}
 use Rattle.strings.proofs.Storages.{stored-more}
 
--- a mark alone, counted from another place
-lone-at : (t : List ℕ) (i k q : ℕ) → i ≤ length t → Lone (drop i t) k q → Lone t (i + k) q
-lone-at t i k q h m =
-    let s : i + suc k ≡ suc (i + k) = omega arith in
-    record {
-      inside = omega (arith, m .inside, length-drop i t);
-      here = sym (getD-drop i t k 0) ∙ m .here;
-      alone = ap (λ (b : ℕ). eqb b q) (ap (t !_) (sym s) ∙ sym (getD-drop i t (suc k) 0)) ∙ m .alone;
-    }
-
-module _ (f : Family) (text : List ℕ) (b : Body) (chunk out : List ℕ) (ready : Store) (out′ : List ℕ) (part : Part) (last : List ℕ)
+module _ (f : Family) (text : List ℕ) (b : Body) (chunk out : List ℕ) (ready : Store) (out′ : List ℕ) (part : Turn) (last : List ℕ)
     (size : length chunk ≡ 272) (n : b .n ≤ 272) (inside : b .at ≤ length text)
     (e : Empties (record { total = b .total; n = b .n }) chunk out ready out′)
-    (x′ : Expands f (lent (b .at) text) (lent (ready .n) chunk) part last) where
+    (x′ : Turns f (lent (b .at) text) (lent (ready .n) chunk) part last) (end : End) (y : Ends text (b .at + part .at) f (part .ends) end) where
   abbrev chunk′ : List ℕ
   chunk′ = back (ready .n) chunk last
 
   abbrev result : Body
-  result = record { at = b .at + part .at; plain = b .plain && part .plain; total = ready .total; n = ready .n + part .n; end = part .end }
+  result = record { at = b .at + part .at; plain = b .plain && part .plain; total = ready .total; n = ready .n + part .n; end = end }
 
-  x : Expands f (drop (b .at) text) (drop (ready .n) chunk) part last
+  x : Turns f (drop (b .at) text) (drop (ready .n) chunk) part last
   x = rw (part-tail text (b .at), part-tail chunk (ready .n)) at x′
 
   in-chunk : ready .n ≤ length chunk
   in-chunk = omega (arith, e .small, size)
 
   few : ready .n + part .n ≤ 272
-  few = omega (arith, x .room, length-drop (ready .n) chunk, size, in-chunk)
+  few = omega (arith, x .room, e .small)
 
   value-length : length (take (part .n) last) ≡ part .n
-  value-length = length-take-le (part .n) last (omega (arith, x .room, x .same))
+  value-length = length-take-le (part .n) last (omega (arith, x .room, x .same, length-drop (ready .n) chunk, size, e .small))
 
   brief : part .n ≤ part .at
   brief = omega (arith, front-brief (steady f (backslash ∷ [])) (x .front), value-length)
@@ -83,8 +71,8 @@ module _ (f : Family) (text : List ℕ) (b : Body) (chunk out : List ℕ) (ready
   pub fills : Fills f text b chunk out result chunk′ out′
   fills = record {
     onward = onward;
-    closed = λ h. lone-at text (b .at) (part .at) (markBy f) inside (x .closed h);
-    goes = λ h. omega (arith, x .goes h);
+    closed = y .closed;
+    goes = λ h. omega (arith, x .goes (y .more h));
   }
 
 -- nothing read yet
@@ -114,7 +102,7 @@ module _ {f : Family} {text : List ℕ} {s : Store} {chunk₀ out₀ : List ℕ}
     pub reading-on : Reading f text s chunk₀ out₀ b′ chunk′ out′
     reading-on = x .onward s chunk₀ out₀ r
 
-    pub reading-less : b′ .end ≡ Full → length text - b′ .at < length text - b .at
+    pub reading-less : b′ .end ≡ More → length text - b′ .at < length text - b .at
     reading-less e = omega (arith, x .goes e, reading-on .inside)
 
     pub reading-ends : Reads-body f text s chunk₀ out₀ b′ chunk′ out′

@@ -31,6 +31,3 @@ module _ (o last : List ℕ) (n : ℕ) (h : n ≤ length o) (e : length last ≡
 
   pub back-take : (k : ℕ) → take (n + k) (back n o last) ≡ take n o ++ take k last
   back-take k = ap (take (n + k)) back-whole ∙ ap (λ (i : ℕ). take (i + k) (take n o ++ last)) (sym (length-take-le n o h)) ∙ take-append-add (take n o) last k
-
-pub lent-room : (n k : ℕ) (o : List ℕ) → k ≤ length o - n → k ≤ length (lent n o)
-lent-room n k o h = omega (arith, length-take (length o - n) (drop n o), length-drop n o)

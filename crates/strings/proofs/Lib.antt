@@ -17,3 +17,4 @@ pub mod Families
 pub mod Segmenting
 pub mod SegmentTurns
 pub mod QuickAnswers
+pub mod Fits

@@ -20,8 +20,7 @@ use Rattle.strings.specs.declared.quick.Segment.{Segment}
 use Rattle.strings.specs.declared.quick.Quick.{Quick}
 use Rattle.strings.specs.declared.quick.Quick.the-variants as Quick′
 use Rattle.strings.specs.Storing.{Behind}
-use Rattle.strings.specs.declared.reading.Checked.the-variants as Checked′
-use Rattle.strings.specs.Driving.{Checks, DrivenBy, Drives, Rewrites, QuickBy, QuickReads}
+use Rattle.strings.specs.Driving.{DrivenBy, Drives, Rewrites, QuickBy, QuickReads}
 use Rattle.strings.proofs.Storages.{stored-empty}
 
 -- two answers that are written have one value
@@ -118,20 +117,12 @@ module _ (σ : Settings) (t d : List ℕ) (q : Segment) (chunk none : List ℕ) 
             let rest : drop (length (k .w)) whole ≡ drop (length (k .w)) out = rw (count) (drop-at after (drop (q .total + q .n) out) (q .total + q .n) n) in
             record { by = (same, rw value (holds whole same ∙ ap (k .w ++_) rest ∙ sym (holds out refl))) }
 
--- WITH AN ANSWER it is the definition's
-pub answered-reads : (a : Answer) (out : List ℕ) (q : Quick) (after : List ℕ) → QuickReads a out q after → (r : Read) → q ≡ Quick′.Answer r → Reads a out r after
-answered-reads a out q after x r e = subst (λ (y : Quick). QuickBy a out y after) e (x .by)
+-- WITH AN ANSWER it is the definition's; WITHOUT ONE the reading by units answers for both
+module _ (a : Answer) (out : List ℕ) (q : Quick) (after : List ℕ) (k : QuickReads a out q after) where
+  pub answered-reads : (r : Read) → q ≡ Quick′.Answer r → Reads a out r after
+  answered-reads r e = subst (λ (y : Quick). QuickBy a out y after) e (k .by)
 
--- WITHOUT ONE the reading by units answers for both
-pub onward-reads : (a : Answer) (out : List ℕ) (q : Quick) (after : List ℕ) → QuickReads a out q after → q ≡ Quick′.Unread → (r : Read) (last : List ℕ) → Reads a after r last → Reads a out r last
-onward-reads a out q after k e r last x =
-    let y = subst (λ (z : Quick). QuickBy a out z after) e (k .by) in
-    record { answer = x .answer ∙ ap (λ (n : ℕ). readOf n a) (y .0); buffer = x .buffer ∙ y .1 }
-
--- TESTED TO BE UTF-8
-pub checks-text : (u x : Bool) (a : Answer) (out : List ℕ) (r : Read) (after : List ℕ) → x ≡ u → x ≡ true → Reads a out r after
-    → Checks u a out (Checked′.Text r) after
-checks-text u x a out r after e t k = record { by = (sym e ∙ t, k) }
-
-pub checks-not : (u x : Bool) (a : Answer) (out : List ℕ) → x ≡ u → x ≡ false → Checks u a out Checked′.NotUtf8 out
-checks-not u x a out e f = record { by = (sym e ∙ f, refl) }
+  pub onward-reads : q ≡ Quick′.Unread → (r : Read) (last : List ℕ) → Reads a after r last → Reads a out r last
+  onward-reads e r last x =
+      let y = subst (λ (z : Quick). QuickBy a out z after) e (k .by) in
+      record { answer = x .answer ∙ ap (λ (n : ℕ). readOf n a) (y .0); buffer = x .buffer ∙ y .1 }

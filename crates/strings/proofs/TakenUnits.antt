@@ -7,7 +7,7 @@ use Prim.Native.Nat.{ℕ, zero, suc, _+_, _-_, _*_, _%_, _≤_, _<_}
 use Prim.Native.Char.{code}
 use native.Mathlib.Numerals.{add-one}
 use native.Mathlib.Omega.{arith}
-use borrow.Author.Tests.{le-leb, ne-eqb, eqb-true, eqb-false, lt-ltb, ltb-true, ltb-false, leb-true, not-false}
+use borrow.Author.Tests.{le-leb, ne-eqb, eqb-true, eqb-false, lt-ltb, ltb-true, ltb-false, leb-true, not-true, not-false}
 use lib.Dec.{eqb, ltb, leb}
 use lib.ListN.{length, take, drop, length-append}
 use lib.Seq.{drop-drop, take-append-seam}
@@ -175,6 +175,13 @@ standard-takes m bs text q b c mb v o f r eq eb ec h em ev eo ef er =
     small : (x : Bool) → (if x then 1 else 0) ≤ 1
     small true = omega arith
     small false = omega arith
+
+-- with the setting off
+pub doubled-takes : (m : Mark) (bs : Bool) (text : List ℕ) (q b c : ℕ) (r : Taken) → q ≡ markOf m → b ≡ text ! 0 → c ≡ text ! 1
+    → (eqb c 0 || not ((bs && eqb b 92) || (eqb b q && eqb c q))) ≡ false → not bs ≡ true → r ≡ record { len = 2; put = 1; bytes = q ∷ c ∷ 0 ∷ 0 ∷ [] }
+    → Takes (Standard m bs) text r
+doubled-takes m bs text q b c r eq eb ec h o er =
+    let e = not-true bs o in standard-takes m bs text q b c (mysqlOf c) q 0 q r eq eb ec h refl (rw e refl) (rw e refl) (rw e refl) er
 
 -- A CHARACTER BY ITS NUMBER
 pub scalars-put : (len value : ℕ) (n : ℕ) (after : List ℕ) → (value ≡ 0 → ⊥) → (x : Bool) → x ≡ isScalar value → not x ≡ false

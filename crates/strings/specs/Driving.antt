@@ -6,6 +6,7 @@ use Prim.Native.Nat.{ℕ, suc, _+_, _-_, _≤_, _<_}
 use lib.ListN.{length, drop}
 use Rattle.meaning.specs.declared.Settings.{Settings}
 use Rattle.meaning.specs.Bytes.{if_then_else_, _!_, ascii, has}
+use Rattle.meaning.specs.Chars.{utf8}
 use Rattle.meaning.specs.Steps.{gap}
 use Rattle.meaning.specs.Cutting.{opening}
 use Rattle.meaning.specs.Reading.{Answer, borrowed, written, read}
@@ -23,8 +24,11 @@ use Rattle.strings.specs.declared.quick.Opened.{Opened}
 use Rattle.strings.specs.declared.quick.Segment.{Segment}
 use Rattle.strings.specs.declared.quick.Quick.{Quick}
 use Rattle.strings.specs.declared.quick.Quick.the-variants as Quick′
+use Rattle.strings.specs.declared.reading.Fit.{Fit}
+use Rattle.strings.specs.declared.reading.Fit.the-variants as Fit′
 use Rattle.strings.specs.declared.reading.Checked.{Checked}
 use Rattle.strings.specs.declared.reading.Checked.the-variants as Checked′
+use Rattle.strings.specs.Plain.{isPlain}
 use Rattle.strings.specs.Storing.{Stored}
 
 -- how a segment's body is read: E and U& by their letters, anything else as a standard one
@@ -100,6 +104,15 @@ QuickBy a out Quick′.Unread after = (length after ≡ length out) × (bufferOf
 
 pub record QuickReads (a : Answer) (out : List ℕ) (r : Quick) (after : List ℕ) : Type 0 where
   pub by : QuickBy a out r after
+
+-- how a text may be read
+abbrev pub FitBy : Settings → List ℕ → Fit → Type 0
+FitBy σ t Fit′.Plain = (isPlain σ t ≡ true) × (utf8 t ≡ true)
+FitBy σ t Fit′.Clean = (has 0 t ≡ false) × (utf8 t ≡ true)
+FitBy σ t Fit′.Other = Unit {0}
+
+pub record FitsAs (σ : Settings) (t : List ℕ) (r : Fit) : Type 0 where
+  pub by : FitBy σ t r
 
 -- a text that is tested to be UTF-8 before it is read
 abbrev pub ChecksBy : Bool → Answer → List ℕ → Checked → List ℕ → Type 0

@@ -1,12 +1,11 @@
 -- A string in ' that is read as its own body: no mark, no NUL and no active backslash in it. Assumes nothing.
 use mathlib.Core.Path.{_≡_}
-use mathlib.Core.Bool.{Bool, true, _&&_, not}
+use mathlib.Core.Bool.{Bool, true, _&&_}
 use mathlib.Core.List.{List}
 use Prim.Native.Nat.{ℕ, _-_}
-use lib.Dec.{eqb}
 use lib.ListN.{length}
 use Rattle.meaning.specs.declared.Settings.{Settings}
-use Rattle.meaning.specs.Bytes.{if_then_else_, within, part, quote, backslash}
+use Rattle.meaning.specs.Bytes.{if_then_else_, part, quote, backslash}
 use Rattle.meaning.specs.Chars.{utf8}
 use Rattle.meaning.specs.Spelling.{encloses}
 use Rattle.leaves.specs.declared.blocks.Stops.{Stops}
@@ -20,10 +19,6 @@ freeBody σ v = passes (freeOf (settingStops σ)) (length v) v
 
 unfoldable pub isPlain : Settings → List ℕ → Bool
 isPlain σ t = encloses 0 quote t && freeBody σ (part 1 (length t - 1) t)
-
--- ASCII, not NUL, and neither of two
-unfoldable pub plainOf : ℕ → ℕ → ℕ → Bool
-plainOf first second b = within 1 127 b && not (eqb b first) && not (eqb b second)
 
 -- what is told of a text that is plain and in ASCII
 pub record PlainAscii (σ : Settings) (t : List ℕ) (r : Bool) : Type 0 where

@@ -1,7 +1,7 @@
 -- What the quick reading owes, piece by piece: a front of the text behind an opening, and the bytes that it stands for. Nothing is said where it takes nothing:
 -- the reading by units answers there. Assumes nothing.
 use mathlib.Core.Path.{_≡_}
-use mathlib.Core.Bool.{true, false}
+use mathlib.Core.Bool.{Bool, true, false}
 use mathlib.Core.List.{List, [], _∷_}
 use Prim.Native.Nat.{ℕ, _≤_, _<_}
 use lib.Dec.{ltb}
@@ -20,8 +20,7 @@ use Rattle.escapes.specs.Families.{stepOf, checks}
 use Rattle.strings.specs.declared.taking.Taken.{Taken}
 use Rattle.strings.specs.declared.taking.Raw.{Raw}
 use Rattle.strings.specs.declared.chunks.End.{End}
-use Rattle.strings.specs.declared.chunks.End.the-variants.{Closed, Full}
-use Rattle.strings.specs.declared.chunks.Part.{Part}
+use Rattle.strings.specs.declared.chunks.End.the-variants.{More, Closed}
 use Rattle.strings.specs.declared.chunks.Turn.{Turn}
 use Rattle.leaves.specs.Blocks.{passes}
 use Rattle.leaves.specs.Words.{neither}
@@ -91,16 +90,7 @@ pub record TurnsBehind (f : Family) (text : List ℕ) (run : ℕ) (out : List �
   pub same : length after ≡ length out
   pub turns : (d : List ℕ) → Copies (markBy f) (otherBy f) text d run out → Turns f text d r after
 
--- where reading ended
-pub record Ends (text : List ℕ) (at mark : ℕ) (r : End) : Type 0 where
-  pub closed : r ≡ Closed → Lone text at mark
-  pub never : r ≡ Full → ⊥
-
--- a chunk, as far as it was read
-pub record Expands (f : Family) (text out : List ℕ) (r : Part) (after : List ℕ) : Type 0 where
-  pub same : length after ≡ length out
-  pub room : r .n ≤ length out
-  pub front : Front (stepBy f) text (r .at) (take (r .n) after) (r .plain)
-  pub abreast : checks f ≡ true → Abreast (take (r .at) text) (take (r .n) after)
-  pub closed : r .end ≡ Closed → Lone text (r .at) (markBy f)
-  pub goes : r .end ≡ Full → 0 < r .at
+-- what follows a turn
+pub record Ends (text : List ℕ) (at : ℕ) (f : Family) (ends : Bool) (r : End) : Type 0 where
+  pub closed : r ≡ Closed → Lone text at (markBy f)
+  pub more : r ≡ More → ends ≡ false

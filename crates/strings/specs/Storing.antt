@@ -9,7 +9,7 @@ use Rattle.laws.proofs.utf8.Abreast.{Abreast}
 use Rattle.laws.proofs.cutting.Fronted.{Lone}
 use Rattle.escapes.specs.declared.units.Family.{Family}
 use Rattle.escapes.specs.Families.{checks}
-use Rattle.strings.specs.declared.chunks.End.the-variants.{Closed, Full}
+use Rattle.strings.specs.declared.chunks.End.the-variants.{More, Closed}
 use Rattle.strings.specs.declared.storing.Store.{Store}
 use Rattle.strings.specs.declared.storing.Body.{Body}
 use Rattle.strings.specs.Quick.{stepBy, markBy}
@@ -46,7 +46,7 @@ pub record Reading (f : Family) (text : List ℕ) (s : Store) (chunk₀ out₀ :
 pub record Fills (f : Family) (text : List ℕ) (b : Body) (chunk out : List ℕ) (r : Body) (chunk′ out′ : List ℕ) : Type 0 where
   pub onward : (s : Store) (c o : List ℕ) → Reading f text s c o b chunk out → Reading f text s c o r chunk′ out′
   pub closed : r .end ≡ Closed → Lone text (r .at) (markBy f)
-  pub goes : r .end ≡ Full → b .at < r .at
+  pub goes : r .end ≡ More → b .at < r .at
 
 pub record Reads-body (f : Family) (text : List ℕ) (s : Store) (chunk out : List ℕ) (r : Body) (chunk′ out′ : List ℕ) : Type 0 where
   pub reading : Reading f text s chunk out r chunk′ out′

@@ -1,5 +1,4 @@
-// The text behind an opening, read turn by turn into a chunk: up to the mark that stands alone, up to what cannot be read here, or until the chunk is full. One loop
-// serves the three families.
+// A turn of reading, for any of the three families: what stands for itself at a text's front, copied, and the unit behind it.
 use crate::runs::copy_run;
 use crate::taking::take_unit;
 use cutting::marks::mark_byte;
@@ -9,24 +8,16 @@ ghost use mathlib.Core.Path.{_≡_};
 ghost use mathlib.Core.List.{_++_};
 ghost use Prim.Native.Nat.{_+_, _≤_};
 ghost use lib.ListN.{length, drop};
-ghost use Rattle.strings.specs.Quick.{markBy, otherBy, TurnsBehind, Turns, Ends, Expands};
+ghost use Rattle.strings.specs.Quick.{markBy, otherBy, TurnsBehind, Turns, Ends};
 
-// Why no turn follows.
+// What follows a turn.
 pub(crate) enum End {
-    // a mark stands here that is not doubled
+    // another turn
+    More,
+    // a mark that is not doubled
     Closed,
-    // the chunk may have no room for another turn
-    Full,
     // nothing that can be read here
     Unread,
-}
-
-// How far a text is read, for so many bytes of the chunk, and whether each byte stands for itself.
-pub(crate) struct Part {
-    pub at: usize,
-    pub n: usize,
-    pub plain: bool,
-    pub end: End,
 }
 
 // What one turn read; `ends` where nothing stands behind it that could be read here.
@@ -100,11 +91,11 @@ fn take_behind(text: &[u8], run: usize, family: Family, out: &mut [u8]) -> Turn
 }
 
 // A turn: a run of bytes that stand for themselves, and the unit behind it.
-fn take_turn(text: &[u8], family: Family, first: u8, second: u8, out: &mut [u8]) -> Turn
-    requires { ⌜ (32 ≤ length (now out)) × (first ≡ markBy family) × (second ≡ otherBy family) ⌝ }
+pub(crate) fn take_turn(text: &[u8], family: Family, out: &mut [u8]) -> Turn
+    requires { ⌜ 32 ≤ length (now out) ⌝ }
     ensures { λ r. ⌜ Turns family (now (text .entry)) (now (out .entry)) r (now (out .exit)) ⌝ }
 {
-    let run = copy_run(text, first, second, out);
+    let run = copy_run(text, mark_of(family), other_of(family), out);
     if run == 16 {
         return Turn {
             at: run,
@@ -116,47 +107,19 @@ fn take_turn(text: &[u8], family: Family, first: u8, second: u8, out: &mut [u8])
     take_behind(text, run, family, out)
 }
 
-// Whether a mark that is not doubled stands where reading ended.
-fn end_at(text: &[u8], at: usize, mark: u8) -> End
-    ensures { λ r. ⌜ Ends (now (text .entry)) at mark r ⌝ }
+// What follows a turn that has come to a place.
+pub(crate) fn end_at(text: &[u8], at: usize, family: Family, ends: bool) -> End
+    ensures { λ r. ⌜ Ends (now (text .entry)) at family ends r ⌝ }
 {
+    if !ends {
+        return End::More;
+    }
     if text.len() <= at {
         return End::Unread;
     }
+    let mark = mark_of(family);
     if (text[at] == mark) & (byte_at(text, at + 1) != mark) {
         return End::Closed;
     }
     End::Unread
-}
-
-// Reads a text into a chunk, from its start on. What stands in the chunk behind the bytes that count is anything.
-pub(crate) fn expand(text: &[u8], family: Family, chunk: &mut [u8]) -> Part
-    requires { ⌜ 32 ≤ length (now chunk) ⌝ }
-    ensures { λ r. ⌜ Expands family (now (text .entry)) (now (chunk .entry)) r (now (chunk .exit)) ⌝ }
-{
-    let first = mark_of(family);
-    let second = other_of(family);
-    let mut at: usize = 0;
-    let mut n: usize = 0;
-    let mut plain = true;
-    while 32 <= chunk.len() - n {
-        let turn = take_turn(&text[at..], family, first, second, &mut chunk[n..]);
-        at += turn.at;
-        n += turn.n;
-        plain = plain & turn.plain;
-        if turn.ends {
-            return Part {
-                at,
-                n,
-                plain,
-                end: end_at(text, at, first),
-            };
-        }
-    }
-    Part {
-        at,
-        n,
-        plain,
-        end: End::Full,
-    }
 }

@@ -1,7 +1,8 @@
 // Bytes that are read, behind those that were read before: in a chunk, and from a full chunk into what is lent of the caller's buffer. Where nothing is lent they are
 // only counted.
 use crate::chunks::End;
-use crate::chunks::expand;
+use crate::chunks::end_at;
+use crate::chunks::take_turn;
 use escapes::units::Family;
 use leaves::puts::put_bytes;
 ghost use mathlib.Core.Path.{_≡_};
@@ -50,25 +51,26 @@ fn make_room(store: Store, chunk: &[u8], out: &mut [u8]) -> Store
     }
 }
 
-// Reads on into the chunk.
+// One turn more, into the chunk.
 fn fill(text: &[u8], family: Family, body: Body, chunk: &mut [u8], out: &mut [u8]) -> Body
     requires { ⌜ (length (now chunk) ≡ 272) × (body .n ≤ 272) × (body .at ≤ length (now text)) × (body .total + body .n + length (now text) < 18446744073709551616 + body .at) ⌝ }
     ensures { λ r. ⌜ Fills family (now (text .entry)) body (now (chunk .entry)) (now (out .entry)) r (now (chunk .exit)) (now (out .exit)) ⌝ }
 {
-    let at = body.at;
+    let from = body.at;
     let store = Store {
         total: body.total,
         n: body.n,
     };
     let ready = make_room(store, chunk, out);
     let n = ready.n;
-    let part = expand(&text[at..], family, &mut chunk[n..]);
-    let end = part.end;
+    let turn = take_turn(&text[from..], family, &mut chunk[n..]);
+    let at = from + turn.at;
+    let end = end_at(text, at, family, turn.ends);
     Body {
-        at: at + part.at,
-        plain: body.plain & part.plain,
+        at,
+        plain: body.plain & turn.plain,
         total: ready.total,
-        n: n + part.n,
+        n: n + turn.n,
         end,
     }
 }
@@ -89,12 +91,12 @@ pub(crate) fn read_body(
         plain: true,
         total: store.total,
         n: store.n,
-        end: End::Full,
+        end: End::More,
     };
     loop {
         body = fill(text, family, body, chunk, out);
         let end = body.end;
-        if let End::Full = end {} else {
+        if let End::More = end {} else {
             return body;
         }
     }

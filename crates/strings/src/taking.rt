@@ -63,7 +63,7 @@ fn mysql_byte(letter: u8) -> u8
     choose(letter == 48, 0x00, back)
 }
 
-// A doubled mark, or what MySQL's backslash makes of the byte behind it; % and _ stay two bytes.
+// A doubled mark, or what MySQL's backslash makes of the byte behind it; % and _ stay two bytes. With the setting off nothing is chosen: a text has one setting.
 fn standard_taken(text: &[u8], mark: Mark, backslash: bool) -> Taken
     ensures { λ r. ⌜ Takes (Standard mark backslash) (now (text .entry)) r ⌝ }
 {
@@ -74,6 +74,9 @@ fn standard_taken(text: &[u8], mark: Mark, backslash: bool) -> Taken
     let doubled = (byte == quote) & (next == quote);
     if (next == 0) | !(escapes | doubled) {
         return none();
+    }
+    if !backslash {
+        return two_for(1, quote, next);
     }
     let wide = escapes & ((next == 37) | (next == 95));
     let value = choose(escapes, mysql_byte(next), quote);

@@ -1,4 +1,6 @@
-pub mod AsciiRuns
-pub mod Characters
+pub mod PlainBytes
+pub mod Leading
+pub mod ByPlaces
+pub mod PlaceScans
 pub mod Pushing
 pub mod States

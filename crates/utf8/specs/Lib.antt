@@ -1,2 +1,3 @@
 pub mod Tails
-pub mod Blocks
+pub mod Plain
+pub mod Places

@@ -1,80 +1,73 @@
-// Runs of ASCII, a block at a time. The loop over a block has no branch; the last block overlaps the one before it, so that no byte is looked at alone but in
-// texts of less than four. These are the loops of leaves::blocks over another test of a byte, since no function takes a test; their laws are one (leaves,
+// Runs of plain ASCII, a block at a time. The loop over a block has no branch; the last block overlaps the one before it, so that no byte is looked at alone but
+// in texts of less than four. These are the loops of leaves::blocks over another test of a byte, since no function takes a test; their laws are one (leaves,
 // Scans).
 use leaves::blocks::one_if;
 ghost use mathlib.Core.Path.{_≡_};
 ghost use Prim.Native.Nat.{_+_, _≤_, _<_};
 ghost use lib.ListN.{length, drop};
 ghost use Rattle.leaves.specs.Blocks.{passes};
-ghost use Rattle.utf8.specs.Blocks.{isAscii};
+ghost use Rattle.utf8.specs.Plain.{plainOf};
 
-fn is_ascii_byte(byte: u8) -> bool
-    ensures { λ r. ⌜ r ≡ isAscii byte ⌝ }
+// Whether a byte is ASCII, not NUL, and neither of two.
+// Rules out: 80 hex taken for a byte of ASCII (must-fail: eighty_hex_taken_for_ascii).
+fn is_plain_byte(byte: u8, first: u8, second: u8) -> bool
+    ensures { λ r. ⌜ r ≡ plainOf first second byte ⌝ }
 {
-    byte < 0x80
+    (std::num::wrapping_sub_u8(byte, 1) < 127) & (byte != first) & (byte != second)
 }
 
-// Whether n bytes from a place on are ASCII. They are counted: a count is compiled to one vector test.
-// Rules out: a block that skips its last byte (must-fail: last_byte_skipped).
-fn is_ascii_block(bytes: &[u8], at: usize, n: usize) -> bool
-    requires { ⌜ (at + n ≤ length (now bytes)) × (n ≤ 32) ⌝ }
-    ensures { λ r. ⌜ r ≡ passes isAscii n (drop at (now (bytes .entry))) ⌝ }
+// Whether n bytes from a place on are such. They are counted: a count is compiled to one vector test.
+// Rules out: the block at the start asked for any (must-fail: block_at_the_start).
+fn plain_block(bytes: &[u8], at: usize, n: usize, first: u8, second: u8) -> bool
+    requires { ⌜ (at + n ≤ length (now bytes)) × (n ≤ 128) ⌝ }
+    ensures { λ r. ⌜ r ≡ passes (plainOf first second) n (drop at (now (bytes .entry))) ⌝ }
 {
-    let mut ascii: u8 = 0;
+    let mut plain: u8 = 0;
     let mut j: usize = 0;
     while j < n {
-        ascii += one_if(is_ascii_byte(bytes[at + j]));
+        plain += one_if(is_plain_byte(bytes[at + j], first, second));
         j += 1;
     }
-    ascii as usize == n
+    plain as usize == n
 }
 
-// Whether eight bytes from a place on are there and are ASCII.
-pub(crate) fn is_ascii_eight(bytes: &[u8], at: usize) -> bool
-    ensures { λ r. ⌜ r ≡ passes isAscii 8 (drop at (now (bytes .entry))) ⌝ }
-{
-    if bytes.len() < 8 {
-        return false;
-    }
-    if bytes.len() - 8 < at {
-        return false;
-    }
-    is_ascii_block(bytes, at, 8)
-}
-
-// Whether a slice of n bytes or more is ASCII, by blocks of n.
-// Rules out: a byte between two blocks passed over; the last block without its last byte (must-fail: too_much_accepted, block_without_its_last_byte).
-fn is_ascii_by(bytes: &[u8], n: usize) -> bool
-    requires { ⌜ (0 < n) × (n ≤ length (now bytes)) × (n ≤ 32) ⌝ }
-    ensures { λ r. ⌜ r ≡ passes isAscii (length (now (bytes .entry))) (now (bytes .entry)) ⌝ }
+// Whether a slice of n bytes or more holds such bytes only, by blocks of n.
+// Rules out: the second byte not looked for in some blocks (must-fail: too_much_accepted, last_block_asked_less).
+fn plain_by(bytes: &[u8], n: usize, first: u8, second: u8) -> bool
+    requires { ⌜ (0 < n) × (n ≤ length (now bytes)) × (n ≤ 128) ⌝ }
+    ensures { λ r. ⌜ r ≡ passes (plainOf first second) (length (now (bytes .entry))) (now (bytes .entry)) ⌝ }
 {
     let last = bytes.len() - n;
     let mut i: usize = 0;
     while i < last {
-        if !is_ascii_block(bytes, i, n) {
+        if !plain_block(bytes, i, n, first, second) {
             return false;
         }
         i += n;
     }
-    is_ascii_block(bytes, last, n)
+    plain_block(bytes, last, n, first, second)
 }
 
-// Whether a slice is ASCII.
-pub(crate) fn is_ascii(bytes: &[u8]) -> bool
-    ensures { λ r. ⌜ r ≡ passes isAscii (length (now (bytes .entry))) (now (bytes .entry)) ⌝ }
+// Whether a slice holds ASCII only, no NUL, and neither of two bytes.
+// Rules out: the first byte not looked for; the second not looked for (must-fail: first_byte_lost, second_byte_lost).
+pub fn is_plain_run(bytes: &[u8], first: u8, second: u8) -> bool
+    ensures { λ r. ⌜ r ≡ passes (plainOf first second) (length (now (bytes .entry))) (now (bytes .entry)) ⌝ }
 {
     let len = bytes.len();
+    if 128 <= len {
+        return plain_by(bytes, 128, first, second);
+    }
     if 32 <= len {
-        return is_ascii_by(bytes, 32);
+        return plain_by(bytes, 32, first, second);
     }
     if 16 <= len {
-        return is_ascii_by(bytes, 16);
+        return plain_by(bytes, 16, first, second);
     }
     if 8 <= len {
-        return is_ascii_by(bytes, 8);
+        return plain_by(bytes, 8, first, second);
     }
     if 4 <= len {
-        return is_ascii_by(bytes, 4);
+        return plain_by(bytes, 4, first, second);
     }
-    is_ascii_block(bytes, 0, len)
+    plain_block(bytes, 0, len, first, second)
 }

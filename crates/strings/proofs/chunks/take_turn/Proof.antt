@@ -7,4 +7,4 @@ use Rattle.strings.proofs.chunks.take_turn.Tie as tie
 pub take-turn-spec : {M : Type 1} → statement M
 take-turn-spec =
     tie.close
-    (tie.spec (λ c κs. search needs) (λ c. search needs) (λ c. search turn-block) (λ c κs. search (turn-there, turn-room)) (λ c. search needs) (λ c. search turn-on))
+    (tie.spec (λ c κs. search needs) (λ c κs. search needs) (λ c κs. search needs) (λ c. search needs) (λ c. search turn-block) (λ c κs. search (turn-there, turn-room)) (λ c. search needs) (λ c. search turn-on))

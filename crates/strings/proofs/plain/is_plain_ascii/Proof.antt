@@ -6,11 +6,11 @@ use Rattle.strings.proofs.AsciiRows.{ascii-not, ascii-by}
 use Rattle.strings.proofs.plain.is_plain_ascii.Statement.{statement}
 use Rattle.strings.proofs.plain.is_plain_ascii.Tie as tie
 
-sub-plain-body : tie.Need-sub-plain-body
-sub-plain-body c = let h = enclosed-room _ _ _ _ (c .before .before .is-enclosed .ensures) (c .before .if1 .left) in omega (arith, h)
+sub-is-plain-run : tie.Need-sub-is-plain-run
+sub-is-plain-run c = let h = enclosed-room _ _ _ _ (c .before .before .is-enclosed .ensures) (c .before .if1 .left) in omega (arith, h)
 
-part-plain-body-start : tie.Need-part-plain-body-start
-part-plain-body-start c = let h = enclosed-room _ _ _ _ (c .before .before .is-enclosed .ensures) (c .before .if1 .left) in omega (arith, h)
+part-is-plain-run-start : tie.Need-part-is-plain-run-start
+part-is-plain-run-start c = let h = enclosed-room _ _ _ _ (c .before .before .is-enclosed .ensures) (c .before .if1 .left) in omega (arith, h)
 
 pub is-plain-ascii-spec : {M : Type 1} → statement M
 is-plain-ascii-spec =
@@ -20,8 +20,8 @@ is-plain-ascii-spec =
     (λ c. search ascii-not)
     (λ c. let h = enclosed-room _ _ _ _ (c .before .is-enclosed .ensures) (c .if1 .left) in omega (arith, h))
     (λ c κs. search needs)
-    sub-plain-body
-    part-plain-body-start
+    sub-is-plain-run
+    part-is-plain-run-start
     (λ c. search needs)
     (λ c κs. search needs)
     (λ c. search ascii-by))

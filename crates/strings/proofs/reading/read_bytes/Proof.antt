@@ -1,10 +1,28 @@
--- `strings::reading::read_bytes` meets its contract. Assumes nothing.
+-- `strings::reading::read_bytes` meets its contract, by how the text fits. Assumes nothing.
 use borrow.Author.Needs.{needs}
-use Rattle.strings.proofs.Plains.{plain-long, plain-borrowed}
+use Rattle.strings.proofs.Fits.{fit-long, fit-reads, clean}
+use Rattle.strings.proofs.QuickAnswers.{answered-reads, onward-reads}
 use Rattle.strings.proofs.reading.read_bytes.Statement.{statement}
 use Rattle.strings.proofs.reading.read_bytes.Tie as tie
 
 pub read-bytes-spec : {M : Type 1} → statement M
 read-bytes-spec =
     tie.close
-    (tie.spec (λ c κs. search needs) (λ c. search plain-long) (λ c. search plain-borrowed) (λ c κs. search needs) (λ c. search needs) (λ c. search needs))
+    (tie.spec
+    (λ c κs. search needs)
+    (λ c. search needs)
+    (λ c. search fit-long)
+    (λ c. search needs)
+    (λ c κs. clean _ _ _ (c .before .before .before .fit-of .ensures) (c .before .enum-told2 .given .1))
+    (λ c. search needs)
+    (λ c. search needs)
+    (λ c. search answered-reads)
+    (λ c. search needs)
+    (λ c κs. search needs)
+    (λ c. search needs)
+    (λ c κs. search needs)
+    (λ c. search fit-reads)
+    (λ c. search needs)
+    (λ c. search onward-reads)
+    (λ c. search needs)
+    (λ c. search needs))

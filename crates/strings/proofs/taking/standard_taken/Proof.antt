@@ -1,6 +1,6 @@
 -- `strings::taking::standard_taken` meets its contract: each way out has its law. Assumes nothing.
 use borrow.Author.Needs.{needs}
-use Rattle.strings.proofs.TakenUnits.{takes-none, standard-takes}
+use Rattle.strings.proofs.TakenUnits.{takes-none, doubled-takes, standard-takes}
 use Rattle.strings.proofs.taking.standard_taken.Statement.{statement}
 use Rattle.strings.proofs.taking.standard_taken.Tie as tie
 
@@ -13,6 +13,8 @@ standard-taken-spec =
     (λ c κs. search needs)
     (λ c κs. search needs)
     (λ c. takes-none _ _ _ (c .none .ensures))
+    (λ c κs. search needs)
+    (λ c. search doubled-takes)
     (λ c κs. search needs)
     (λ c κs. search needs)
     (λ c κs. search needs)

@@ -1,46 +1,30 @@
--- `utf8::check::utf8_from` meets its contract: whole characters change no state between characters. Assumes nothing.
-use Rattle.utf8.proofs.Pushing.{wholes-from}
+-- `utf8::check::utf8_from` meets its contract. The loop's invariant: the bytes that are left, pushed from the state at hand, lead to the state that all bytes
+-- lead to. The measure is what is left of the length. Assumes nothing.
+use Prim.Native.Nat.{_-_}
 use borrow.Author.Needs.{needs}
+use native.Mathlib.Omega.{arith}
+use lib.ListN.{length}
+use Rattle.utf8.specs.Tails.{dueOf}
+use Rattle.utf8.proofs.Pushing.{Pushing, pushing-start, pushing-on, pushing-end}
 use Rattle.utf8.proofs.check.utf8_from.Statement.{statement}
 use Rattle.utf8.proofs.check.utf8_from.Tie as tie
 
-is-whole-requires : tie.Need-is-whole-requires
-is-whole-requires c κs = search needs
+abbrev Inv-loop : tie.InvT-loop
+Inv-loop bytes state₀ i₀ state i = Pushing (dueOf state₀) bytes (dueOf state) i
 
-whole-len-requires : tie.Need-whole-len-requires
-whole-len-requires c κs = search needs
-
-sub-push-each : tie.Need-sub-push-each
-sub-push-each c = search needs
-
-part-push-each-start : tie.Need-part-push-each-start
-part-push-each-start c = search needs
-
-part-push-each-end : tie.Need-part-push-each-end
-part-push-each-end c = search needs
-
-push-each-requires : tie.Need-push-each-requires
-push-each-requires c κs = search needs
-
-returns : tie.Need-returns
-returns c = search wholes-from
-
-push-each-requires-2 : tie.Need-push-each-requires-2
-push-each-requires-2 c κs = search needs
-
-returns-2 : tie.Need-returns-2
-returns-2 c = search needs
+abbrev μ-loop : tie.MeasureT-loop
+μ-loop bytes state₀ i₀ state i = length bytes - i
 
 pub utf8-from-spec : {M : Type 1} → statement M
 utf8-from-spec =
     tie.close
     (tie.spec
-    is-whole-requires
-    whole-len-requires
-    sub-push-each
-    part-push-each-start
-    part-push-each-end
-    push-each-requires
-    returns
-    push-each-requires-2
-    returns-2)
+    Inv-loop
+    μ-loop
+    (λ c. search pushing-start)
+    (λ c. omega arith)
+    (λ c κs. search needs)
+    (λ c. omega arith)
+    (λ c. omega arith)
+    (λ c. search pushing-on)
+    (λ c. search pushing-end))

@@ -1,0 +1,83 @@
+-- How a text may be read, and what is told of it then. Assumes nothing.
+use mathlib.Core.Path.{_≡_, refl, sym, _∙_, subst}
+use mathlib.Core.Bool.{Bool, true, false, _&&_, not}
+use mathlib.Core.List.{List}
+use Prim.Native.Nat.{ℕ, _-_, _≤_}
+use lib.ListN.{length}
+use borrow.Author.Tests.{not-true, not-false}
+use Rattle.meaning.specs.declared.Settings.{Settings}
+use Rattle.meaning.specs.declared.Read.{Read}
+use Rattle.meaning.specs.declared.Read.the-variants as Read′
+use Rattle.meaning.specs.Bytes.{has}
+use Rattle.meaning.specs.Chars.{utf8}
+use Rattle.meaning.specs.Reading.{read}
+use Rattle.meaning.specs.Reads.{Reads}
+use Rattle.laws.proofs.basics.Tests.{and-left, and-right}
+use Rattle.leaves.specs.Blocks.{passes}
+use Rattle.utf8.specs.Plain.{plainOf}
+use Rattle.utf8.proofs.PlainBytes.{run-clean}
+use Rattle.strings.specs.declared.quick.Quick.{Quick}
+use Rattle.strings.specs.declared.quick.Quick.the-variants as Quick′
+use Rattle.strings.specs.declared.reading.Fit.{Fit}
+use Rattle.strings.specs.declared.reading.Fit.the-variants as Fit′
+use Rattle.strings.specs.declared.reading.Checked.the-variants as Checked′
+use Rattle.strings.specs.Plain.{isPlain, PlainAscii}
+use Rattle.strings.specs.Driving.{FitBy, FitsAs, QuickReads, Checks}
+use Rattle.strings.proofs.Plains.{plain-long, plain-borrowed}
+use Rattle.strings.proofs.QuickAnswers.{answered-reads, onward-reads}
+
+module _ (σ : Settings) (t : List ℕ) where
+  -- WHAT THE SCANS TELL
+  pub fit-ascii : (x : Bool) → PlainAscii σ t x → x ≡ true → FitsAs σ t Fit′.Plain
+  fit-ascii x p e = record { by = p .by e }
+
+  pub fit-run : (a b : ℕ) (x : Bool) → x ≡ passes (plainOf a b) (length t) t → x ≡ true → FitsAs σ t Fit′.Clean
+  fit-run a b x e h = record { by = run-clean a b t x e h }
+
+  pub fit-other : FitsAs σ t Fit′.Other
+  fit-other = record { by = tt }
+
+  module _ (x : Bool) (e : x ≡ (utf8 t && not (has 0 t))) (y : not x ≡ false) where
+    both : (utf8 t && not (has 0 t)) ≡ true
+    both = sym e ∙ not-false x y
+
+    pub fit-plain : (p : Bool) → p ≡ isPlain σ t → p ≡ true → FitsAs σ t Fit′.Plain
+    fit-plain p ep h = record { by = (sym ep ∙ h, and-left (utf8 t) (not (has 0 t)) both) }
+
+    pub fit-clean : FitsAs σ t Fit′.Clean
+    fit-clean = record { by = (not-true (has 0 t) (and-right (utf8 t) (not (has 0 t)) both), and-left (utf8 t) (not (has 0 t)) both) }
+
+  -- A PLAIN TEXT is its body
+  module _ (f : Fit) (k : FitsAs σ t f) where
+    module _ (e : f ≡ Fit′.Plain) where
+      plain : (isPlain σ t ≡ true) × (utf8 t ≡ true)
+      plain = subst (FitBy σ t) e (k .by)
+
+      pub fit-long : 1 ≤ length t
+      fit-long = plain-long σ t true (sym (plain .0)) refl
+
+      pub fit-reads : (out : List ℕ) → Reads (read σ t) out (Read′.Borrowed 1 (length t - 1)) out
+      fit-reads out = plain-borrowed σ t true (sym (plain .0)) refl out
+
+      pub fit-checks : (out : List ℕ) → Checks (utf8 t) (read σ t) out (Checked′.Text (Read′.Borrowed 1 (length t - 1))) out
+      fit-checks out = record { by = (plain .1, fit-reads out) }
+
+    -- A CLEAN ONE is read quickly, or by units
+    module _ (e : f ≡ Fit′.Clean) where
+      pub clean : (has 0 t ≡ false) × (utf8 t ≡ true)
+      clean = subst (FitBy σ t) e (k .by)
+
+      module _ (out : List ℕ) (q : Quick) (after : List ℕ) (x : QuickReads (read σ t) out q after) where
+        pub answered-checks : (r : Read) → q ≡ Quick′.Answer r → Checks (utf8 t) (read σ t) out (Checked′.Text r) after
+        answered-checks r z = record { by = (clean .1, answered-reads (read σ t) out q after x r z) }
+
+        pub onward-checks : q ≡ Quick′.Unread → (r : Read) (last : List ℕ) → Reads (read σ t) after r last → Checks (utf8 t) (read σ t) out (Checked′.Text r) last
+        onward-checks z r last w = record { by = (clean .1, onward-reads (read σ t) out q after x z r last w) }
+
+  -- ANY OTHER is tested first
+  module _ (x : Bool) (e : x ≡ utf8 t) (out : List ℕ) where
+    pub other-not : not x ≡ true → Checks (utf8 t) (read σ t) out Checked′.NotUtf8 out
+    other-not y = record { by = (sym e ∙ not-true x y, refl) }
+
+    pub other-checks : not x ≡ false → (r : Read) (last : List ℕ) → Reads (read σ t) out r last → Checks (utf8 t) (read σ t) out (Checked′.Text r) last
+    other-checks y r last w = record { by = (sym e ∙ not-false x y, w) }
