@@ -1,16 +1,26 @@
 -- What the tests 1 to 4 tell. Assumes nothing.
 use mathlib.Core.Path.{_≡_}
+use mathlib.Core.Bool.{Bool, _&&_, not}
 use mathlib.Core.List.{List}
 use Prim.Native.Nat.{ℕ, _≤_}
 use lib.ListN.{length}
+use Rattle.meaning.specs.declared.Span.{Span}
 use Rattle.meaning.specs.declared.Literal.{Literal}
-use Rattle.meaning.specs.declared.Refusal.the-variants.{NotUtf8}
+use Rattle.meaning.specs.declared.Refusal.{Refusal}
+use Rattle.meaning.specs.declared.Refusal.the-variants.{MissingSource, InvalidSourceRange, NotUtf8}
 use Rattle.meaning.specs.Bytes.{if_then_else_, part}
 use Rattle.meaning.specs.Chars.{utf8}
-use Rattle.meaning.specs.Questions.{passes, barred}
+use Rattle.meaning.specs.Questions.{passes, barred, badSpan}
 use Rattle.meaning.specs.Questions as Definition
 use Rattle.admitting.specs.declared.tests.Tested.{Tested}
 use Rattle.admitting.specs.declared.tests.Tested.the-variants.{Passes, Barred}
+
+-- the tests 2 and 3, and which of them a literal fails
+unfoldable pub isPlaced : Literal → List ℕ → Bool
+isPlaced l source = not (l .synthetic) && not (badSpan (l .span) source)
+
+abbrev pub misplacedOf : Literal → Refusal
+misplacedOf l = if l .synthetic then MissingSource (l .span) else InvalidSourceRange (l .span)
 
 -- the text in a source that a range stands for
 abbrev pub testedOf : List ℕ → Tested → Definition.Tested
@@ -31,6 +41,8 @@ pub record Tests (l : Literal) (source : List ℕ) (r : Tested) (x : Definition.
   pub means : testedOf source r ≡ x
   pub inside : SpanInside l (length source) r
 
+-- it tells nothing of test 4
 pub record Locates (l : Literal) (source : List ℕ) (r : Tested) (x : Definition.Tested) : Type 0 where
   pub means : locatedOf l source r ≡ x
   pub inside : SpanInside l (length source) r
+  pub silent : (s : Span) → r ≡ Barred (NotUtf8 s) → ⊥

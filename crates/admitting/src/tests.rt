@@ -7,7 +7,7 @@ use meaning::Span;
 use utf8::check::is_utf8;
 ghost use mathlib.Core.Path.{_≡_};
 ghost use Rattle.meaning.specs.Questions.{cutsCharacter, badSpan, sourceText, tested};
-ghost use Rattle.admitting.specs.Tests.{Tests, Locates};
+ghost use Rattle.admitting.specs.Tests.{isPlaced, misplacedOf, Tests, Locates};
 
 // The text of a literal, from a place of the source up to another; or why there is none.
 pub enum Tested {
@@ -36,19 +36,21 @@ fn is_bad_span(span: Span, source: &[u8]) -> bool
 }
 
 // The tests 2 and 3: the literal stands in a source, and its span is one of the source.
-fn place(literal: Literal, source: &[u8]) -> Tested
-    ensures { λ r. ⌜ Locates literal (now (source .entry)) r (sourceText literal (now (source .entry))) ⌝ }
+fn is_placed(literal: Literal, source: &[u8]) -> bool
+    ensures { λ r. ⌜ r ≡ isPlaced literal (now (source .entry)) ⌝ }
+{
+    !literal.synthetic & !is_bad_span(literal.span, source)
+}
+
+// Which of the two a literal fails that does not pass both.
+fn misplaced(literal: Literal) -> Refusal
+    ensures { λ r. ⌜ r ≡ misplacedOf literal ⌝ }
 {
     let span = literal.span;
     if literal.synthetic {
-        return Tested::Barred(Refusal::MissingSource(span));
+        return Refusal::MissingSource(span);
     }
-    if is_bad_span(span, source) {
-        return Tested::Barred(Refusal::InvalidSourceRange(span));
-    }
-    let start = span.start as usize;
-    let end = span.end as usize;
-    Tested::Passes { start, end }
+    Refusal::InvalidSourceRange(span)
 }
 
 // The tests 1 to 3: `right` says whether the kind fits the question, which expects `expected`. Whoever reads the text tests 4.
@@ -60,24 +62,32 @@ pub fn locate(right: bool, expected: LiteralExpected, literal: Literal, source: 
         let found = literal.kind;
         return Tested::Barred(Refusal::WrongKind(expected, found));
     }
-    place(literal, source)
+    if !is_placed(literal, source) {
+        return Tested::Barred(misplaced(literal));
+    }
+    let span = literal.span;
+    Tested::Passes {
+        start: span.start as usize,
+        end: span.end as usize,
+    }
 }
 
-// The tests 2, 3 and 4: the literal stands in a source, its span is one of the source, and its text is UTF-8.
+// The tests 2, 3 and 4: the literal stands in a source, its span is one of the source, and its text is UTF-8. Each way out is made where it is known: an answer
+// that is taken apart and put together again goes through memory, which cost every question 18 ns.
 // Rules out: the text's end given for its start; a text that is not UTF-8 told as one without a source (must-fail: end_for_start, two_told_as_one).
 pub fn test_source(literal: Literal, source: &[u8]) -> Tested
     ensures { λ r. ⌜ Tests literal (now (source .entry)) r (sourceText literal (now (source .entry))) ⌝ }
 {
-    match place(literal, source) {
-        Tested::Passes { start, end } => {
-            if is_utf8(&source[start..end]) {
-                return Tested::Passes { start, end };
-            }
-            let span = literal.span;
-            Tested::Barred(Refusal::NotUtf8(span))
-        }
-        Tested::Barred(refusal) => Tested::Barred(refusal),
+    if !is_placed(literal, source) {
+        return Tested::Barred(misplaced(literal));
     }
+    let span = literal.span;
+    let start = span.start as usize;
+    let end = span.end as usize;
+    if !is_utf8(&source[start..end]) {
+        return Tested::Barred(Refusal::NotUtf8(span));
+    }
+    Tested::Passes { start, end }
 }
 
 // The tests 1 to 4: `right` says whether the kind fits the question, which expects `expected`.

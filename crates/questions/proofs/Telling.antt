@@ -27,7 +27,7 @@ use Rattle.laws.proofs.questions.Ranges.{read-inside}
 use Rattle.admitting.specs.declared.tests.Tested.{Tested}
 use Rattle.admitting.specs.declared.tests.Tested.the-variants.{Passes, Barred}
 use Rattle.admitting.specs.Tests.{Tests, Locates}
-use Rattle.admitting.proofs.Passing.{passed, undecoded, ordered, inside, barred-too}
+use Rattle.admitting.proofs.Passing.{passed-too, undecoded-too, range, barred-too}
 use Rattle.strings.specs.declared.reading.Checked.{Checked}
 use Rattle.strings.specs.declared.reading.Checked.the-variants as Checked′
 use Rattle.strings.specs.Driving.{ChecksBy, Checks}
@@ -103,26 +103,26 @@ module _ {l : Literal} {S : List ℕ} {r : Tested} {code : ℕ} (c : code ≡ ki
     pub checked-fits : length S < 2 ^ 64 → (k : Checked) → Checks u (read σ (part s e S)) out k after → (d : Read) → k ≡ Checked′.Text d → InText s d
     checked-fits h k x d ec =
         let y = subst (λ (z : Checked). ChecksBy u (read σ (part s e S)) out z after) ec (x .by) in
-        string-fits (passed l S r g s e q u refl (y .0)) s e refl h σ (y .1)
+        string-fits (passed-too l S r g s e q (y .0)) s e refl h σ (y .1)
 
     pub checked-told : (k : Checked) → Checks u (read σ (part s e S)) out k after → (d : Read) → k ≡ Checked′.Text d → (a : Text)
         → a ≡ toldBy (InvalidString (l .span)) s d → Meets (stringQuestion l S σ out) a after
     checked-told k x d ec a o =
         let y = subst (λ (z : Checked). ChecksBy u (read σ (part s e S)) out z after) ec (x .by) in
-        string-told c σ (passed l S r g s e q u refl (y .0)) s e refl out after d (y .1) a o
+        string-told c σ (passed-too l S r g s e q (y .0)) s e refl out after d (y .1) a o
 
     pub checked-not : (k : Checked) → Checks u (read σ (part s e S)) out k after → k ≡ Checked′.NotUtf8
         → Meets (stringQuestion l S σ out) (Refused (NotUtf8 (l .span))) after
     checked-not k x ec =
         let y = subst (λ (z : Checked). ChecksBy u (read σ (part s e S)) out z after) ec (x .by) in
         subst (λ (b : List ℕ). Meets (stringQuestion l S σ out) (Refused (NotUtf8 (l .span))) b) (sym (y .1))
-        (string-barred c σ (undecoded l S r g s e q u refl (y .0)) out (NotUtf8 (l .span)) refl)
+        (string-barred c σ (undecoded-too l S r g s e q (y .0)) out (NotUtf8 (l .span)) refl)
 
     pub located-ordered : s ≤ e
-    located-ordered = ordered l S r g s e q
+    located-ordered = range l S r g s e q .2
 
     pub located-inside : e ≤ length S
-    located-inside = inside l S r g s e q
+    located-inside = range l S r g s e q .3
 
   pub located-barred : (out : List ℕ) (w : Refusal) → r ≡ Barred w → Meets (stringQuestion l S σ out) (Refused w) out
   located-barred out w q = string-barred c σ (barred-too l S r g w q) out w refl
