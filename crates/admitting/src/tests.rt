@@ -73,7 +73,7 @@ pub fn locate(right: bool, expected: LiteralExpected, literal: Literal, source: 
 }
 
 // The tests 2, 3 and 4: the literal stands in a source, its span is one of the source, and its text is UTF-8. Each way out is made where it is known: an answer
-// that is taken apart and put together again goes through memory, which cost every question 18 ns.
+// that is taken apart and put together again goes through memory, which cost 18 ns here.
 // Rules out: the text's end given for its start; a text that is not UTF-8 told as one without a source (must-fail: end_for_start, two_told_as_one).
 pub fn test_source(literal: Literal, source: &[u8]) -> Tested
     ensures { λ r. ⌜ Tests literal (now (source .entry)) r (sourceText literal (now (source .entry))) ⌝ }

@@ -1,5 +1,5 @@
-// UTF-8 by places: whether each byte may stand where it stands is told by the three before it, so that many places are asked at once and no branch depends on
-// what the text holds. A lead byte asks for its later bytes at the next places; the byte before a place bounds it, if one is due there.
+// UTF-8 by places: whether each byte may stand where it stands is told by the three before it, so that many places are asked at once, with no branch among
+// them. A lead byte asks for its later bytes at the next places; the byte before a place bounds it, if one is due there.
 use leaves::blocks::one_if;
 ghost use mathlib.Core.Path.{_≡_};
 ghost use mathlib.Core.Bool.{true, _&&_};
