@@ -5,8 +5,9 @@
  *
  * WHAT THE CALLER OWES, and no more:
  *   - a pointer with a length is valid for that many bytes, for reading, and for writing where it is not const; with the length 0 it is any pointer but NULL;
+ *   - the same of a block's items and answers, whose lengths count 32-bit numbers and not bytes; these pointers are aligned, with the length 0 too;
  *   - a pointer to a number (how, first, second, value, len ..) is valid for writing and aligned;
- *   - what is written through (the buffer, each lent number) overlaps nothing else that is given.
+ *   - what is written through (the buffer, each lent number, a block's answers) overlaps nothing else that is given.
  * Everything else is tested: every kind, span, source, setting and buffer gets an answer or a number.
  *
  * A LITERAL is given by four numbers: its kind's code (VALDRABUS_KIND_..), 1 if it stands in no source and else 0 (synthetic), and where its text begins and ends
@@ -26,19 +27,22 @@
  *    7  not a readable bit string                  first, second: its span
  *    8  not a money text                           first, second: its span
  *    9  would be written, and the buffer is shorter                              first: 0, second: the length needed
- *   10  a number that is given names nothing: an unknown kind, or a mark or setting that is neither 0 nor 1       first, second: 0
+ *   10  a number that is given, to a call or in a block's item, names nothing: an unknown kind, or a mark or setting that is neither 0 nor 1       first, second: 0
  *   11  a writer's value holds NUL, which a plain literal does not spell with the setting 0, and E'..' and U&'..' at neither setting
  *   12  a writer's value has more than 268435456 bytes, or the part size is below 4
+ *   15  a block as a whole: its items are not in fours, its answers have fewer numbers than its items, or the buffer has more than 4294967295 bytes
  * 10 is tested before all others; then 1, 2, 3, 4, then 5 to 8, then 9. The plain writers test 10, 12, 4, 11, 9; the writers of E'..' and U&'..', which take no
- * number that could name nothing, 12, 4, 11, 9.
+ * number that could name nothing, 12, 4, 11, 9. Of a block 15 is tested before any item is looked at, and of each item 10, 1, 3, 4, 6, 9.
  *
- * WHAT STAYS UNCHANGED. On any number but 0, and on a borrowed answer, the buffer is byte for byte as it was lent. A written answer fills the buffer's start; the rest
- * is unchanged. The lent numbers (how, first, second ..) are written by every call, with 0 where nothing else is said.
+ * WHAT STAYS UNCHANGED. On any number but 0, and on a borrowed answer, the buffer is byte for byte as it was lent. A written answer fills the buffer's start, in a block
+ * the start of what is left; the rest is unchanged. The lent numbers (how, first, second ..) are written by every call, with 0 where nothing else is said. A block's answers
+ * are written for its items: past them, and on 15, they are as they were lent.
  *
  * HOW a text is answered:
  *   VALDRABUS_NONE      no text: a refusal, or no charset's name
  *   VALDRABUS_BORROWED  the bytes first to second (second not included) of the source
  *   VALDRABUS_WRITTEN   the bytes first (which is 0) to second of the buffer
+ * A block tells its texts by start and length instead.
  */
 #ifndef VALDRABUS_H
 #define VALDRABUS_H
@@ -92,7 +96,8 @@ enum {
     VALDRABUS_NO_ROOM = 9,
     VALDRABUS_BAD_NUMBER = 10,
     VALDRABUS_HOLDS_NUL = 11,
-    VALDRABUS_OVER_LIMIT = 12
+    VALDRABUS_OVER_LIMIT = 12,
+    VALDRABUS_BAD_BLOCK = 15
 };
 
 enum {
@@ -119,6 +124,23 @@ uint32_t valdrabus_as_bit_text(uint32_t kind, uint32_t synthetic, uint32_t start
 /* What the quoted token of a date, time, timestamp or interval means, at the setting 0. 1, 2, 3, 4, 6, 9, 10. */
 uint32_t valdrabus_as_temporal_text(uint32_t kind, uint32_t synthetic, uint32_t start, uint32_t end, const uint8_t *source, size_t source_len,
                                     uint8_t *out, size_t out_len, uint32_t *how, size_t *first, size_t *second);
+
+/* A BLOCK of string literals in one call: a grid that shows hundreds of rows asks for all of them at once.
+
+   items    four numbers for each literal: kind, setting, start, end. There is no mark, so each stands in the source.
+   answers  four numbers for each literal, in the same order: number, how, start, length. With VALDRABUS_BORROWED the text is length bytes of the source from start on, with
+            VALDRABUS_WRITTEN of the buffer, start being counted from the beginning of the whole buffer. With the number 9 length is what this literal alone needs. Where nothing
+            else is said a field is 0: on every refusal but 9 all but the number.
+
+   Each literal gets the answer of valdrabus_as_str_in with the room that those before it left: 1, 3, 4, 6, 9, 10. Written texts stand one behind the other. A borrowed or refused
+   one takes no room, and no refusal ends the block: behind a 9 a shorter one may still be written. The call itself gives 0, or 15 with neither answers nor buffer changed.
+
+   For the source 'it','a''b' (11 bytes) and a buffer of 64, this answers 0 1 1 2 and 0 2 0 3, and the buffer begins with a'b:
+
+       uint32_t items[] = {VALDRABUS_KIND_STRING, 0, 0, 4, VALDRABUS_KIND_STRING, 0, 5, 11}, answers[8];
+       valdrabus_read_block(items, 8, source, 11, answers, 8, out, 64); */
+uint32_t valdrabus_read_block(const uint32_t *items, size_t items_len, const uint8_t *source, size_t source_len,
+                              uint32_t *answers, size_t answers_len, uint8_t *out, size_t out_len);
 
 /* PARTS of the source: never written. */
 

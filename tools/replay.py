@@ -15,6 +15,12 @@ A row is a head of 40 bytes, then the text with its padding, the value and the n
     15, 16  what is due: a letter for the case, the number
     18-27   places of the row, two bytes each: where the source begins and ends, the padding ends and the value begins, the value ends and the name begins, the row ends
     28-39   what is due: two values, of eight bytes and of four
+
+Of a block of literals in one call the value is the items, the answer slice as it is lent and the answer slice as it is due, all by numbers of four bytes, and the
+bytes that are written:
+
+    4-9     places of the row, two bytes each: where the items end, the slice as lent ends, the slice as due ends
+    28-39   what is due: that no number of the answer slice differs, told as the place behind the last that is compared, and 0
 """
 import pathlib
 import re
@@ -23,17 +29,24 @@ import sys
 
 ROOT = pathlib.Path(__file__).resolve().parent.parent
 # the first eight lend a buffer
-QUESTIONS = 'string plain decimal bits temporal ident writer form money source charset i64 bool null evalid uvalid uescape nul isident radix'.split()
+QUESTIONS = 'string plain decimal bits temporal ident writer form money source charset i64 bool null evalid uvalid uescape nul isident radix block'.split()
 LENDS = set(QUESTIONS[:8])
 SPANNED = set('string plain decimal bits temporal money source charset i64'.split())
 # how the texts of the two forms begin, in the order of their numbers
 OPENING = {'escape': "E'", 'unicode': "U&'"}
 LONG = 200  # the buffer of the first asking; no value is as long
+NUMBERS = 128  # as many numbers of an answer slice are compared; none is as long
+OTHER = 0xA5A5A5A5  # an answer slice is lent full of this number and those behind it
 HEAD = 40
 BLOCK = 65536
 # Bytes that would change an answer if they were read. The first byte behind a text never is 80 to BF, so a place that cut no character still cuts none.
 BEFORE = ["'", 'E', '\\', '"a', '$$', 'é', "U&'", '-', '0x', '_a', '\n', "'b' "]
 BEHIND = ["'", '"', " 'c'", '$$', '0', ' UESCAPE \'!\'', '\\', 'é', '\u3000"', '_1', "''"]
+
+
+def around(index):
+    """what stands around a source, by the row's place among the others"""
+    return BEFORE[index % len(BEFORE)].encode(), BEHIND[index // len(BEFORE) % len(BEHIND)].encode()
 
 
 def unhex(text):
@@ -54,7 +67,7 @@ class Row:
 
     def padding(self, index):
         """What stands around the source. A span that ends past its source has nothing behind it, where it would end inside; one that padding would carry past 32 bits has none."""
-        before, behind = BEFORE[index % len(BEFORE)].encode(), BEHIND[index // len(BEFORE) % len(BEHIND)].encode()
+        before, behind = around(index)
         if max(self.start, self.end) + len(before) >= 2 ** 32:
             return b'', b''
         return before, b'' if self.question in SPANNED and self.end > len(self.source) else behind
@@ -75,6 +88,51 @@ class Row:
         places = [HEAD + sum(map(len, parts[:n])) for n in (1, 2, 3, 4, 5)]
         head = struct.pack('<4B2I5Bx5HQI', QUESTIONS.index(self.question) + 1, self.kind, self.setting, self.synthetic, self.start, self.end, len(before), self.is_padded(index), self.room,
                            ord(self.letter), self.number, *places, *self.values)
+        return head + b''.join(parts)
+
+
+class Call:
+    """One call on a block of literals with what is due, in the words of docs/VECTORS.md."""
+    question = 'block'
+
+    def __init__(self, name, items, source, answers, room, number, fours, written):
+        self.name, self.items, self.source, self.answers, self.room = name, items, source, answers, room
+        self.number, self.fours, self.written = number, fours, written
+
+    def is_listed(self):
+        """whether its buffer can be written down, byte by byte"""
+        return self.room < 2 ** 32 - 1
+
+    def lent(self):
+        """the answer slice before the call"""
+        return [OTHER + place for place in range(self.answers)]
+
+    def due(self):
+        """the answer slice behind the call"""
+        return self.fours + self.lent()[len(self.fours):]
+
+    def in_padding(self, index):
+        """The same call with padding around the source; none where a span would pass 32 bits. Where a span ends past the source nothing stands behind it."""
+        before, behind = around(index)
+        ends = self.items[3::4]
+        if not self.items or max(self.items[2::4] + ends, default=0) + len(before) >= 2 ** 32:
+            return None
+        items = [n + len(before) * (place % 4 >= 2) for place, n in enumerate(self.items)]
+        fours = [n + len(before) * (place % 4 == 2 and self.fours[place - 1] == 1) for place, n in enumerate(self.fours)]
+        source = before + self.source + (b'' if max(ends, default=0) > len(self.source) else behind)
+        return Call(f'{self.name}, padded', items, source, self.answers, self.room, self.number, fours, self.written)
+
+    def askings(self, index):
+        """alone: a row says how long its buffer is, and the call in padding is a row of its own"""
+        return 1
+
+    def packed(self, index):
+        assert max(self.answers, len(self.items)) < NUMBERS and self.room < LONG, self.name
+        numbers = [struct.pack(f'<{len(given)}I', *given) for given in (self.items, self.lent(), self.due())]
+        parts = [b'', self.source, b'', b''.join(numbers) + self.written, self.name.encode()]
+        places = [HEAD + sum(map(len, parts[:n])) for n in (1, 2, 3, 4, 5)]
+        inner = [places[2] + sum(map(len, numbers[:n])) for n in (1, 2, 3)]
+        head = struct.pack('<B3x3H4x3Bx5HQI', QUESTIONS.index(self.question) + 1, *inner, self.room, ord('c'), self.number, *places, NUMBERS, 0)
         return head + b''.join(parts)
 
 
@@ -241,6 +299,32 @@ def parts_asked():
         yield 'parts, read back', Row(f'parts {identity}, read back', 'string', 4, setting, 0, len(text), text, read_back("'", value, text))
 
 
+def numbers(column):
+    """numbers in fours, a comma between"""
+    return [] if column == '-' else [int(n) for n in column.replace(',', '').split()]
+
+
+def calls():
+    """the rows of blocks.tsv"""
+    for identity, items, source, answers, room, number, fours, written, _ in lines('blocks'):
+        yield Call(f'blocks {identity}', numbers(items), unhex(source), int(answers), int(room), int(number), numbers(fours), unhex(written))
+
+
+def listed_calls():
+    """those whose buffer can be written down"""
+    return [call for call in calls() if call.is_listed()]
+
+
+def blocks_asked():
+    """(stratum, row) of blocks.tsv: each row; each with padding around its source, as far as its spans allow"""
+    for call in listed_calls():
+        yield 'blocks', call
+    for index, call in enumerate(listed_calls()):
+        padded = call.in_padding(index)
+        if padded:
+            yield 'blocks, padded', padded
+
+
 def all_rows():
     yield from sorted(listed('oracle'), key=lambda r: QUESTIONS.index(r[1].question))
     yield from sorted(listed('clarified'), key=lambda r: QUESTIONS.index(r[1].question))
@@ -249,9 +333,10 @@ def all_rows():
     yield from readable('examples')
     yield from forms_asked()
     yield from parts_asked()
+    yield from blocks_asked()
 
 
-def blocks(rows):
+def in_blocks(rows):
     """the rows in blocks, none of which cuts a row"""
     made, room = [], BLOCK
     for row in rows:
@@ -275,7 +360,7 @@ def made():
         rows.append(row.packed(index))
     rows.append(ending(list(strata)[-1]))
     said = ''.join(f'{name}: {count} rows, {askings} askings, 0 different\n' for name, (count, askings) in strata.items())
-    return blocks(rows), said.encode()
+    return in_blocks(rows), said.encode()
 
 
 def main():

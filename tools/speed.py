@@ -1,12 +1,12 @@
 #!/usr/bin/env python3
 """Ours beside the Rust original, on the machine that this runs on: writes the figures into docs/PERFORMANCE.md.
 
-    tools/speed.py [--print]
+    tools/speed.py [--blocks] [--print]
 
 Needs cargo, valgrind, the archive (as tools/archive finds it) and the Rust's source (VALDRABUS_RUST_SRC, see tools/oracle/oracle.py). Times are those of
 `bench`, the best of its rounds. Instructions are counted by callgrind: a case is run once and eleven times, and a tenth of the difference is what one run
-costs, so that start and end of the program do not count. The page has a section for each machine, of which only this one's is written anew, and a summary
-of both. With --print the section goes to standard output and the page stays as it is.
+costs, so that start and end of the program do not count. The page has a section for each machine, one more on blocks, of which only this one's are written
+anew, and a summary of both. With --blocks it is the one on blocks alone. With --print the sections go to standard output and the page stays as it is.
 """
 import os
 import platform
@@ -24,6 +24,9 @@ SIDES = ['ours', 'rust', 'rust-str']
 # the columns of bench's table: times, and the ratio to the Rust with from_utf8
 OURS, RUST, RATIO, RUST_STR = 3, 4, 5, 6
 TIMES = 'Nanoseconds for one literal:\n\n'
+# the same of its table of blocks; where the Rust cannot be compared, there is a dash
+BLOCK_SIDES = ['block', 'singles', 'rust']
+BLOCK, SINGLES, BLOCK_RUST = 3, 4, 6
 
 
 # The page
@@ -77,8 +80,13 @@ def instructions(case, times, side):
     return int(re.search(r'Collected : (\d+)', run.stderr)[1])
 
 
-def counted(case, literals):
-    return [(instructions(case, 11, side) - instructions(case, 1, side)) / 10 / literals for side in SIDES]
+def counted(case, literals, sides):
+    return [(instructions(case, 11, side) - instructions(case, 1, side)) / 10 / literals for side in sides]
+
+
+def beside(first, others):
+    """The cells of a row: the first side's count, and each other's with its ratio to the first."""
+    return ' | '.join([f'{first:,.0f}'] + [f'{other:,.0f} | {other / first:.2f}' for other in others])
 
 
 def facts(text):
@@ -95,23 +103,39 @@ def model():
     return f'{known["Vendor ID"]} {known["Model name"]} ({known["Architecture"]}), {os.cpu_count()} cores'
 
 
-def losses(table):
-    """The cases in which ours takes longer, for either column of times."""
-    times = [[(row[0], float(row[OURS]) / float(row[at])) for row in table] for at in (RUST, RUST_STR)]
-    slower = [[f'{name} ({by:.2f} times)' for name, by in column if by > 1] for column in times]
-    return ''.join(f'\nWhere ours takes longer than {than}: {"; ".join(names) or "nowhere"}.\n'
-                   for than, names in zip(('the Rust', 'the Rust without `from_utf8`'), slower))
+def slower(table, first, other):
+    """The cases in which the first column's side takes longer, and by how much."""
+    times = [(row[0], float(row[first]) / float(row[other])) for row in table if row[other] != '–']
+    return '; '.join(f'{name} ({by:.2f} times)' for name, by in times if by > 1) or 'nowhere'
+
+
+def head(machine):
+    return f'### {MACHINES[machine]}\n\n{model()}; {output("rustc", "--version").strip()}, release builds; {output("valgrind", "--version").strip()}.\n\n'
 
 
 def section(machine):
     times = output(BENCH)
     table = rows(times)
-    text = f'### {MACHINES[machine]}\n\n{model()}; {output("rustc", "--version").strip()}, release builds; {output("valgrind", "--version").strip()}.\n\n'
-    text += TIMES + times + losses(table)
+    text = head(machine) + TIMES + times
+    for at, than in ((RUST, 'the Rust'), (RUST_STR, 'the Rust without `from_utf8`')):
+        text += f'\nWhere ours takes longer than {than}: {slower(table, OURS, at)}.\n'
     text += '\nInstructions for one literal:\n\n| case | ours | Rust | ratio | Rust, no `from_utf8` | ratio |\n|---|---|---|---|---|---|\n'
     for row in table:
-        ours, rust, rust_str = counted(row[0], int(row[1]))
-        text += f'| {row[0]} | {ours:,.0f} | {rust:,.0f} | {rust / ours:.2f} | {rust_str:,.0f} | {rust_str / ours:.2f} |\n'
+        ours, *others = counted(row[0], int(row[1]), SIDES)
+        text += f'| {row[0]} | {beside(ours, others)} |\n'
+    return text
+
+
+def blocks(machine):
+    times = output(BENCH, '--blocks')
+    table = rows(times)
+    text = head(machine) + 'Nanoseconds for one item:\n\n' + times
+    text += f'\nWhere a block takes longer than single calls: {slower(table, BLOCK, SINGLES)}.\n'
+    text += '\nInstructions for one item:\n\n| case | block | singles | ratio | Rust | ratio |\n|---|---|---|---|---|---|\n'
+    for row in table:
+        compared = row[BLOCK_RUST] != '–'
+        block, *others = counted(row[0], int(row[1]), BLOCK_SIDES if compared else BLOCK_SIDES[:-1])
+        text += f'| {row[0]} | {beside(block, others)} |' + ('\n' if compared else ' – | – |\n')
     return text
 
 
@@ -121,22 +145,35 @@ def build():
     subprocess.run(['cargo', 'build', '--quiet', '--release', '-p', 'bench'], check=True, cwd=HOST, env=known)
 
 
+def sections(machine, only_blocks):
+    """The parts of the page that are written anew."""
+    parts = {} if only_blocks else {machine: section(machine)}
+    return parts | {f'blocks, {machine}': blocks(machine)}
+
+
+def write(parts):
+    with open(PAGE) as f:
+        page = f.read()
+    for name, text in parts.items():
+        page = replaced(page, name, text)
+    page = replaced(page, 'summary', summary(page))
+    with open(PAGE, 'w') as f:
+        f.write(page)
+
+
 def main():
     machine = platform.machine()
-    if sys.argv[1:] not in ([], ['--print']) or machine not in MACHINES:
+    words = sys.argv[1:]
+    if not set(words) <= {'--blocks', '--print'} or machine not in MACHINES:
         sys.exit(__doc__)
     build()
     if not output(BENCH, '--cases').startswith('ward'):
         sys.exit('the Rust original is not at hand: nothing is timed')
-    text = section(machine)
-    if sys.argv[1:]:
-        print(text)
-        return
-    with open(PAGE) as f:
-        page = replaced(f.read(), machine, text)
-    page = replaced(page, 'summary', summary(page))
-    with open(PAGE, 'w') as f:
-        f.write(page)
+    parts = sections(machine, '--blocks' in words)
+    if '--print' in words:
+        print('\n'.join(parts.values()))
+    else:
+        write(parts)
 
 
 if __name__ == '__main__':

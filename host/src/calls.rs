@@ -3,6 +3,7 @@
 //! What the header asks of a caller, Rust's references give: a slice's pointer is never null and is valid for the slice's length, also when that is 0; a `&mut` is
 //! aligned, valid for writing and overlaps nothing else that is borrowed. No function keeps a pointer. The `SAFETY` comments name this as "slices".
 
+use crate::items::{Item, Told};
 use crate::literal::Literal;
 use crate::said::Said;
 use crate::settings::Settings;
@@ -44,6 +45,23 @@ pub(crate) fn as_str_in(literal: &Literal, source: &[u8], settings: Settings, ou
         )
     };
     said
+}
+
+/// The number of the whole call. On 0 as many answers are told as there are items, on any other nothing is changed.
+pub(crate) fn read_block(items: &[Item], source: &[u8], answers: &mut [Told], out: &mut [u8]) -> u32 {
+    // SAFETY: slices. An Item and a Told are four u32 each, in C's layout and so without padding: a slice of them is one of four times as many aligned numbers, and any numbers make a Told.
+    unsafe {
+        sys::valdrabus_read_block(
+            items.as_ptr().cast(),
+            4 * items.len(),
+            source.as_ptr(),
+            source.len(),
+            answers.as_mut_ptr().cast(),
+            4 * answers.len(),
+            out.as_mut_ptr(),
+            out.len(),
+        )
+    }
 }
 
 pub(crate) fn text(question: TextQuestion, literal: &Literal, source: &[u8], out: &mut [u8]) -> Said {

@@ -1,5 +1,6 @@
 //! Why a call is refused.
 
+use crate::blocks::LONGEST_BUFFER;
 use crate::kinds::{Expected, Kind};
 use crate::literal::Literal;
 use crate::span::Span;
@@ -25,7 +26,7 @@ pub enum Error {
     WrongKind {
         /// What the question expects.
         expected: Expected,
-        /// The literal's kind, with all its data.
+        /// The literal's kind, with all its data; in a block, which keeps the kind's code alone, without them.
         actual: Kind,
     },
     /// 2: the literal stands in no source.
@@ -74,10 +75,12 @@ pub enum Error {
     HoldsNul,
     /// 12: a value longer than [`LONGEST_VALUE`](crate::LONGEST_VALUE), or parts smaller than [`LEAST_PART`](crate::LEAST_PART).
     OverLimit,
+    /// 15: a block with fewer answers than items, or with a buffer that is, or would have to be, longer than [`LONGEST_BUFFER`](crate::LONGEST_BUFFER).
+    BadBlock,
 }
 
 impl Error {
-    /// The refusal's number, 1 to 12, as `include/valdrabus.h` lists them.
+    /// The refusal's number, 1 to 12 or 15, as `include/valdrabus.h` lists them.
     pub const fn number(&self) -> u32 {
         match self {
             Error::WrongKind { .. } => 1,
@@ -92,6 +95,7 @@ impl Error {
             Error::BadNumber => 10,
             Error::HoldsNul => 11,
             Error::OverLimit => 12,
+            Error::BadBlock => 15,
         }
     }
 
@@ -127,7 +131,7 @@ impl Error {
         }
     }
 
-    /// The refusal of a call on bare text or a value, by its number and the length that comes with 9.
+    /// The refusal of a call on bare text, a value or a block, by its number and the length that comes with 9.
     pub(crate) fn of_bare(number: u32, needed: usize) -> Error {
         match number {
             4 => Error::NotUtf8 { span: None },
@@ -135,6 +139,7 @@ impl Error {
             9 => Error::NoRoom { needed },
             11 => Error::HoldsNul,
             12 => Error::OverLimit,
+            15 => Error::BadBlock,
             _ => Error::BadNumber,
         }
     }
@@ -158,6 +163,9 @@ impl fmt::Display for Error {
             Error::BadNumber => write!(f, "the linked archive is of another version"),
             Error::HoldsNul => write!(f, "the value holds a NUL: only plain literals with backslash escapes spell it"),
             Error::OverLimit => write!(f, "the value is too long to be written, or the part size too small"),
+            Error::BadBlock => {
+                write!(f, "the block has fewer answers than items, or takes a buffer longer than {LONGEST_BUFFER} bytes")
+            }
         }?;
         write!(f, " (number {})", self.number())
     }
@@ -185,7 +193,7 @@ mod tests {
     #[test]
     fn every_number_of_a_literal_comes_back_as_its_error() {
         let literal = Literal::new(Kind::Money, 3..8);
-        for number in 1..=12 {
+        for number in (1..=12).chain([15]) {
             assert_eq!(Error::of_literal(number, 1, 2, &literal).number(), number);
         }
     }
@@ -193,7 +201,7 @@ mod tests {
     #[test]
     fn what_the_header_does_not_know_is_a_bad_number() {
         let literal = Literal::new(Kind::Money, 3..8);
-        assert_eq!(Error::of_literal(13, 0, 0, &literal), Error::BadNumber);
+        assert_eq!([13, 14, 16].map(|number| Error::of_literal(number, 0, 0, &literal)), [Error::BadNumber; 3]);
         assert_eq!(Error::of_literal(1, 9, 14, &literal), Error::BadNumber);
         assert_eq!(Error::of_bare(5, 0), Error::BadNumber);
     }

@@ -147,6 +147,28 @@ impl Kind {
             Kind::Money => 14,
         }
     }
+
+    /// The kind that has a code, without data.
+    pub(crate) fn of_code(code: u32) -> Option<Kind> {
+        const UNSPECIFIED: TimeZone = TimeZone::Unspecified;
+        Some(match code {
+            1 => Kind::Integer,
+            2 => Kind::Float,
+            3 => Kind::Decimal,
+            4 => Kind::String,
+            5 => Kind::Boolean(true),
+            6 => Kind::Boolean(false),
+            7 => Kind::Null,
+            8 => Kind::Date,
+            9 => Kind::Time { time_zone: UNSPECIFIED },
+            10 => Kind::Timestamp { time_zone: UNSPECIFIED },
+            11 => Kind::Interval { fields: None, precision: None },
+            12 => Kind::BitString { radix: BitStringRadix::Binary },
+            13 => Kind::BitString { radix: BitStringRadix::Hex },
+            14 => Kind::Money,
+            _ => return None,
+        })
+    }
 }
 
 impl fmt::Display for Kind {
@@ -232,6 +254,14 @@ impl fmt::Display for Expected {
 #[cfg(test)]
 mod tests {
     use super::*;
+
+    #[test]
+    fn a_kinds_code_gives_the_kind_back() {
+        for code in 1..=14 {
+            assert_eq!(Kind::of_code(code).map(Kind::code), Some(code));
+        }
+        assert_eq!([0, 15, u32::MAX].map(Kind::of_code), [None; 3]);
+    }
 
     #[test]
     fn a_familys_code_gives_the_family_back() {

@@ -26,6 +26,7 @@
 //!
 //! - [`Literal`]: a kind and a span; the questions are its methods. [`InBytes`]: the same over bytes that may not be UTF-8.
 //! - [`Text`]: an answer that is a part of the source, or written into the buffer that was lent.
+//! - [`read_block`]: many string literals of one source in one call, each an [`Item`]; [`Block`] shows their answers. [`to_block`]: the same with memory of its own.
 //! - [`Error`]: why a call is refused, with its number. A refusal leaves the buffer as it was.
 //! - [`write_literal`], [`write_parts`]: values as plain literals, whole or in parts. [`write_escape`], [`write_unicode`]: values as `E'..'` and `U&'..'`, in which no byte is below 20 hex. [`to_literal`],
 //!   [`to_parts`], [`to_escape`], [`to_unicode`]: the same into texts of their own.
@@ -39,13 +40,16 @@
 #![deny(missing_docs)]
 #![deny(unsafe_op_in_unsafe_fn)]
 
+mod blocks;
 mod calls;
 mod errors;
 mod helpers;
 mod in_bytes;
+mod items;
 mod kinds;
 mod literal;
 mod owned;
+mod owned_blocks;
 mod questions;
 mod said;
 mod settings;
@@ -56,6 +60,7 @@ pub mod sys;
 mod texts;
 mod writer;
 
+pub use blocks::{Block, LONGEST_BUFFER, Texts, read_block, read_block_bytes};
 pub use errors::Error;
 pub use helpers::{
     is_unicode_ident, materialize_unicode_ident, materialize_unicode_ident_bytes, postgres_escape_string_is_valid,
@@ -63,8 +68,10 @@ pub use helpers::{
     uescape_argument_is_legal, unicode_escape_string_is_valid,
 };
 pub use in_bytes::InBytes;
+pub use items::{Item, Told};
 pub use kinds::{BitStringRadix, Expected, IntervalFields, Kind, TimeZone};
 pub use literal::Literal;
+pub use owned_blocks::{BlockBuf, to_block, to_block_bytes};
 pub use settings::Settings;
 pub use span::Span;
 pub use texts::Text;

@@ -8,7 +8,7 @@ use crate::texts::Text;
 /// How a text is answered: `VALDRABUS_NONE`, `_BORROWED` and `_WRITTEN` of the header.
 const NONE: u32 = 0;
 const BORROWED: u32 = 1;
-const WRITTEN: u32 = 2;
+pub(crate) const WRITTEN: u32 = 2;
 
 /// A number, how a text is answered, and the two values that come with it.
 #[derive(Default)]

@@ -2,8 +2,8 @@
 
 use std::ops::Range;
 
-/// A source, and how its parts and what is written for it are shown.
-pub(crate) trait Source {
+/// A source, and how its parts and what is written for it are shown. Blocks are of either form, so their methods name it; no other crate can.
+pub trait Source: 'static {
     fn bytes(&self) -> &[u8];
 
     /// A part; none where the range does not fit.

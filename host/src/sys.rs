@@ -54,6 +54,16 @@ unsafe extern "C" {
         first: *mut usize,
         second: *mut usize,
     ) -> u32;
+    pub fn valdrabus_read_block(
+        items: *const u32,
+        items_len: usize,
+        source: *const u8,
+        source_len: usize,
+        answers: *mut u32,
+        answers_len: usize,
+        out: *mut u8,
+        out_len: usize,
+    ) -> u32;
     pub fn valdrabus_source_text(
         kind: u32,
         synthetic: u32,

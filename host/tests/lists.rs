@@ -1,13 +1,18 @@
-//! The sample lists: the example `keys` finds what the script that made them knows.
+//! The sample lists: the examples `keys` and `block` find what the script that made them knows.
 
 #[path = "../examples/keys/list.rs"]
 mod list;
+#[path = "../examples/block/one_call.rs"]
+mod one_call;
+#[path = "../examples/keys/places.rs"]
+mod places;
 #[path = "../examples/keys/report.rs"]
 mod report;
 #[path = "../examples/keys/request.rs"]
 mod request;
 
 use report::Look;
+use std::borrow::Cow;
 use std::collections::HashSet;
 use std::ffi::OsString;
 use std::os::unix::ffi::OsStringExt;
@@ -25,11 +30,42 @@ fn finds_its_doubles(name: &str, count: usize) {
     assert_eq!(report::keys(&rows, Look::Marked).lines().count(), count);
     assert_eq!(report::refused(&rows), "");
     assert_eq!(report::doubles(&rows, Look::Marked), read(&format!("{name}.doubles")));
+    one_call_finds_the_same(name, &text, &rows);
+}
+
+/// The keys row by row are those of one call, borrowed or written alike.
+fn one_call_finds_the_same(name: &str, text: &str, rows: &[list::Row<'_>]) {
+    let reading = one_call::read(text.as_bytes()).expect("settings that can be read");
+    assert_eq!(report::doubles(&reading.rows, Look::Marked), read(&format!("{name}.doubles")));
+    let mut used = 0;
+    for (one, all) in rows.iter().zip(&reading.rows) {
+        match (&one.key, &all.key) {
+            (Ok(Cow::Borrowed(key)), Ok(Cow::Borrowed(same))) => assert!(std::ptr::eq(*key, *same)),
+            (Ok(Cow::Owned(key)), Ok(Cow::Owned(same))) if key == same => used += key.len(),
+            differ => panic!("line {}: {differ:?}", one.line),
+        }
+        assert_eq!(one.line, all.line);
+    }
+    assert_eq!((reading.rows.len(), reading.used), (rows.len(), used));
 }
 
 #[test]
 fn the_ward_list() {
     finds_its_doubles("ward", 40);
+}
+
+#[test]
+fn a_row_that_cannot_be_read_stops_nothing_in_one_call() {
+    let list = b"'a'\n'b\n'\xFF'\r\n-- backslash on\n'\\a'\r\n";
+    let reading = one_call::read(list).expect("settings that can be read");
+    assert_eq!(reading.to_string(), "4 items in one call: 1 borrowed, 1 written into 1 bytes, 2 refused");
+    let said = [
+        "     2  refused: the text at 4..6 is not a readable string (number 6)",
+        "     3  refused: the text at 7..10 is not UTF-8 (number 4)",
+    ];
+    assert_eq!(report::refused(&reading.rows).lines().collect::<Vec<_>>(), said);
+    let doubles = "doubled: a, on lines 1, 5\n2 products with doubles, 1 without; 1 doubled; 2 rows refused\n";
+    assert_eq!(report::doubles(&reading.rows, Look::Marked), doubles);
 }
 
 #[test]

@@ -1,8 +1,9 @@
-//! What the safe functions never meet: numbers that name nothing, and the view. Through the C functions themselves.
+//! What the safe functions never meet: numbers that name nothing, items that are not in fours, and the view. Through the C functions themselves.
 
 use valdrabus::sys;
 
 const BAD_NUMBER: u32 = 10;
+const BAD_BLOCK: u32 = 15;
 
 /// A string read by its raw numbers: what is returned, how, first and second, which all begin as 77.
 fn as_str(kind: u32, synthetic: u32, setting: u32) -> [usize; 4] {
@@ -67,6 +68,42 @@ fn number_10_of_every_function_that_takes_a_number() {
     assert_eq!(out, [0xA5; 8]);
     // SAFETY: no pointer is given.
     assert!(unsafe { !sys::valdrabus_is_null(0) && !sys::valdrabus_is_null(99) && sys::valdrabus_is_null(7) });
+}
+
+/// A block over `'a''b'` by its raw numbers: what is returned, and the answers, which all begin as 77.
+fn block(items: &[u32], answers_len: usize) -> (u32, Vec<u32>) {
+    let source = b"'a''b'";
+    let (mut answers, mut out) = (vec![77; answers_len], [0xA5; 8]);
+    // SAFETY: slices of this function.
+    let number = unsafe {
+        sys::valdrabus_read_block(
+            items.as_ptr(),
+            items.len(),
+            source.as_ptr(),
+            source.len(),
+            answers.as_mut_ptr(),
+            answers.len(),
+            out.as_mut_ptr(),
+            out.len(),
+        )
+    };
+    (number, answers)
+}
+
+#[test]
+fn number_10_of_an_item_stops_nothing() {
+    for (kind, setting) in [(0, 0), (15, 0), (u32::MAX, 0), (4, 2), (4, 7), (4, u32::MAX), (8, 2)] {
+        let due = vec![BAD_NUMBER, 0, 0, 0, 0, 2, 0, 3, 77];
+        assert_eq!(block(&[kind, setting, 6, 0, 4, 0, 0, 6], 9), (0, due), "{kind} {setting}");
+    }
+}
+
+#[test]
+fn number_15_for_items_that_are_not_in_fours() {
+    let items = [4, 0, 0, 6, 4, 0, 0, 6];
+    for (items_len, answers_len) in [(1, 8), (5, 8), (7, 8), (4, 3), (8, 7), (8, 0)] {
+        assert_eq!(block(&items[..items_len], answers_len), (BAD_BLOCK, vec![77; answers_len]));
+    }
 }
 
 fn view(how: u32, first: usize, second: usize) -> (u32, usize, usize) {

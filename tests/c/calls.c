@@ -1,14 +1,13 @@
 /*
- * Calls each function of valdrabus.h, and compares what it answers, the lent numbers and every byte of the buffer with what document 01's examples, the tables of its
- * reading and those of request T-01 say. Prints one line; ends with status 1 at the first difference, having said where it stands.
+ * Calls each function of valdrabus.h but the block's, which blocks.c calls, and compares what it answers, the lent numbers and every byte of the buffer with what
+ * document 01's examples, the tables of its reading and those of request T-01 say. Prints one line; ends with status 1 at the first difference, having said where it stands.
  */
 #include "valdrabus.h"
 
-#include <stdio.h>
-#include <stdlib.h>
+#include "check.h"
+
 #include <string.h>
 
-#define LENT 0xA5
 #define ROOM 64
 
 /* What a call is lent, and what it left. */
@@ -20,34 +19,12 @@ struct call {
     uint8_t out[ROOM];
 };
 
-static unsigned checks;
-
-static void fail(int line, const char *what)
-{
-    fprintf(stderr, "calls.c, line %d: %s\n", line, what);
-    exit(1);
-}
-
-static void check(int line, int holds, const char *what)
-{
-    checks++;
-    if (!holds)
-        fail(line, what);
-}
-
-#define CHECK(test) check(__LINE__, (test) != 0, #test)
-
 /* Numbers that no call leaves, and a buffer in which a changed byte shows. */
 static struct call lent(void)
 {
     struct call call = {77, 77, 77, 77, {0}};
     memset(call.out, LENT, ROOM);
     return call;
-}
-
-static const uint8_t *bytes(const char *text)
-{
-    return (const uint8_t *)text;
 }
 
 /* Whether the buffer holds a text at its start, and what was lent behind it. */
@@ -338,10 +315,10 @@ static void spellings(void)
     size_t at;
 
     for (at = 0; at < sizeof rows / sizeof rows[0]; at++) {
-        check(__LINE__, writes(valdrabus_write_escape, rows[at].value, rows[at].escape), rows[at].escape);
-        check(__LINE__, reads_back(rows[at].escape, 2, rows[at].value), rows[at].escape);
-        check(__LINE__, writes(valdrabus_write_unicode, rows[at].value, rows[at].unicode), rows[at].unicode);
-        check(__LINE__, reads_back(rows[at].unicode, 3, rows[at].value), rows[at].unicode);
+        CHECK_ROW(writes(valdrabus_write_escape, rows[at].value, rows[at].escape), rows[at].escape);
+        CHECK_ROW(reads_back(rows[at].escape, 2, rows[at].value), rows[at].escape);
+        CHECK_ROW(writes(valdrabus_write_unicode, rows[at].value, rows[at].unicode), rows[at].unicode);
+        CHECK_ROW(reads_back(rows[at].unicode, 3, rows[at].value), rows[at].unicode);
     }
 }
 

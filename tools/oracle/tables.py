@@ -1,10 +1,10 @@
 #!/usr/bin/env python3
-"""Turns vectors/oracle.tsv, clarified.tsv, forms.tsv and parts.tsv into tables of antt, proved by one computation.
+"""Turns vectors/oracle.tsv, clarified.tsv, forms.tsv, parts.tsv and blocks.tsv into tables of antt, proved by one computation.
 
     tools/oracle/tables.py
 
-writes crates/meaning/proofs/Oracle1.antt and on, Clarified.antt, FormRows.antt, PartRows.antt, Tables.antt that proves them, and Lib.antt with their names and
-those of the tables written by hand. The forms of the rows are those of crates/meaning/proofs/Rows.antt.
+writes crates/meaning/proofs/Oracle1.antt and on, Clarified.antt, FormRows.antt, PartRows.antt, BlockRows.antt, Tables.antt that proves them, and Lib.antt with their
+names and those of the tables written by hand. The forms of the rows are those of crates/meaning/proofs/Rows.antt.
 """
 import glob
 import os
@@ -21,14 +21,14 @@ SPECS = os.path.join(ROOT, 'crates', 'meaning', 'specs')
 SIZE = 500  # rows in a file, about
 WIDTH = 160  # characters in a line, except in rows
 # the tables written by hand
-BY_HAND = ['Further', 'Unseen']
+BY_HAND = ['BlockLimits', 'Further', 'Unseen']
 # the definitions that no row reaches
 UNREACHED = {'Halves': None, 'Cutting': {'complete'}}
 
 QUESTION = {'plain': 'plain', 'decimal': 'decimal-text', 'bits': 'bit-text', 'temporal': 'temporal-text', 'money': 'money-text', 'source': 'source-text',
             'charset': 'charset', 'i64': 'i64', 'bool': 'bool', 'null': 'null'}
 # the words that rows are made of
-WORDS = ('asks spans detached helps names prefixed spells forms prints wrote needs refused string plain decimal-text bit-text temporal-text money-text '
+WORDS = ('asks spans detached helps names prefixed spells forms prints block wrote needs refused tells declines string plain decimal-text bit-text temporal-text money-text '
          'source-text charset i64 bool null uescape-legal escape-valid unicode-valid embeds-nul is-ident borrows writes cramped plus minus unnamed says '
          'refuses unfit').split()
 HELPER = {'uescape': 'uescape-legal', 'evalid': 'escape-valid', 'uvalid': 'unicode-valid', 'nul': 'embeds-nul', 'isident': 'is-ident'}
@@ -122,6 +122,21 @@ def part_rows():
         yield row('string', 4, setting, 0, len(text), text.hex(), 0, replay.read_back("'", value, text))
 
 
+def listing(numbers):
+    return '(' + ' ∷ '.join(map(str, numbers + ['[]'])) + ')' if numbers else '[]'
+
+
+def called(call):
+    """what a block's call does: 15, or the fours and the bytes that it writes"""
+    return 'declines' if call.number else f'(tells {listing(call.fours)} {quoted(call.written)})'
+
+
+def block_rows():
+    """the rows of blocks.tsv whose buffer is a list; BlockLimits has the others"""
+    for call in replay.listed_calls():
+        yield f'block {listing(call.items)} {quoted(call.source)} {call.answers} {call.room} {called(call)}'
+
+
 def read(name):
     with open(os.path.join(ROOT, 'vectors', name)) as f:
         return [line.rstrip('\n').split('\t') for line in f if not line.startswith('#')]
@@ -208,7 +223,8 @@ def main():
     table('FormRows', 'values as E and U& literals, and these read back.', 'forms.tsv', list(form_rows()),
           ['use Rattle.meaning.specs.declared.Form.the-variants.{Escape, Unicode}'])
     table('PartRows', 'values in parts, and these and other texts read.', 'parts.tsv', list(part_rows()), sizes)
-    modules += ['Clarified', 'FormRows', 'PartRows']
+    table('BlockRows', 'blocks of string literals read in one call.', 'blocks.tsv', list(block_rows()))
+    modules += ['Clarified', 'FormRows', 'PartRows', 'BlockRows']
     proof_of(modules[1:])
     modules += ['Tables'] + BY_HAND
     with open(os.path.join(PROOFS, 'Lib.antt'), 'w') as f:

@@ -6,7 +6,7 @@ use meaning::Precision;
 use meaning::TimeZone;
 ghost use mathlib.Core.Path.{_≡_};
 ghost use Rattle.meaning.specs.Answers.{kindCode};
-ghost use Rattle.meaning.specs.Records.{kindOf};
+ghost use Rattle.meaning.specs.Codes.{kindOf};
 
 // The code of a kind, 1 to 14; what the kind holds besides is not in it.
 // Rules out: both radices by one code; true and false by one code (must-fail: radices_as_one, two_told_as_one).

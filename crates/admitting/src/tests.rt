@@ -24,7 +24,8 @@ fn cuts_character(source: &[u8], at: usize) -> bool
 }
 
 // Whether a span is no span of the source: backwards, past the end, or cutting a character at either place.
-fn is_bad_span(span: Span, source: &[u8]) -> bool
+// Rules out: an end past the source taken; a span that begins in a character taken (must-fail: number_past_the_last, setting_past_the_last).
+pub fn is_bad_span(span: Span, source: &[u8]) -> bool
     ensures { λ r. ⌜ r ≡ badSpan span (now (source .entry)) ⌝ }
 {
     let start = span.start as usize;

@@ -5,10 +5,10 @@ use mathlib.Core.Logic.{_⊎_, _↔_}
 use mathlib.Core.Path.{_≡_}
 use mathlib.Core.Bool.{Bool, true, false}
 use mathlib.Core.List.{List, [], _∷_, _++_, flatten}
-use Prim.Native.Nat.{ℕ, suc, _+_, _*_, _^_, _≤_, _<_}
+use Prim.Native.Nat.{ℕ, suc, _+_, _*_, _%_, _^_, _≤_, _<_}
 use lib.Dec.{T}
 use lib.IntN.{ℤ, negℤ}
-use lib.ListN.{length, take, drop}
+use lib.ListN.{length, getD, take, drop}
 use denote.Ref.{RefT, now}
 use Rattle.meaning.specs.declared.Settings.{Settings}
 use Rattle.meaning.specs.declared.PartSize.{PartSize}
@@ -17,15 +17,18 @@ use Rattle.meaning.specs.declared.LiteralKind.{LiteralKind}
 use Rattle.meaning.specs.declared.Span.{Span}
 use Rattle.meaning.specs.declared.Literal.{Literal}
 use Rattle.meaning.specs.declared.Refusal.the-variants.{NotUtf8}
+use Rattle.meaning.specs.declared.Text.{Text}
 use Rattle.meaning.specs.declared.Text.the-variants as Text
 use Rattle.meaning.specs.declared.Writing.the-variants as Writing
 use Rattle.meaning.specs.declared.Read.{Read}
+use Rattle.meaning.specs.declared.Item.{Item}
+use Rattle.meaning.specs.declared.Four.{Four}
 use Rattle.meaning.specs.Bytes.{_!_, part, within, isMark, quote, digits, digit, number, has}
 use Rattle.meaning.specs.Chars.{Due, pushes, whole, utf8, isScalar, space}
 use Rattle.meaning.specs.Walk.{Step, Trace, walk, stops, plain, value}
 use Rattle.meaning.specs.Steps.{standardStep, checked, gap}
 use Rattle.meaning.specs.Cutting.{opening, segment, cut, complete, continues}
-use Rattle.meaning.specs.Reading.{Answer, means, meaning}
+use Rattle.meaning.specs.Reading.{Answer, written, read, means, meaning}
 use Rattle.meaning.specs.Numbers.{fits, printed}
 use Rattle.meaning.specs.Halves.{joinedHalves, negatedHigh, negatedLow, bitsOf, textOf}
 use Rattle.meaning.specs.Helpers.{uescapeLegal, escapeValid, unicodeValid}
@@ -36,6 +39,8 @@ use Rattle.meaning.specs.Questions.{charsetQuestion, sourceQuestion, boolQuesti
 use Rattle.meaning.specs.Writer.{spells, between, partsFrom, partsOf, overLimit, partTooSmall, writtenText, writeQuestion}
 use Rattle.meaning.specs.Forms.{formOpening, formText, formQuestion}
 use Rattle.meaning.specs.Records.{recordLine, output}
+use Rattle.meaning.specs.Codes.{isKnown, literalOf, settingsOf}
+use Rattle.meaning.specs.Blocks.{itemsOf, numbersOf, four, fourOf, itemQuestion, askedAs, itemAsked, blockAt, badBlock, BlockOutcome, blockCall, Blocks}
 use Rattle.meaning.proofs.Rows.{all}
 use Rattle.laws.proofs.basics.Digits as Digits
 use Rattle.laws.proofs.basics.Digits.{DigitsTo}
@@ -49,6 +54,7 @@ use Rattle.laws.proofs.utf8.WhiteUtf8 as WhiteUtf8
 use Rattle.laws.proofs.utf8.HelpersUtf8 as HelpersUtf8
 use Rattle.laws.proofs.walking.Walks as Walks
 use Rattle.laws.proofs.walking.Courses as Courses
+use Rattle.laws.proofs.walking.Short as Short
 use Rattle.laws.proofs.cutting.Gaps as Gaps
 use Rattle.laws.proofs.cutting.Openings as Openings
 use Rattle.laws.proofs.cutting.Cuts as Cuts
@@ -74,7 +80,7 @@ use Rattle.laws.proofs.writing.FormRoundTrip as FormRoundTrip
 use Rattle.laws.proofs.questions.Asked as Asked
 use Rattle.laws.proofs.questions.Asked.{Spans}
 use Rattle.laws.proofs.questions.Determined as Determined
-use Rattle.laws.proofs.questions.Determined.{Same, SamePart}
+use Rattle.laws.proofs.questions.Determined.{Same, SameBlock, SamePart}
 use Rattle.laws.proofs.questions.Views as Views
 use Rattle.laws.proofs.questions.OnlyKinds as OnlyKinds
 use Rattle.laws.proofs.questions.OnlyKinds.{ZeroOrOne}
@@ -88,6 +94,17 @@ use Rattle.laws.proofs.questions.Answered as Accepting
 use Rattle.laws.proofs.questions.Calls as Calls
 use Rattle.laws.proofs.questions.Calls.{StringCall, WriterCall, Shows, PartWritten, calls-chain}
 use Rattle.laws.proofs.questions.RecordOutput as RecordOutput
+use Rattle.laws.proofs.questions.Items as Items
+use Rattle.laws.proofs.questions.Blocks as BlockLaws
+use Rattle.laws.proofs.questions.Blocks.{taken, askedBehind, lengthsWritten, writtenBy, blocksJoined}
+use Rattle.laws.proofs.questions.Fits as Fits
+use Rattle.laws.proofs.questions.Fits.{AllFit}
+use Rattle.laws.proofs.questions.BlockCalls as BlockCalls
+use Rattle.laws.proofs.questions.BlockCalls.{Admitted, ZeroOr15, BlockLeaves}
+use Rattle.laws.proofs.questions.BlockSplits as BlockSplits
+use Rattle.laws.proofs.questions.BlockSplits.{movedStarts}
+use Rattle.laws.proofs.questions.BlockReturns as BlockReturns
+use Rattle.laws.proofs.questions.BlockReturns.{BlockCall, roomFrom, Returned, Splits}
 use Rattle.laws.proofs.tables.Starred as Starred
 use Rattle.laws.proofs.tables.Controls as Controls
 use Rattle.laws.proofs.tables.Controls.{Program, Telling, WritesAt, ShutOut}
@@ -419,3 +436,126 @@ module _ (f : Form) (v out : List ℕ) where
 -- a space, CR LF, nothing, or an LF elsewhere)
 pub between-white : White between
 between-white = WriterText.between-white
+
+-- DOCUMENT 02, T-03
+-- "four per item": the items' answers, one for each, in a call that is answered (`Admitted`), and then the slice as lent
+pub block-told : (items S answers out : List ℕ) → Admitted items answers out
+    → blockCall items S answers out .answers ≡ numbersOf (blockAt S 0 out (itemsOf items) .fours) ++ drop (length items) answers
+block-told = BlockCalls.call-answers
+
+pub block-count : (S : List ℕ) (used : ℕ) (room : List ℕ) (is : List Item) → length (blockAt S used room is .fours) ≡ length is
+block-count = BlockLaws.block-count
+
+-- "a lent run of 32-bit numbers": 32 bits hold all that is told; what is written of a text is shorter than it by two bytes at least
+pub block-fits : (items S answers out : List ℕ) → AllFit items → AllFit answers → AllFit (blockCall items S answers out .answers)
+block-fits = Fits.call-fits
+
+pub read-length : (σ : Settings) (t v : List ℕ) → read σ t ≡ written v → length v + 2 ≤ length t
+read-length = Short.read-length
+
+-- "Each item gets the answer of a single call with the room still left": the answer behind those of the items `is`, in the buffer's tail as lent, behind
+-- `taken` bytes, as many as are told as written
+module _ (S : List ℕ) (used : ℕ) (room : List ℕ) (is : List Item) (i : Item) (js : List Item) where
+  pub block-item : (f : Four) → getD (blockAt S used room (is ++ (i ∷ js)) .fours) (length is) f ≡ askedBehind S used room is i .told
+  block-item = BlockLaws.block-four S used room is i js
+
+  -- what is written for it is not touched by a later one
+  pub block-bytes : part (taken S room is) (taken S room is + askedBehind S used room is i .took) (blockAt S used room (is ++ (i ∷ js)) .buffer)
+      ≡ take (askedBehind S used room is i .took) (askedBehind S used room is i .room)
+  block-bytes = BlockLaws.block-bytes S used room is i js
+
+  -- "a refused item takes no room and stops nothing": without it the buffer is the same, and the answers are the others'
+  pub block-out-buffer : askedBehind S used room is i .took ≡ 0
+      → blockAt S used room (is ++ (i ∷ js)) .buffer ≡ blockAt S used room (is ++ js) .buffer
+  block-out-buffer = BlockLaws.block-out-buffer S used room is i js
+
+  pub block-out-fours : askedBehind S used room is i .took ≡ 0
+      → blockAt S used room (is ++ (i ∷ js)) .fours
+      ≡ take (length is) (blockAt S used room (is ++ js) .fours)
+      ++ (askedBehind S used room is i .told ∷ drop (length is) (blockAt S used room (is ++ js) .fours))
+  block-out-fours = BlockLaws.block-out-fours S used room is i js
+
+module _ (S : List ℕ) (used : ℕ) (room : List ℕ) where
+  pub block-room : (is : List Item) → taken S room is ≡ lengthsWritten (blockAt S used room is .fours)
+  block-room = BlockLaws.block-room S used room
+
+  pub block-append : (is js : List Item) → blockAt S used room (is ++ js)
+      ≡ blocksJoined (taken S room is) (blockAt S used room is) (blockAt S (used + taken S room is) (drop (taken S room is) room) js)
+  block-append = BlockLaws.block-append S used room
+
+  -- the buffer at the end: what is written, one after the other, and the rest as lent
+  pub block-buffer : (is : List Item) → blockAt S used room is .buffer ≡ flatten (writtenBy S room is) ++ drop (taken S room is) room
+  block-buffer = BlockLaws.block-buffer S used room
+
+  pub item-known : (i : Item) → isKnown (i .kind) 0 (i .setting) ≡ true → itemAsked S used room i ≡ askedAs used (itemQuestion S room i)
+  item-known = Items.item-known S used room
+
+  pub item-refused-took : (i : Item) → (itemAsked S used room i .told .number ≡ 0 → ⊥) → itemAsked S used room i .took ≡ 0
+  item-refused-took = Items.item-refused-took S used room
+
+  -- "10 for an unknown kind code or a setting other than 0 or 1, ahead of 1"
+  pub item-unknown : (i : Item) → isKnown (i .kind) 0 (i .setting) ≡ false
+      → itemAsked S used room i ≡ record { told = four 10 0 0 0; took = 0; room = room }
+  item-unknown = Items.item-unknown S used room
+
+-- a call of one item is the single question
+pub block-one : (k g s e : ℕ) (S answers out : List ℕ) → isKnown k 0 g ≡ true → 4 ≤ length answers → length out ≤ 4294967295
+    → blockCall (k ∷ (g ∷ (s ∷ (e ∷ [])))) S answers out
+    ≡ record {
+      number = 0;
+      answers = numbersOf (fourOf 0 (stringQuestion (literalOf k 0 s e) S (settingsOf g) out .answer) ∷ []) ++ drop 4 answers;
+      buffer = stringQuestion (literalOf k 0 s e) S (settingsOf g) out .buffer;
+    }
+block-one = BlockCalls.call-one
+
+-- the same of what calls return: an item's single call, in the room behind the bytes that are told as written before it, tells, writes and shows the same.
+-- "A borrowed start is in the source, a written one in the buffer": `fourShown`
+module _ (a : List ℕ) (k g s e : ℕ) (b S : List ℕ) (f : length a % 4 ≡ 0) (c : BlockCall (a ++ (k ∷ (g ∷ (s ∷ (e ∷ b))))) S) (z : c .result ≡ 0) where
+  pub block-calls : isKnown k 0 g ≡ true → (r : Text) (d : List ℕ)
+      → Meets (stringQuestion (literalOf k 0 s e) S (settingsOf g) (drop (roomFrom c (length a)) (c .lent))) r d → Returned c (length a) r d
+  block-calls = BlockReturns.block-calls a k g s e b S f c z
+
+  pub block-calls-unknown : isKnown k 0 g ≡ false → take 4 (drop (length a) (c .told)) ≡ 10 ∷ 0 ∷ 0 ∷ 0 ∷ []
+  block-calls-unknown = BlockReturns.block-calls-unknown a k g s e b S f c z
+
+-- two calls, the second on what the first left of both slices, are the one call; of calls, too
+pub block-split : (a b S answers out : List ℕ) → Admitted (a ++ b) answers out → length a % 4 ≡ 0
+    → blockCall (a ++ b) S answers out
+    ≡ record {
+      number = 0;
+      answers =
+          take (length a) (blockCall a S answers out .answers)
+          ++ (movedStarts (taken S out (itemsOf a))
+          (take (length b) (blockCall b S (drop (length a) answers) (drop (taken S out (itemsOf a)) out) .answers))
+          ++ drop (length b) (blockCall b S (drop (length a) answers) (drop (taken S out (itemsOf a)) out) .answers));
+      buffer =
+          take (taken S out (itemsOf a)) (blockCall a S answers out .buffer)
+          ++ blockCall b S (drop (length a) answers) (drop (taken S out (itemsOf a)) out) .buffer;
+    }
+block-split = BlockSplits.block-split
+
+pub both-answered : (a b S answers out d : List ℕ) → blockCall a S answers out .number ≡ 0 → blockCall b S (drop (length a) answers) d .number ≡ 0
+    → blockCall (a ++ b) S answers out .number ≡ 0
+both-answered = BlockSplits.both-answered
+
+pub split-calls : (a b S : List ℕ) → length a % 4 ≡ 0 → (w : BlockCall (a ++ b) S) → w .result ≡ 0 → (x : BlockCall a S) (y : BlockCall b S)
+    → x .answers ≡ w .answers → x .lent ≡ w .lent → y .answers ≡ drop (length a) (x .told)
+    → y .lent ≡ drop (roomFrom x (length a)) (x .after) → Splits a b S w x y
+split-calls = BlockReturns.split-calls
+
+-- "15 first, for the whole call with nothing written, if the input isn't in fours, the answer slice is shorter, or the output buffer is longer than
+-- 4,294,967,295 bytes": exactly then, and else 0
+pub block-number : (items S answers out : List ℕ) → ZeroOr15 (Admitted items answers out) (blockCall items S answers out .number)
+block-number = BlockCalls.block-number
+
+pub block-refused : (items answers out S : List ℕ) → badBlock items answers out ≡ true
+    → blockCall items S answers out ≡ record { number = 15; answers = answers; buffer = out }
+block-refused = BlockCalls.call-bad
+
+-- "Past the items the answer slice is unchanged", and so is the buffer past the bytes that are taken; neither is longer or shorter
+pub block-leaves : (items S answers out : List ℕ) → BlockLeaves items S answers out (blockCall items S answers out)
+block-leaves = BlockCalls.block-leaves
+
+-- two results that its contract permits are equal
+pub blocks-unique : (o : BlockOutcome) (r r′ : ℕ) (a a′ d d′ : List ℕ) → Blocks o r a d → Blocks o r′ a′ d′ → SameBlock r r′ a a′ d d′
+blocks-unique = Determined.blocks-unique

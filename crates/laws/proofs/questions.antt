@@ -8,6 +8,12 @@ pub mod Sources
 pub mod Agreements
 pub mod Buffers
 pub mod Ranges
+pub mod Items
+pub mod Blocks
+pub mod BlockCalls
+pub mod Fits
+pub mod BlockSplits
+pub mod BlockReturns
 pub mod AgreedParts
 pub mod Unreached
 pub mod Answered

@@ -2,4 +2,6 @@
 pub mod Controls
 pub mod ControlsOfAll
 pub mod Witnesses
+pub mod BlockWitnesses
+pub mod BlockControls
 pub mod Starred

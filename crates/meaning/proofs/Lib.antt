@@ -7,6 +7,8 @@ pub mod Oracle5
 pub mod Clarified
 pub mod FormRows
 pub mod PartRows
+pub mod BlockRows
 pub mod Tables
+pub mod BlockLimits
 pub mod Further
 pub mod Unseen

@@ -2,7 +2,7 @@
 -- computation, `T (all rows)`. Assumes nothing.
 use mathlib.Core.Bool.{Bool, true, false, _&&_, not}
 use mathlib.Core.List.{List, [], _∷_, _++_}
-use Prim.Native.Nat.{ℕ, suc, _+_, _-_}
+use Prim.Native.Nat.{ℕ, zero, suc, _+_, _-_}
 use Prim.Native.String.{String}
 use lib.Dec.{eqb}
 use lib.ListN.{length, replicate}
@@ -33,7 +33,9 @@ use Rattle.meaning.specs.Questions.{stringQuestion, plainQuestion, decim
 use Rattle.meaning.specs.Questions.{charsetQuestion, i64Question, boolQuestion, nullQuestion, identifierQuestion}
 use Rattle.meaning.specs.Writer.{writeQuestion}
 use Rattle.meaning.specs.Forms.{formQuestion}
-use Rattle.meaning.specs.Records.{kindOf, output}
+use Rattle.meaning.specs.Codes.{kindOf}
+use Rattle.meaning.specs.Records.{output}
+use Rattle.meaning.specs.Blocks.{BlockOutcome, blockCall}
 
 -- Texts stand in quotes, one character for each byte: `ascii` turns a character into the byte of its code, also from 80 to FF
 
@@ -194,10 +196,29 @@ abbrev pub wroteSeen : Outcome Writing → Seen
 wroteSeen o =
     record { values = writingNumber (o .answer) ∷ writingValues (o .answer); bytes = wroteShown (o .buffer) (o .answer); buffer = o .buffer }
 
+-- A BLOCK'S CALL: four numbers for each item, and the bytes that are written, from the buffer's start on; or 15
+pub data Called : Type 0 where
+  tells : List ℕ → String → Called
+  declines : Called
+
+-- answer slices are lent full of other numbers, at each place another: so many, from a place on
+abbrev pub others : ℕ → ℕ → List ℕ
+others at zero = []
+others at (suc n) = (0xA5A5A5A5 + at) ∷ others (suc at) n
+
+-- what the call must return and leave: of an answer slice of n numbers and a buffer of m bytes, all of both
+abbrev pub callDue : ℕ → ℕ → Called → BlockOutcome
+callDue n m (tells fs t) =
+    record { number = 0; answers = fs ++ others (length fs) (n - length fs); buffer = ascii t ++ fill (m - length (ascii t)) }
+callDue n m declines = record { number = 15; answers = others 0 n; buffer = fill m }
+
+abbrev pub sameCall : BlockOutcome → BlockOutcome → Bool
+sameCall a b = eqb (a .number) (b .number) && same (a .answers) (b .answers) && same (a .buffer) (b .buffer)
+
 -- THE ROWS. A literal by its kind's code, the bytes of the source before it, its text, and the bytes behind it; a literal by a span
 -- of a source; one without a source; a helper; an identifier; a radix prefix; a value that the writer is given, with a setting, a part
 -- size and a buffer's length; one that it is given with a form, and a buffer's length; what the record program is given, with zero
--- bytes between a head and a tail, and the lines it prints
+-- bytes between a head and a tail, and the lines it prints; a block's items and source, and the lengths of the answer slice and the buffer
 pub data Row : Type 0 where
   asks : Question → ℕ → String → String → String → Told → Row
   spans : Question → ℕ → ℕ → ℕ → String → Told → Row
@@ -208,6 +229,7 @@ pub data Row : Type 0 where
   spells : Bool → PartSize → String → ℕ → Wrote → Row
   forms : Form → String → ℕ → Wrote → Row
   prints : String → ℕ → String → String → Row
+  block : List ℕ → String → ℕ → ℕ → Called → Row
 
 abbrev pub sameSeen : Seen → Seen → Bool
 sameSeen a b = same (a .values) (b .values) && same (a .bytes) (b .bytes) && same (a .buffer) (b .buffer)
@@ -236,6 +258,7 @@ right (prefixed t β n) = samePrefix (radixPrefix (ascii t)) β n
 right (spells b size v n w) = sameSeen (wroteSeen (writeQuestion (record { backslash = b }) size (ascii v) (fill n))) (wroteDue n w)
 right (forms f v n w) = sameSeen (wroteSeen (formQuestion f (ascii v) (fill n))) (wroteDue n w)
 right (prints head n tail lines) = same (output (ascii head ++ (replicate n 0 ++ ascii tail))) (ascii lines)
+right (block is t n m w) = sameCall (blockCall is (ascii t) (others 0 n) (fill m)) (callDue n m w)
 
 abbrev pub all : List Row → Bool
 all [] = true

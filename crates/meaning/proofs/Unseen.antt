@@ -43,7 +43,8 @@ use Rattle.meaning.specs.Answers.{kindCode, payload, fieldCode, refusalN
 use Rattle.meaning.specs.Answers.{integerValues, truthNumber, truthValues, nullnessNumber, nullnessValues, partShown, shown, rangeShown, charsetShown}
 use Rattle.meaning.specs.Answers.{shownPlace, rangePlace, charsetPlace}
 use Rattle.meaning.specs.Reads.{readPlace}
-use Rattle.meaning.specs.Records.{kindOf}
+use Rattle.meaning.specs.Codes.{kindOf}
+use Rattle.meaning.specs.Blocks.{numbersOf, refusedFour}
 use Rattle.meaning.proofs.Rows.{equal, signAndSize}
 
 pub data Fact : Type 0 where
@@ -152,7 +153,7 @@ fields =
     Field.Millennium ∷ Field.Millisecond ∷ Field.Microsecond ∷ Field.DayToMicrosecond ∷ Field.HourToMicrosecond ∷ Field.MinuteToMicrosecond ∷
     Field.SecondToMicrosecond ∷ []
 
--- [01 Numbers an answer can carry] a span, and a refusal of each number
+-- [01 Numbers an answer can carry; 02 T-03] a span, and a refusal of each number
 abbrev pub here : Span
 here = record { start = 7; end = 5 }
 
@@ -167,6 +168,9 @@ numbers =
     gives (map refusalNumber refusals) (1 ∷ 2 ∷ 3 ∷ 4 ∷ 5 ∷ 6 ∷ 7 ∷ 8 ∷ 9 ∷ []) ∷
     gives (refusalValues (WrongKind Expected.Money (Kind.Time Zone.WithTimeZone))) (8 ∷ 9 ∷ 1 ∷ []) ∷ gives (refusalValues (MissingSource here)) (7 ∷ 5 ∷ []) ∷
     gives (refusalValues (NoRoom 3)) (3 ∷ []) ∷
+    gives
+    (numbersOf (map refusedFour refusals))
+    (1 ∷ 0 ∷ 0 ∷ 0 ∷ 2 ∷ 0 ∷ 0 ∷ 0 ∷ 3 ∷ 0 ∷ 0 ∷ 0 ∷ 4 ∷ 0 ∷ 0 ∷ 0 ∷ 5 ∷ 0 ∷ 0 ∷ 0 ∷ 6 ∷ 0 ∷ 0 ∷ 0 ∷ 7 ∷ 0 ∷ 0 ∷ 0 ∷ 8 ∷ 0 ∷ 0 ∷ 0 ∷ 9 ∷ 0 ∷ 0 ∷ 3 ∷ []) ∷
     gives (map (λ r. textNumber (Text′.Refused r)) refusals) (map refusalNumber refusals) ∷
     gives (map (λ r. rangeNumber (Range′.Refused r)) refusals) (map refusalNumber refusals) ∷
     gives (map (λ r. charsetNumber (Charset′.Refused r)) refusals) (map refusalNumber refusals) ∷

@@ -15,4 +15,6 @@ pub mod Reads
 pub mod Questions
 pub mod Writer
 pub mod Forms
+pub mod Codes
 pub mod Records
+pub mod Blocks

@@ -1,17 +1,11 @@
 -- [01 Record program litrec] A record's line, and all that the program prints. Assumes nothing.
 use mathlib.Core.Bool.{Bool, true, false, _&&_}
 use mathlib.Core.List.{List, [], _∷_, _++_}
-use Prim.Native.Nat.{ℕ, zero, suc, _+_, _-_, _/_, _%_}
+use Prim.Native.Nat.{ℕ, _+_, _/_, _%_}
 use Prim.Native.Char.{code}
 use lib.Dec.{eqb, leb, ltb}
 use lib.ListN.{length, drop, replicate}
 use Rattle.meaning.specs.declared.Settings.{Settings}
-use Rattle.meaning.specs.declared.TimeZone.the-variants as Zone
-use Rattle.meaning.specs.declared.Fields.the-variants as Fields′
-use Rattle.meaning.specs.declared.Precision.the-variants as Precision′
-use Rattle.meaning.specs.declared.BitStringRadix.the-variants.{Binary, Hex}
-use Rattle.meaning.specs.declared.LiteralKind.{LiteralKind}
-use Rattle.meaning.specs.declared.LiteralKind.the-variants as Kind
 use Rattle.meaning.specs.declared.Literal.{Literal}
 use Rattle.meaning.specs.declared.Text.{Text}
 use Rattle.meaning.specs.declared.Text.the-variants as Text′
@@ -26,21 +20,7 @@ use Rattle.meaning.specs.Walk.{Step, give, walk, value}
 use Rattle.meaning.specs.Numbers.{digitsOf, printed}
 use Rattle.meaning.specs.Answers.{Outcome, refusalNumber, shown, rangeShown, charsetShown}
 use Rattle.meaning.specs.Questions.{stringQuestion, i64Question, decimalQuestion, bitsQuestion, moneyQuestion, temporalQuestion, charsetQuestion}
-
--- KINDS by code, time zones unspecified, interval data absent; codes outside 1 to 14 are no kind, and no question is asked of what the list gives there
-abbrev pub kindBy : List LiteralKind → ℕ → LiteralKind
-kindBy [] c = Kind.Null
-kindBy (k ∷ ks) zero = k
-kindBy (k ∷ ks) (suc c) = kindBy ks c
-
-abbrev pub kinds : List LiteralKind
-kinds =
-    Kind.Integer ∷ Kind.Float ∷ Kind.Decimal ∷ Kind.String ∷ Kind.Boolean true ∷ Kind.Boolean false ∷ Kind.Null ∷ Kind.Date ∷
-    Kind.Time Zone.Unspecified ∷ Kind.Timestamp Zone.Unspecified ∷ Kind.Interval Fields′.Absent Precision′.Absent ∷
-    Kind.BitString Binary ∷ Kind.BitString Hex ∷ Kind.Money ∷ []
-
-abbrev pub kindOf : ℕ → LiteralKind
-kindOf c = kindBy kinds (c - 1)
+use Rattle.meaning.specs.Codes.{kindOf, settingsOf}
 
 -- THE LINE: "number; b, w, i, n or -; length ..; upper-case hex of the text, - if empty or none"
 abbrev pub hexDigit : ℕ → ℕ
@@ -115,7 +95,7 @@ textIn r = part 4 (4 + (r ! 3)) r
 
 unfoldable pub recordLine : List ℕ → List ℕ
 recordLine r =
-    if goodRecord r then asked (r ! 0) (wholeLiteral (r ! 1) (textIn r)) (record { backslash = eqb (r ! 2) 1 }) (textIn r) else refusedLine 10
+    if goodRecord r then asked (r ! 0) (wholeLiteral (r ! 1) (textIn r)) (settingsOf (r ! 2)) (textIn r) else refusedLine 10
 
 -- THE PROGRAM: a line for each 64 bytes, and one for a short last record; nothing for no input
 abbrev pub recordStep : List ℕ → Step

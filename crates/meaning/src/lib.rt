@@ -192,3 +192,20 @@ pub struct RadixPrefix {
     pub base: u32,
     pub start: usize,
 }
+
+// [02 T-03] One item of a block: a string literal that stands in the source, and its setting, by their numbers.
+pub struct Item {
+    pub kind: u32,
+    pub setting: u32,
+    pub start: u32,
+    pub end: u32,
+}
+
+// What is told of an item: 0 or the refusal's number; how its text is answered (0 not, 1 borrowed, 2 written); where the text begins, in the source or in the
+// buffer; and how long it is.
+pub struct Four {
+    pub number: u32,
+    pub how: u32,
+    pub start: u32,
+    pub len: u32,
+}

@@ -1,18 +1,22 @@
 -- The questions whose answer is a text: what the code told of the tests and of the reading is the definition's outcome, and no sum wraps. Assumes nothing.
-use mathlib.Core.Path.{_≡_, refl, sym, subst}
-use mathlib.Core.Bool.{Bool, _&&_}
+use mathlib.Core.Path.{_≡_, refl, sym, ap, subst}
+use mathlib.Core.Bool.{Bool, true, _&&_}
 use mathlib.Core.List.{List}
-use Prim.Native.Nat.{ℕ, _≤_, _<_, _^_}
+use Prim.Native.Nat.{ℕ, _+_, _-_, _≤_, _<_, _^_}
+use native.Mathlib.Omega.{arith}
 use lib.Dec.{eqb, leb, ltb}
-use lib.ListN.{length}
+use lib.ListN.{length, drop, length-drop, length-take}
+use mir.Syntax.{w64}
+use mir.Val.{Fits}
 use Rattle.meaning.specs.declared.Settings.{Settings}
 use Rattle.meaning.specs.declared.Literal.{Literal}
 use Rattle.meaning.specs.declared.LiteralExpected.the-variants as Expected
 use Rattle.meaning.specs.declared.Read.{Read}
+use Rattle.meaning.specs.declared.Read.the-variants as Read′
 use Rattle.meaning.specs.declared.Refusal.{Refusal}
 use Rattle.meaning.specs.declared.Refusal.the-variants.{NotUtf8, InvalidInteger, InvalidString, InvalidBitString}
 use Rattle.meaning.specs.declared.Text.{Text}
-use Rattle.meaning.specs.declared.Text.the-variants.{Refused}
+use Rattle.meaning.specs.declared.Text.the-variants.{Borrowed, Refused}
 use Rattle.meaning.specs.Bytes.{part}
 use Rattle.meaning.specs.Chars.{utf8}
 use Rattle.meaning.specs.Cutting.{off}
@@ -30,7 +34,9 @@ use Rattle.admitting.specs.Tests.{Tests, Locates}
 use Rattle.admitting.proofs.Passing.{passed-too, undecoded-too, range, barred-too}
 use Rattle.strings.specs.declared.reading.Checked.{Checked}
 use Rattle.strings.specs.declared.reading.Checked.the-variants as Checked′
+use Rattle.strings.specs.Plain.{PlainAscii}
 use Rattle.strings.specs.Driving.{ChecksBy, Checks}
+use Rattle.strings.proofs.Fits.{ascii-long, ascii-reads}
 use Rattle.questions.specs.Told.{toldBy, InText, bitBaseBy}
 use Rattle.questions.proofs.Moved.{fits-text, told-meets, told-barred}
 use Rattle.bits.proofs.Inside.{bits-inside}
@@ -123,6 +129,24 @@ module _ {l : Literal} {S : List ℕ} {r : Tested} {code : ℕ} (c : code ≡ ki
 
     pub located-inside : e ≤ length S
     located-inside = range l S r g s e q .3
+
+    -- A PLAIN TEXT IN ASCII is its body
+    module _ (y : Bool) (p : PlainAscii σ (part s e S) y) (z : y ≡ true) where
+      some : s + 1 ≤ e
+      some = omega (arith, ascii-long σ (part s e S) y p z, length-take (e - s) (drop s S), length-drop s S)
+
+      pub plain-start : length S < 2 ^ 64 → Fits w64 (s + 1)
+      plain-start h = record { fits = omega (arith, some, located-inside, h) }
+
+      pub plain-end : 1 ≤ e
+      plain-end = omega (arith, some)
+
+      pub plain-told : Meets (stringQuestion l S σ out) (Borrowed (s + 1) (e - 1)) out
+      plain-told =
+          let n : e - 1 ≡ s + (length (part s e S) - 1) =
+          omega (arith, some, length-take (e - s) (drop s S), length-drop s S, located-inside) in
+          string-told c σ (passed-too l S r g s e q (p .by z .1)) s e refl out out (Read′.Borrowed 1 (length (part s e S) - 1))
+          (ascii-reads σ (part s e S) y p z out) (Borrowed (s + 1) (e - 1)) (ap (Borrowed (s + 1)) n)
 
   pub located-barred : (out : List ℕ) (w : Refusal) → r ≡ Barred w → Meets (stringQuestion l S σ out) (Refused w) out
   located-barred out w q = string-barred c σ (barred-too l S r g w q) out w refl

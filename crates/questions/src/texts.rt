@@ -12,6 +12,7 @@ use meaning::Read;
 use meaning::Refusal;
 use meaning::Settings;
 use meaning::Text;
+use strings::plain::is_plain_ascii;
 use strings::reading::Checked;
 use strings::reading::read_string;
 ghost use mathlib.Core.Path.{_≡_};
@@ -45,7 +46,14 @@ pub fn as_str_in(literal: Literal, source: &[u8], settings: Settings, out: &mut 
     let right = kind_code(kind) == 4;
     match locate(right, LiteralExpected::String, literal, source) {
         Tested::Passes { start, end } => {
-            match read_string(&source[start..end], settings, out) {
+            let text = &source[start..end];
+            if is_plain_ascii(text, settings) {
+                return Text::Borrowed {
+                    start: start + 1,
+                    end: end - 1,
+                };
+            }
+            match read_string(text, settings, out) {
                 Checked::Text(read) => text_of(read, start, Refusal::InvalidString(span)),
                 Checked::NotUtf8 => Text::Refused(Refusal::NotUtf8(span)),
             }

@@ -2,6 +2,8 @@
 // written; 4 with one a byte shorter.
 use crate::asked::ask;
 use crate::asked::lends;
+use crate::calls::ask_block;
+use crate::rows::BLOCK;
 use crate::rows::PADDED;
 use crate::rows::QUESTION;
 use crate::rows::ROOM;
@@ -15,6 +17,9 @@ use crate::said::say;
 use crate::said::say_bytes;
 use crate::said::say_difference;
 use crate::said::say_number;
+use crate::seen::FILL;
+use crate::seen::Seen;
+use crate::seen::is_kept;
 use crate::told::Told;
 use crate::told::filled_by;
 use crate::told::is_same;
@@ -23,7 +28,6 @@ use crate::told::refused;
 use crate::told::text_of;
 use check::same;
 use leaves::bytes::byte_at;
-use leaves::views::part_of;
 use questions::shown::text_shown;
 
 // How many rows and askings a stratum has had, and how many askings differ; whether the block at hand is the last.
@@ -33,16 +37,6 @@ pub(crate) struct Tally {
     pub different: u64,
     pub last: bool,
 }
-
-// An answer; whether the bytes that it shows are the value, and the other bytes of the buffer as they were.
-struct Seen {
-    pub told: Told,
-    pub shown: bool,
-    pub kept: bool,
-}
-
-// What the buffer is full of before it is lent.
-const FILL: u8 = 0xA5;
 
 pub(crate) fn none() -> Tally {
     Tally {
@@ -70,12 +64,6 @@ fn ask_within(row: &[u8], by: u8, source: &[u8], room: usize, out: &mut [u8]) ->
     ask(row, by, source, &mut out[0..room])
 }
 
-// Whether every byte from a place on is as it was.
-fn is_kept(out: &[u8], from: usize) -> bool {
-    let full = [FILL; 256];
-    same(part_of(out, from, 256), part_of(&full, from, 256))
-}
-
 // Asks; then looks at the bytes shown and at the whole of the buffer, not only at the part that was lent.
 fn asked(row: &[u8], by: u8, source: &[u8], value: &[u8], room: usize) -> Seen {
     let mut out = [FILL; 256];
@@ -100,10 +88,17 @@ fn after_asking(row: &[u8], number: u64, seen: Seen, due: Told, tally: Tally) ->
     more(tally, 0, 1, 1)
 }
 
-fn alone(row: &[u8], tally: Tally) -> Tally {
+// A block of literals is one call, any other row one question.
+fn ask_alone(row: &[u8]) -> Seen {
+    if byte_at(row, QUESTION) == BLOCK {
+        return ask_block(row);
+    }
     let room = byte_at(row, ROOM) as usize;
-    let seen = asked(row, 0, source_of(row), value_of(row), room);
-    after_asking(row, 1, seen, due_in(row), tally)
+    asked(row, 0, source_of(row), value_of(row), room)
+}
+
+fn alone(row: &[u8], tally: Tally) -> Tally {
+    after_asking(row, 1, ask_alone(row), due_in(row), tally)
 }
 
 // Bare text and some wrong spans have no padding. Places move with it.

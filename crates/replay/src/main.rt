@@ -3,8 +3,10 @@
 // differ, and before that the first that does.
 mod asked;
 mod askings;
+mod calls;
 mod rows;
 mod said;
+mod seen;
 mod told;
 
 use askings::Tally;

@@ -20,6 +20,9 @@ pub(crate) const PADDED: usize = 13;
 
 pub(crate) const ROOM: usize = 14;
 
+// The question of a row that is a block of literals in one call.
+pub(crate) const BLOCK: u8 = 21;
+
 // Numbers of two, four and eight bytes, the lowest first.
 fn two(bytes: &[u8]) -> u16 {
     (byte_at(bytes, 0) as u16) | ((byte_at(bytes, 1) as u16) << 8)
@@ -56,6 +59,40 @@ pub(crate) fn value_of(row: &[u8]) -> &[u8] {
 
 pub(crate) fn name_of(row: &[u8]) -> &[u8] {
     part_of(row, two(part_of(row, 24, 26)) as usize, row.len())
+}
+
+// Of a block, where the value stands in other rows: the items, the answer slice as it is lent and as it is due, by numbers of four bytes, and the bytes written.
+pub(crate) fn items_of(row: &[u8]) -> &[u8] {
+    let from = two(part_of(row, 22, 24)) as usize;
+    let until = two(part_of(row, 4, 6)) as usize;
+    part_of(row, from, until)
+}
+
+pub(crate) fn lent_of(row: &[u8]) -> &[u8] {
+    let from = two(part_of(row, 4, 6)) as usize;
+    let until = two(part_of(row, 6, 8)) as usize;
+    part_of(row, from, until)
+}
+
+pub(crate) fn slice_due(row: &[u8]) -> &[u8] {
+    let from = two(part_of(row, 6, 8)) as usize;
+    let until = two(part_of(row, 8, 10)) as usize;
+    part_of(row, from, until)
+}
+
+pub(crate) fn written_of(row: &[u8]) -> &[u8] {
+    let from = two(part_of(row, 8, 10)) as usize;
+    let until = two(part_of(row, 24, 26)) as usize;
+    part_of(row, from, until)
+}
+
+// Numbers of four bytes, 0 past the last.
+pub(crate) fn numbers_in(bytes: &[u8]) -> [u32; 128] {
+    let mut numbers = [0; 128];
+    for i in 0..128 {
+        numbers[i] = four(part_of(bytes, 4 * i, 4 * i + 4));
+    }
+    numbers
 }
 
 fn temporal_kind(code: u8) -> LiteralKind {

@@ -20,7 +20,7 @@ pub(crate) struct Told {
     pub second: usize,
 }
 
-// The letters: b borrowed, w written, i an integer, n no name, y a yes or no, p a prefix, r refused.
+// The letters: b borrowed, w written, i an integer, n no name, y a yes or no, p a prefix, r refused, c a call on a block.
 const BORROWED: u8 = 98;
 
 const WRITTEN: u8 = 119;
@@ -34,6 +34,8 @@ pub(crate) const TRUTH: u8 = 121;
 pub(crate) const PREFIX: u8 = 112;
 
 const REFUSED: u8 = 114;
+
+const CALLED: u8 = 99;
 
 pub(crate) fn answered(letter: u8, first: usize, second: usize) -> Told {
     Told {
@@ -50,6 +52,16 @@ pub(crate) fn refused(number: u32, first: usize, second: usize) -> Told {
         letter: REFUSED,
         first,
         second,
+    }
+}
+
+// A call's number, a place of its answer slice, and the number there.
+pub(crate) fn called(number: u32, place: usize, found: u32) -> Told {
+    Told {
+        number,
+        letter: CALLED,
+        first: place,
+        second: found as usize,
     }
 }
 

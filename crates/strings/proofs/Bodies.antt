@@ -18,7 +18,7 @@ use Rattle.meaning.specs.Reading.{Answer, borrowed, written, refused, answer, r
 use Rattle.meaning.specs.Reads.{readOf, bufferOf, Reads}
 use Rattle.meaning.specs.Helpers.{ifUnicode, ident}
 use Rattle.laws.proofs.questions.Owed.{reads-refused, reads-borrowed}
-use Rattle.laws.proofs.questions.Ranges.{Bounds, BodyIn, spelling-body, unicode-body}
+use Rattle.laws.proofs.questions.Ranges.{Bounds, between-range, BodyIn, spelling-body, unicode-body}
 use Rattle.laws.proofs.walking.Short.{course-size}
 use Rattle.cutting.specs.declared.marks.Mark.{Mark}
 use Rattle.cutting.specs.Marks.{markOf}
@@ -109,9 +109,9 @@ inside-by t b s e i k =
   where
     go : (f : Family) → BodyIn (length t) (spellingBy (escapeOf t (b .«escape_from») (b .«escape_until»)) f (b .from) (b .until))
         → Bounds (length t) (b .from) (b .until)
-    go (Standard m bs) k = k
-    go Escape k = k
-    go (Unicode m) k = k
+    go (Standard m bs) k = between-range k
+    go Escape k = between-range k
+    go (Unicode m) k = between-range k
 
 -- A TEXT READ AS ONE
 pub alone-nul : (σ : Settings) (t out : List ℕ) (x : Bool) → x ≡ has 0 t → x ≡ true → Reads (one σ t) out (Read′.Refused 0) out

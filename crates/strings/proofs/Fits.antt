@@ -24,13 +24,10 @@ use Rattle.strings.specs.declared.reading.Checked.the-variants as Checke
 use Rattle.strings.specs.Plain.{isPlain, PlainAscii}
 use Rattle.strings.specs.Driving.{FitBy, FitsAs, QuickReads, Checks}
 use Rattle.strings.proofs.Plains.{plain-long, plain-borrowed}
-use Rattle.strings.proofs.QuickAnswers.{answered-reads, onward-reads}
+use Rattle.strings.proofs.QuickAnswers.{borrowed-reads, written-reads, lacking-reads, onward-reads}
 
 module _ (σ : Settings) (t : List ℕ) where
   -- WHAT THE SCANS TELL
-  pub fit-ascii : (x : Bool) → PlainAscii σ t x → x ≡ true → FitsAs σ t Fit′.Plain
-  fit-ascii x p e = record { by = p .by e }
-
   pub fit-run : (a b : ℕ) (x : Bool) → x ≡ passes (plainOf a b) (length t) t → x ≡ true → FitsAs σ t Fit′.Clean
   fit-run a b x e h = record { by = run-clean a b t x e h }
 
@@ -68,8 +65,14 @@ module _ (σ : Settings) (t : List ℕ) where
       clean = subst (FitBy σ t) e (k .by)
 
       module _ (out : List ℕ) (q : Quick) (after : List ℕ) (x : QuickReads (read σ t) out q after) where
-        pub answered-checks : (r : Read) → q ≡ Quick′.Answer r → Checks (utf8 t) (read σ t) out (Checked′.Text r) after
-        answered-checks r z = record { by = (clean .1, answered-reads (read σ t) out q after x r z) }
+        pub borrowed-checks : (b u : ℕ) → q ≡ Quick′.Borrowed b u → Checks (utf8 t) (read σ t) out (Checked′.Text (Read′.Borrowed b u)) after
+        borrowed-checks b u z = record { by = (clean .1, borrowed-reads (read σ t) out q after x b u z) }
+
+        pub written-checks : (n : ℕ) → q ≡ Quick′.Written n → Checks (utf8 t) (read σ t) out (Checked′.Text (Read′.Written n)) after
+        written-checks n z = record { by = (clean .1, written-reads (read σ t) out q after x n z) }
+
+        pub lacking-checks : (n : ℕ) → q ≡ Quick′.NoRoom n → Checks (utf8 t) (read σ t) out (Checked′.Text (Read′.NoRoom n)) after
+        lacking-checks n z = record { by = (clean .1, lacking-reads (read σ t) out q after x n z) }
 
         pub onward-checks : q ≡ Quick′.Unread → (r : Read) (last : List ℕ) → Reads (read σ t) after r last → Checks (utf8 t) (read σ t) out (Checked′.Text r) last
         onward-checks z r last w = record { by = (clean .1, onward-reads (read σ t) out q after x z r last w) }
@@ -81,3 +84,14 @@ module _ (σ : Settings) (t : List ℕ) where
 
     pub other-checks : not x ≡ false → (r : Read) (last : List ℕ) → Reads (read σ t) out r last → Checks (utf8 t) (read σ t) out (Checked′.Text r) last
     other-checks y r last w = record { by = (sym e ∙ not-false x y, w) }
+
+  -- A PLAIN TEXT IN ASCII, told by its scan
+  module _ (x : Bool) (p : PlainAscii σ t x) (e : x ≡ true) where
+    pub ascii-long : 1 ≤ length t
+    ascii-long = plain-long σ t true (sym (p .by e .0)) refl
+
+    pub ascii-reads : (out : List ℕ) → Reads (read σ t) out (Read′.Borrowed 1 (length t - 1)) out
+    ascii-reads out = plain-borrowed σ t true (sym (p .by e .0)) refl out
+
+    pub ascii-checks : (out : List ℕ) → Checks (utf8 t) (read σ t) out (Checked′.Text (Read′.Borrowed 1 (length t - 1))) out
+    ascii-checks out = record { by = (p .by e .1, ascii-reads out) }

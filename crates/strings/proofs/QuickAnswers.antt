@@ -73,19 +73,19 @@ module _ (σ : Settings) (t d : List ℕ) (q : Segment) (chunk none : List ℕ) 
   told : (x : Bool) → q .plain ≡ x → read σ t ≡ (if x then borrowed (q .from) (length t - 1) else written (k .w))
   told x p = k .reads ∙ ap (λ (y : Bool). if y then borrowed (q .from) (length t - 1) else written (k .w)) p
 
-  pub quick-borrowed : (out : List ℕ) → q .plain ≡ true → QuickReads (read σ t) out (Quick′.Answer (Read′.Borrowed (q .from) (length t - 1))) out
+  pub quick-borrowed : (out : List ℕ) → q .plain ≡ true → QuickReads (read σ t) out (Quick′.Borrowed (q .from) (length t - 1)) out
   quick-borrowed out p = record { by = reads-borrowed (read σ t) out (q .from) (length t - 1) (told true p) }
 
   module _ (p : q .plain ≡ false) where
     value : read σ t ≡ written (k .w)
     value = told false p
 
-    pub quick-lacks : (out : List ℕ) → length out < q .total + q .n → QuickReads (read σ t) out (Quick′.Answer (Read′.NoRoom (q .total + q .n))) out
+    pub quick-lacks : (out : List ℕ) → length out < q .total + q .n → QuickReads (read σ t) out (Quick′.NoRoom (q .total + q .n)) out
     quick-lacks out h = record { by = reads-short (read σ t) (k .w) out (q .total + q .n) value (count) h }
 
     module _ (out : List ℕ) (h : q .total + q .n ≤ length out) where
       -- the value stands at the buffer's start
-      done : (after : List ℕ) → after ≡ k .w ++ drop (length (k .w)) out → QuickReads (read σ t) out (Quick′.Answer (Read′.Written (q .total + q .n))) after
+      done : (after : List ℕ) → after ≡ k .w ++ drop (length (k .w)) out → QuickReads (read σ t) out (Quick′.Written (q .total + q .n)) after
       done after l = record { by = reads-written (read σ t) (k .w) out after (q .total + q .n) value (count) h l }
 
       holds : (o : List ℕ) → length o ≡ length out → filled (k .w) o ≡ k .w ++ drop (length (k .w)) o
@@ -93,7 +93,7 @@ module _ (σ : Settings) (t d : List ℕ) (q : Segment) (chunk none : List ℕ) 
       holds o e = rw (le-leb (length (k .w)) (length o) (omega (arith, count)))
 
       pub quick-put : q .total ≡ 0 → (i : ℕ) (after : List ℕ) → Puts (take (q .total + q .n) chunk) out i after
-          → QuickReads (read σ t) out (Quick′.Answer (Read′.Written (q .total + q .n))) after
+          → QuickReads (read σ t) out (Quick′.Written (q .total + q .n)) after
       quick-put z i after b =
           let n : q .total + q .n ≡ q .n = omega (arith, z) in
           let w : take (q .total + q .n) chunk ≡ k .w = ap (λ (j : ℕ). take j chunk) n ∙ sym (ap (λ (j : ℕ). drop j (k .w)) (sym z) ∙ k .stored .held) in
@@ -106,7 +106,7 @@ module _ (σ : Settings) (t d : List ℕ) (q : Segment) (chunk none : List ℕ) 
         size : length (take (q .total + q .n) out) ≡ q .total + q .n
         size = length-take-le (q .total + q .n) out h
 
-        pub quick-again : x ≡ true → QuickReads (read σ t) out (Quick′.Answer (Read′.Written (q .total + q .n))) whole
+        pub quick-again : x ≡ true → QuickReads (read σ t) out (Quick′.Written (q .total + q .n)) whole
         quick-again y =
             done whole (ap₂ (λ (x : List ℕ) (j : ℕ). x ++ drop j out) (b .done y (k .w) value (count ∙ sym size)) (sym (count)))
 
@@ -119,10 +119,19 @@ module _ (σ : Settings) (t d : List ℕ) (q : Segment) (chunk none : List ℕ) 
 
 -- WITH AN ANSWER it is the definition's; WITHOUT ONE the reading by units answers for both
 module _ (a : Answer) (out : List ℕ) (q : Quick) (after : List ℕ) (k : QuickReads a out q after) where
-  pub answered-reads : (r : Read) → q ≡ Quick′.Answer r → Reads a out r after
-  answered-reads r e = subst (λ (y : Quick). QuickBy a out y after) e (k .by)
+  by : (y : Quick) → q ≡ y → QuickBy a out y after
+  by y e = subst (λ (z : Quick). QuickBy a out z after) e (k .by)
+
+  pub borrowed-reads : (f u : ℕ) → q ≡ Quick′.Borrowed f u → Reads a out (Read′.Borrowed f u) after
+  borrowed-reads f u e = by (Quick′.Borrowed f u) e
+
+  pub written-reads : (n : ℕ) → q ≡ Quick′.Written n → Reads a out (Read′.Written n) after
+  written-reads n e = by (Quick′.Written n) e
+
+  pub lacking-reads : (n : ℕ) → q ≡ Quick′.NoRoom n → Reads a out (Read′.NoRoom n) after
+  lacking-reads n e = by (Quick′.NoRoom n) e
 
   pub onward-reads : q ≡ Quick′.Unread → (r : Read) (last : List ℕ) → Reads a after r last → Reads a out r last
   onward-reads e r last x =
-      let y = subst (λ (z : Quick). QuickBy a out z after) e (k .by) in
+      let y = by Quick′.Unread e in
       record { answer = x .answer ∙ ap (λ (n : ℕ). readOf n a) (y .0); buffer = x .buffer ∙ y .1 }

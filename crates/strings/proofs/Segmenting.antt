@@ -1,8 +1,8 @@
 -- A segment that is read from a text: by its opening, its family's walk, and the mark that stands alone. Assumes nothing.
 use mathlib.Core.Path.{_≡_, refl, ap, ap₂, sym, _∙_, subst}
-use mathlib.Core.Bool.{Bool, true, false, _||_, not, false≢true}
-use borrow.Author.Tests.{not-false}
-use mathlib.Core.List.{List, _∷_}
+use mathlib.Core.Bool.{Bool, true, false, _&&_, _||_, not, false≢true}
+use borrow.Author.Tests.{eqb-true, not-false}
+use mathlib.Core.List.{List, [], _∷_}
 use Prim.Native.Nat.{ℕ, zero, suc, _+_, _-_, _≤_, _<_}
 use native.Mathlib.Omega.{arith}
 use lib.Dec.{eqb}
@@ -14,11 +14,11 @@ use Rattle.meaning.specs.Chars.{utf8}
 use Rattle.meaning.specs.Steps.{gap, standardStep}
 use Rattle.meaning.specs.Cutting.{opening}
 use Rattle.laws.proofs.basics.Lists.{part-tail}
-use Rattle.laws.proofs.basics.Tests.{or-right}
+use Rattle.laws.proofs.basics.Tests.{and-left, and-right, or-right}
 use Rattle.laws.proofs.basics.Enclosed.{has-append}
 use Rattle.laws.proofs.utf8.Abreast.{Abreast, abreast-body}
 use Rattle.laws.proofs.walking.Fronts.{Front}
-use Rattle.laws.proofs.cutting.Gaps.{gap-fits}
+use Rattle.laws.proofs.cutting.Gaps.{gap-fits, has-all}
 use Rattle.laws.proofs.cutting.Openings.{mark-inside, opening-mark}
 use Rattle.laws.proofs.cutting.Spelled.{mark-escape, mark-unicode}
 use Rattle.laws.proofs.cutting.Fronted.{Lone, Segmented, fronted-standard, fronted-escape, fronted-unicode}
@@ -92,6 +92,25 @@ module _ (σ : Settings) (t : List ℕ) (at n k : ℕ) (v : List ℕ) (p : Bool)
           (subst (λ (x : ℕ). Front (standardStep (σ .backslash) x) (drop (suc n) u) k v p) mark-is f)
 
 -- OPENINGS
+-- E or N, and a quote mark
+abbrev Lettered : ℕ → Type 0
+Lettered b = ((l : List ℕ) → l ! 0 ≡ 39 → opening (b ∷ l) ≡ 2) × (isBits b ≡ false)
+
+lettered : (b : ℕ) → has b (ascii "EeNn") ≡ true → Lettered b
+unfolding isMark
+lettered b = has-all Lettered b (ascii "EeNn") (go, (go, (go, (go, tt))))
+  where
+    go : Lettered 69
+    go = ((λ l q. rw q), refl)
+
+lettered-opening : (l : List ℕ) → has (l ! 0) (ascii "EeNn") ≡ true → l ! 1 ≡ 39 → opening l ≡ 2
+lettered-opening [] h q = absurd (false≢true h)
+lettered-opening (b ∷ l) h q = lettered b h .0 l q
+
+pub opening-some : (at len : ℕ) (bits : Bool) → (eqb len 0 || bits) ≡ false → 1 ≤ at + len
+opening-some at zero bits x = absurd (false≢true (sym x))
+opening-some at (suc n) bits x = omega arith
+
 module _ (σ : Settings) (t : List ℕ) (at : ℕ) where
   pub opens-none : (r : Opened) → r .known ≡ false → Opens σ t at r
   opens-none r e = record { opens = λ h. absurd (false≢true (sym e ∙ h)) }
@@ -122,10 +141,6 @@ module _ (σ : Settings) (t : List ℕ) (at : ℕ) where
       let o : opening (drop at t) ≡ suc n = sym (e ∙ ap opening (part-tail t at)) in
       omega (arith, mark-inside (drop at t) n (opening-mark (drop at t) n o), length-drop at t)
 
-  pub opening-some : (len : ℕ) (bits : Bool) → (eqb len 0 || bits) ≡ false → 1 ≤ at + len
-  opening-some zero bits x = absurd (false≢true (sym x))
-  opening-some (suc n) bits x = omega arith
-
   pub opens-one : (len b c : ℕ) (bits : Bool) (m : Mark) (f : Family) → at ≤ length t → len ≡ opening (take (length t - at) (drop at t)) → b ≡ t ! at
       → bits ≡ isBits b → (eqb len 0 || bits) ≡ false → c ≡ t ! (at + len - 1) → (isMark c ≡ true → markOf m ≡ c) → f ≡ familyBy σ b m
       → Opens σ t at (record { known = true; from = at + len; family = f })
@@ -149,6 +164,17 @@ module _ (σ : Settings) (t : List ℕ) (at : ℕ) where
             family = ef ∙ ap (λ (y : ℕ). familyBy σ y m) eb;
             bits = ap isBits (sym eb) ∙ sym ebits ∙ or-right (eqb (suc n) 0) bits x;
           }
+
+  -- E or N, and a quote mark
+  pub opens-letter : (b c : ℕ) (l : Bool) (f : Family) → at ≤ length t → b ≡ t ! at → c ≡ t ! (at + 1) → l ≡ has b (ascii "EeNn") → (eqb c 39 && l) ≡ true
+      → f ≡ familyBy σ b Quote → Opens σ t at (record { known = true; from = at + 2; family = f })
+  opens-letter b c l f h eb ec el x ef =
+      let y : has b (ascii "EeNn") ≡ true = sym el ∙ and-right (eqb c 39) l x in
+      let q : t ! (at + 1) ≡ 39 = sym ec ∙ eqb-true c 39 (and-left (eqb c 39) l x) in
+      let z : at + 0 ≡ at = omega arith in
+      let i : at + 2 - 1 ≡ at + 1 = omega arith in
+      let o = lettered-opening (drop at t) (ap (λ (d : ℕ). has d (ascii "EeNn")) (getD-drop at t 0 0 ∙ ap (t !_) z ∙ sym eb) ∙ y) (getD-drop at t 1 0 ∙ q) in
+      opens-one 2 b 39 false Quote f h (sym (ap opening (part-tail t at) ∙ o)) eb (sym (lettered b y .1)) refl (sym (ap (t !_) i ∙ q)) (λ m. refl) ef
 
 -- CLOSING
 pub next-room : (t : List ℕ) (f : ℕ) (b : Body) (g : ℕ) → (b .end ≡ Closed → f + b .at < length t) → b .end ≡ Closed → g ≡ gap (drop (f + b .at + 1) t)

@@ -4,6 +4,7 @@ use mathlib.Core.Bool.{Bool, true, false}
 use mathlib.Core.List.{List, _++_}
 use Prim.Native.Nat.{ℕ, suc, _+_, _-_, _≤_, _<_}
 use lib.ListN.{length, drop}
+use Rattle.meaning.specs.declared.Read.the-variants as Read′
 use Rattle.meaning.specs.declared.Settings.{Settings}
 use Rattle.meaning.specs.Bytes.{if_then_else_, _!_, ascii, has}
 use Rattle.meaning.specs.Chars.{utf8}
@@ -99,7 +100,9 @@ pub record Rewrites (σ : Settings) (t out : List ℕ) (r : Bool) (after : List 
 
 -- an answer is the definition's; without one, what the definition makes of the buffer is the same as before
 abbrev pub QuickBy : Answer → List ℕ → Quick → List ℕ → Type 0
-QuickBy a out (Quick′.Answer r) after = Reads a out r after
+QuickBy a out (Quick′.Borrowed f u) after = Reads a out (Read′.Borrowed f u) after
+QuickBy a out (Quick′.Written n) after = Reads a out (Read′.Written n) after
+QuickBy a out (Quick′.NoRoom n) after = Reads a out (Read′.NoRoom n) after
 QuickBy a out Quick′.Unread after = (length after ≡ length out) × (bufferOf after a ≡ bufferOf out a)
 
 pub record QuickReads (a : Answer) (out : List ℕ) (r : Quick) (after : List ℕ) : Type 0 where

@@ -4,7 +4,7 @@ mod alone;
 mod chunks;
 pub mod ident;
 mod joined;
-mod plain;
+pub mod plain;
 mod quick;
 pub mod reading;
 mod runs;

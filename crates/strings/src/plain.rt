@@ -38,8 +38,9 @@ pub(crate) fn is_plain(text: &[u8], settings: Settings) -> bool
     is_free(&text[1..until], plain_stops(settings))
 }
 
-// Whether a text is such a string, and in ASCII: then it is UTF-8 too, and nothing else has to be looked at.
-pub(crate) fn is_plain_ascii(text: &[u8], settings: Settings) -> bool
+// Whether a text is such a string, and in ASCII: then it is UTF-8 too, and nothing else has to be looked at. No is no answer: any text may be read on.
+// Rules out: an active backslash not looked for; a text told plain of which nothing was looked at (must-fail: backslash_not_looked_for, plain_unseen).
+pub fn is_plain_ascii(text: &[u8], settings: Settings) -> bool
     ensures { λ r. ⌜ PlainAscii settings (now (text .entry)) r ⌝ }
 {
     if !is_enclosed(text, 0, 39) {

@@ -11,23 +11,24 @@ use escapes::units::Family;
 use leaves::bytes::byte_at;
 use leaves::names::is_mark;
 use leaves::puts::put_bytes;
-use meaning::Read;
 use meaning::Settings;
 use spaces::gap_at;
 ghost use mathlib.Core.Path.{_≡_};
 ghost use mathlib.Core.Bool.{true, false};
 ghost use Prim.Native.Nat.{_+_, _≤_, _<_};
 ghost use lib.ListN.{length};
-ghost use Rattle.meaning.specs.Bytes.{has, isMark};
+ghost use Rattle.meaning.specs.Bytes.{ascii, has, isMark};
 ghost use Rattle.meaning.specs.Chars.{utf8};
 ghost use Rattle.meaning.specs.Reading.{read};
 ghost use Rattle.cutting.specs.Marks.{markOf};
 ghost use Rattle.strings.specs.declared.chunks.End.the-variants.{Closed};
 ghost use Rattle.strings.specs.Driving.{familyBy, isBits, Opens, Closes, ReadsSegment, Drives, Rewrites, QuickReads};
 
-// An answer, or none.
+// An answer, or none. It is no `Read` with a case more: one enum inside another is moved byte by byte, which cost 3 ns a row.
 pub(crate) enum Quick {
-    Answer(Read),
+    Borrowed { from: usize, until: usize },
+    Written { len: usize },
+    NoRoom { needed: usize },
     Unread,
 }
 
@@ -67,6 +68,13 @@ fn is_bits(byte: u8) -> bool
     (byte == 66) | (byte == 98) | (byte == 88) | (byte == 120)
 }
 
+// E or N, in either case: a string's, where a quote mark stands behind it.
+fn is_string_letter(byte: u8) -> bool
+    ensures { λ r. ⌜ r ≡ has byte (ascii "EeNn") ⌝ }
+{
+    (byte == 69) | (byte == 101) | (byte == 78) | (byte == 110)
+}
+
 // How a segment's body is read, by its first byte and its mark.
 fn family_of(first: u8, mark: Mark, settings: Settings) -> Family
     ensures { λ r. ⌜ r ≡ familyBy settings first mark ⌝ }
@@ -81,8 +89,10 @@ fn family_of(first: u8, mark: Mark, settings: Settings) -> Family
     Family::Standard { mark, backslash }
 }
 
-// What opens a segment at a place, if it is one of a string: most are opened by a quote mark alone.
-// Rules out: such a segment read with the setting on (must-fail: quote_with_the_setting_on).
+// What opens a segment at a place, if it is one of a string. Most are opened by a quote mark alone, or by E or N and one, and spare `opening_len`, whose jump
+// table over the first byte is often guessed wrong. So that none is made here, the byte behind the first is asked before it, and by &.
+// Rules out: a segment of a lone mark read with the setting on; a body that begins with the mark behind a letter (must-fail: quote_with_the_setting_on,
+// letter_before_its_mark).
 fn open_segment(text: &[u8], at: usize, settings: Settings) -> Opened
     requires { ⌜ at ≤ length (now text) ⌝ }
     ensures { λ r. ⌜ Opens settings (now (text .entry)) at r ⌝ }
@@ -96,6 +106,13 @@ fn open_segment(text: &[u8], at: usize, settings: Settings) -> Opened
                 mark: Mark::Quote,
                 backslash: settings.backslash,
             },
+        };
+    }
+    if (byte_at(text, at + 1) == 39) & is_string_letter(first) {
+        return Opened {
+            known: true,
+            from: at + 2,
+            family: family_of(first, Mark::Quote, settings),
         };
     }
     let len = opening_len(&text[at..]);
@@ -231,21 +248,21 @@ pub(crate) fn read_quick(text: &[u8], settings: Settings, out: &mut [u8]) -> Qui
     }
     if driven.plain {
         let until = text.len() - 1;
-        return Quick::Answer(Read::Borrowed {
+        return Quick::Borrowed {
             from: driven.from,
             until,
-        });
+        };
     }
     let needed = driven.total + driven.n;
     if out.len() < needed {
-        return Quick::Answer(Read::NoRoom { needed });
+        return Quick::NoRoom { needed };
     }
     if driven.total == 0 {
         put_bytes(&chunk[..needed], out);
-        return Quick::Answer(Read::Written { len: needed });
+        return Quick::Written { len: needed };
     }
     if write_again(text, settings, &mut chunk, &mut out[..needed]) {
-        return Quick::Answer(Read::Written { len: needed });
+        return Quick::Written { len: needed };
     }
     Quick::Unread
 }

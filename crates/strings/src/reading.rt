@@ -10,7 +10,6 @@ use meaning::Settings;
 use utf8::ascii::is_plain_run;
 use utf8::check::is_clean;
 use utf8::check::is_utf8;
-ghost use mathlib.Core.Path.{_≡_};
 ghost use Rattle.meaning.specs.Chars.{utf8};
 ghost use Rattle.meaning.specs.Reading.{read};
 ghost use Rattle.meaning.specs.Reads.{Reads};
@@ -29,14 +28,11 @@ pub(crate) enum Fit {
     Other,
 }
 
-// Tells a text whose body stands for itself, by one scan if it is in ASCII, as most are; and one that is UTF-8 without NULs.
+// Tells a text that is UTF-8 without NULs, and of these one whose body stands for itself. One in ASCII that is so is told before.
 // Rules out: a text with a NUL read quickly; any text in ASCII taken for its own body (must-fail: nul_read_quickly, ascii_taken_for_plain).
 fn fit_of(text: &[u8], settings: Settings) -> Fit
     ensures { λ r. ⌜ FitsAs settings (now (text .entry)) r ⌝ }
 {
-    if is_plain_ascii(text, settings) {
-        return Fit::Plain;
-    }
     if is_plain_run(text, 0, 0) {
         return Fit::Clean;
     }
@@ -49,7 +45,7 @@ fn fit_of(text: &[u8], settings: Settings) -> Fit
     Fit::Clean
 }
 
-// Reads a string's text, which is tested to be UTF-8.
+// Reads a string's text, which is tested to be UTF-8. Whoever asks tells a plain text in ASCII before, by `is_plain_ascii`: that costs a scan where this costs a call.
 // Rules out: 6 for bytes that are not UTF-8; the setting lost; a plain body shown from its mark on, or nothing of it (must-fail: not_utf8_told_as_refused,
 // setting_lost_on_the_way, plain_from_its_mark, plain_shown_empty).
 pub fn read_string(text: &[u8], settings: Settings, out: &mut [u8]) -> Checked
@@ -61,11 +57,12 @@ pub fn read_string(text: &[u8], settings: Settings, out: &mut [u8]) -> Checked
             Checked::Text(Read::Borrowed { from: 1, until })
         }
         Fit::Clean => {
-            let quick = read_quick(text, settings, out);
-            if let Quick::Answer(answer) = quick {
-                return Checked::Text(answer);
+            match read_quick(text, settings, out) {
+                Quick::Borrowed { from, until } => Checked::Text(Read::Borrowed { from, until }),
+                Quick::Written { len } => Checked::Text(Read::Written { len }),
+                Quick::NoRoom { needed } => Checked::Text(Read::NoRoom { needed }),
+                Quick::Unread => Checked::Text(read_by_units(text, settings, out)),
             }
-            Checked::Text(read_by_units(text, settings, out))
         }
         Fit::Other => {
             if !is_utf8(text) {
@@ -82,20 +79,25 @@ pub fn read_string(text: &[u8], settings: Settings, out: &mut [u8]) -> Checked
 pub fn read_bytes(text: &[u8], settings: Settings, out: &mut [u8]) -> Read
     ensures { λ r. ⌜ Reads (read settings (now (text .entry))) (now (out .entry)) r (now (out .exit)) ⌝ }
 {
+    if is_plain_ascii(text, settings) {
+        let until = text.len() - 1;
+        return Read::Borrowed { from: 1, until };
+    }
     match fit_of(text, settings) {
         Fit::Plain => {
-            let last = text.len() - 1;
+            let end = text.len() - 1;
             Read::Borrowed {
                 from: 1,
-                until: last,
+                until: end,
             }
         }
         Fit::Clean => {
-            let quick = read_quick(text, settings, out);
-            if let Quick::Answer(answer) = quick {
-                return answer;
+            match read_quick(text, settings, out) {
+                Quick::Borrowed { from, until } => Read::Borrowed { from, until },
+                Quick::Written { len } => Read::Written { len },
+                Quick::NoRoom { needed } => Read::NoRoom { needed },
+                Quick::Unread => read_by_units(text, settings, out),
             }
-            read_by_units(text, settings, out)
         }
         Fit::Other => read_by_units(text, settings, out),
     }

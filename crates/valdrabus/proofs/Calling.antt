@@ -16,14 +16,13 @@ use Rattle.meaning.specs.declared.Truth.{Truth}
 use Rattle.meaning.specs.declared.Nullness.{Nullness}
 use Rattle.meaning.specs.declared.Writing.{Writing}
 use Rattle.meaning.specs.declared.PartSize.{PartSize}
-use Rattle.meaning.specs.Records.{kindOf}
 use Rattle.meaning.specs.Answers.{Outcome, Meets}
 use Rattle.meaning.specs.Questions.{stringQuestion, decimalQuestion, bitsQuestion, temporalQuestion, sourceQuestion, moneyQuestion, charsetQuestion}
 use Rattle.meaning.specs.Questions.{i64Question, boolQuestion, nullQuestion, isNull}
 use Rattle.meaning.specs.Writer.{writeQuestion}
 use Rattle.valdrabus.specs.declared.told.Told.{Told}
 use Rattle.valdrabus.specs.declared.counted.Counted.{Counted}
-use Rattle.valdrabus.specs.Literals.{isKnown, literalOf, settingsOf}
+use Rattle.meaning.specs.Codes.{kindOf, isKnown, literalOf, settingsOf}
 use Rattle.valdrabus.specs.Numbers.{numberTold, textTold, rangeTold, charsetTold, truthTold, nullnessTold, writingTold}
 use Rattle.valdrabus.specs.Calls.{outcomeTold, called, calledBare, calledCount, countedOf, stringCall, decimalCall, bitsCall, temporalCall, sourceCall}
 use Rattle.valdrabus.specs.Calls.{moneyCall, charsetCall, i64Call, boolCall, nullCall, isNullCall, writeCall}

@@ -31,7 +31,7 @@ use Rattle.laws.proofs.writing.FormText.{FormAccepted}
 use Rattle.laws.proofs.writing.FormRoundTrip.{form-answers, form-written-accepted}
 use Rattle.laws.proofs.questions.Calls as Calls′
 use Rattle.laws.proofs.questions.Calls.{StringCall, WriterCall, FormCall, PartWritten, calls-chain, joining-calls, round-trip-calls, form-calls, parts-calls}
-use Rattle.valdrabus.specs.Literals.{literalOf, settingsOf}
+use Rattle.meaning.specs.Codes.{literalOf, settingsOf}
 use Rattle.valdrabus.specs.Numbers.{textTold, writingTold, Tells}
 use Rattle.valdrabus.specs.Calls.{outcomeTold, stringCall, writeCall, formCall, Lengths}
 use Rattle.valdrabus.specs.Views as Views′

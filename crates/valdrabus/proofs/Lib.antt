@@ -6,4 +6,5 @@ mod Numbering
 mod Viewing
 mod Determined
 mod Demands
+mod BlockExports
 mod Witnesses

@@ -2,14 +2,12 @@
 use mathlib.Core.Path.{_≡_, refl, sym, ap, _∙_}
 use mathlib.Core.Bool.{Bool, true, false}
 use Prim.Native.Nat.{ℕ}
-use lib.Dec.{eqb}
 use lib.IntN.{ℤ, pos}
 use mir.Syntax.{w64}
 use mir.Val.{boolByte, SFits, toZ, ofZ}
 use mir.Facts.{toZ-ofZ}
 use Rattle.meaning.specs.declared.LiteralExpected.{LiteralExpected}
 use Rattle.meaning.specs.declared.LiteralKind.{LiteralKind}
-use Rattle.meaning.specs.declared.Literal.{Literal}
 use Rattle.meaning.specs.declared.Refusal.{Refusal}
 use Rattle.meaning.specs.declared.Refusal.the-variants as Refusal′
 use Rattle.meaning.specs.declared.Text.{Text}
@@ -22,13 +20,11 @@ use Rattle.meaning.specs.declared.Identifier.{Identifier}
 use Rattle.meaning.specs.declared.Writing.{Writing}
 use Rattle.meaning.specs.declared.Integer.{Integer}
 use Rattle.meaning.specs.declared.Integer.the-variants as Integer′
-use Rattle.meaning.specs.Records.{kindOf}
 use Rattle.meaning.specs.Answers.{expectedCode, kindCode}
 use Rattle.valdrabus.specs.declared.told.Told.{Told}
 use Rattle.valdrabus.specs.declared.counted.Counted.{Counted}
 use Rattle.valdrabus.specs.Numbers.{fourTold, numberTold, refusalTold, textTold, rangeTold, charsetTold}
 use Rattle.valdrabus.specs.Numbers.{truthTold, nullnessTold, identifierTold, writingTold}
-use Rattle.valdrabus.specs.Literals.{literalOf}
 use Rattle.valdrabus.specs.Calls.{countedOf}
 
 -- REFUSALS
@@ -80,8 +76,3 @@ module _ (a : Integer) where
   pub integer-refused : (w : Refusal) → a ≡ Integer′.Refused w → (t : Told) → t ≡ refusalTold w
       → _≡_ {A = Counted} (record { told = t; value = pos 0 }) (countedOf a)
   integer-refused w q t p = ap (λ (x : Told). record { told = x; value = pos 0 }) p ∙ ap countedOf (sym q)
-
--- A LITERAL by its numbers
-pub literal-by : (k y s e : ℕ) (x : LiteralKind) → x ≡ kindOf k
-    → _≡_ {A = Literal} (record { kind = x; synthetic = eqb y 1; span = record { start = s; end = e } }) (literalOf k y s e)
-literal-by k y s e x p = ap (λ (z : LiteralKind). record { kind = z; synthetic = eqb y 1; span = record { start = s; end = e } }) p

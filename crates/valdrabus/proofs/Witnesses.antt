@@ -20,7 +20,7 @@ use Rattle.meaning.specs.Forms.{figure, isDoubled, escapeForm, unicodeFigures, 
 use Rattle.laws.proofs.questions.Asked.{Spans}
 use Rattle.laws.proofs.joining.Parts.{Part, Next}
 use Rattle.laws.proofs.tables.Witnesses.{next}
-use Rattle.valdrabus.specs.Literals.{literalOf}
+use Rattle.meaning.specs.Codes.{literalOf}
 use Rattle.valdrabus.specs.Numbers.{Tells}
 use Rattle.valdrabus.specs.Calls.{stringCall, writeCall, formCall, Lengths}
 use Rattle.valdrabus.specs.Views.{viewCall}

@@ -10,7 +10,6 @@ use Rattle.meaning.specs.declared.Integer.the-variants as Integer′
 use Rattle.meaning.specs.declared.PartSize.{PartSize}
 use Rattle.meaning.specs.declared.Form.{Form}
 use Rattle.meaning.specs.declared.RadixPrefix.{RadixPrefix}
-use Rattle.meaning.specs.Records.{kindOf}
 use Rattle.meaning.specs.Answers.{Outcome}
 use Rattle.meaning.specs.Questions.{stringQuestion, decimalQuestion, bitsQuestion, temporalQuestion, sourceQuestion, moneyQuestion, charsetQuestion}
 use Rattle.meaning.specs.Questions.{i64Question, boolQuestion, nullQuestion, isNull, identifierQuestion}
@@ -18,7 +17,7 @@ use Rattle.meaning.specs.Writer.{writeQuestion}
 use Rattle.meaning.specs.Forms.{formQuestion}
 use Rattle.valdrabus.specs.declared.told.Told.{Told}
 use Rattle.valdrabus.specs.declared.counted.Counted.{Counted}
-use Rattle.valdrabus.specs.Literals.{isKnown, literalOf, settingsOf}
+use Rattle.meaning.specs.Codes.{kindOf, isKnown, literalOf, settingsOf}
 use Rattle.valdrabus.specs.Numbers.{numberTold, refusalTold, textTold, rangeTold, charsetTold, truthTold, nullnessTold, identifierTold, writingTold}
 
 -- an answer and its buffer, told in numbers

@@ -1,4 +1,3 @@
-pub mod Literals
 pub mod Numbers
 pub mod Calls
 pub mod Views

@@ -1,11 +1,11 @@
 // Parts of the source.
-use crate::literals::is_known;
-use crate::literals::literal_of;
 use crate::told::Told;
 use crate::told::charset_told;
 use crate::told::number_told;
 use crate::told::range_told;
 use crate::told::tell;
+use admitting::literals::is_known;
+use admitting::literals::literal_of;
 use questions::parts::charset_range;
 use questions::parts::money_range;
 use questions::parts::source_range;

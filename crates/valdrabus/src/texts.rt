@@ -1,11 +1,11 @@
 // Texts: a part of the source, or written into the buffer.
-use crate::literals::is_known;
-use crate::literals::literal_of;
-use crate::literals::settings_of;
 use crate::told::Told;
 use crate::told::number_told;
 use crate::told::tell;
 use crate::told::text_told;
+use admitting::literals::is_known;
+use admitting::literals::literal_of;
+use admitting::literals::settings_of;
 use questions::texts::as_bit_text;
 use questions::texts::as_decimal_text;
 use questions::texts::as_str_in;

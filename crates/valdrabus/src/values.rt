@@ -1,13 +1,13 @@
 // Values: an integer, a boolean, NULL.
 use crate::counted::Counted;
 use crate::counted::integer_counted;
-use crate::literals::is_known;
-use crate::literals::literal_of;
 use crate::told::Told;
 use crate::told::nullness_told;
 use crate::told::number_told;
 use crate::told::tell;
 use crate::told::truth_told;
+use admitting::literals::is_known;
+use admitting::literals::literal_of;
 use questions::values::as_bool;
 use questions::values::as_i64;
 use questions::values::as_null;

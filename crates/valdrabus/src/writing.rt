@@ -1,8 +1,8 @@
 // The writer: a value as one plain literal, or as several; and as an E or a U& literal.
-use crate::literals::settings_of;
 use crate::told::Told;
 use crate::told::number_told;
 use crate::told::writing_told;
+use admitting::literals::settings_of;
 use meaning::Form;
 use meaning::PartSize;
 use writer::forms::write_form;

@@ -1,6 +1,7 @@
 //! A case asked of ours, and of the Rust with and without its check of UTF-8.
 
 use crate::cases::{Case, Place, Question, Task};
+use crate::timing::Timed;
 use crate::writing;
 use original::ast::literal::Literal;
 use original::codes;
@@ -21,7 +22,7 @@ pub enum Side {
 
 pub const SIDES: [(Side, &str); 3] = [(Side::Ours, "ours"), (Side::Rust, "rust"), (Side::RustStr, "rust-str")];
 
-/// A case with what each side needs, made before anything is timed.
+/// A case with what each side needs.
 pub struct Ready {
     case: Case,
     /// Lent to ours; the Rust allocates for each text that it writes.
@@ -46,35 +47,6 @@ impl Ready {
                 Ready { out: vec![0; writing::most(longest)], within: Vec::new(), alone: Vec::new(), case }
             }
         }
-    }
-
-    pub fn case(&self) -> &Case {
-        &self.case
-    }
-
-    /// Asks about every literal of the case, or writes every value, once; the sum is the same for each side.
-    pub fn run(&mut self, side: Side) -> u64 {
-        match self.case.task {
-            Task::Read(question) => self.read(side, question),
-            Task::Write(spelling) => {
-                let mut sum = 0;
-                writing::each(&self.case, spelling, side, &mut self.out, |text| sum += digest(black_box(text)));
-                sum
-            }
-        }
-    }
-
-    /// Whether all sides give the same.
-    pub fn agrees(&mut self) -> bool {
-        let [ours, rust, rust_str] = SIDES.map(|(side, _)| match self.case.task {
-            Task::Read(_) => self.run(side).to_le_bytes().to_vec(),
-            Task::Write(spelling) => {
-                let mut all = Vec::new();
-                writing::each(&self.case, spelling, side, &mut self.out, |text| all.extend_from_slice(text));
-                all
-            }
-        });
-        ours == rust && ours == rust_str
     }
 
     fn read(&mut self, side: Side, question: Question) -> u64 {
@@ -145,6 +117,37 @@ impl Ready {
     }
 }
 
+impl Timed for Ready {
+    type Side = Side;
+
+    fn case(&self) -> &Case {
+        &self.case
+    }
+
+    fn run(&mut self, side: Side) -> u64 {
+        match self.case.task {
+            Task::Read(question) => self.read(side, question),
+            Task::Write(spelling) => {
+                let mut sum = 0;
+                writing::each(&self.case, spelling, side, &mut self.out, |text| sum += digest(black_box(text)));
+                sum
+            }
+        }
+    }
+
+    fn agrees(&mut self) -> bool {
+        let [ours, rust, rust_str] = SIDES.map(|(side, _)| match self.case.task {
+            Task::Read(_) => self.run(side).to_le_bytes().to_vec(),
+            Task::Write(spelling) => {
+                let mut all = Vec::new();
+                writing::each(&self.case, spelling, side, &mut self.out, |text| all.extend_from_slice(text));
+                all
+            }
+        });
+        ours == rust && ours == rust_str
+    }
+}
+
 #[inline]
 fn answer(literal: &Literal, source: &str, question: Question, setting: u32) -> u64 {
     let text = match question {
@@ -156,6 +159,6 @@ fn answer(literal: &Literal, source: &str, question: Question, setting: u32) -> 
 }
 
 #[inline]
-fn digest(bytes: &[u8]) -> u64 {
+pub fn digest(bytes: &[u8]) -> u64 {
     bytes.len() as u64 + bytes.first().map_or(0, |&byte| byte.into())
 }

@@ -1,6 +1,7 @@
 //! What is read, and what is written.
 
 use crate::rng::Rng;
+use std::borrow::Cow;
 use std::fmt::Write;
 use valdrabus::{Kind, Literal, Settings};
 
@@ -95,14 +96,15 @@ impl Case {
         })
     }
 
+    /// The value of a string at a place.
+    pub fn value(&self, place: &Place) -> Cow<'_, str> {
+        let settings = Settings { backslash: place.setting == 1 };
+        Literal::new(Kind::String, place.start..place.end).to_str_in(&self.source, settings).expect("a string")
+    }
+
     /// The values of a case of strings.
     fn values(&self) -> Vec<String> {
-        let value = |place: &Place| {
-            let literal = Literal::new(Kind::String, place.start..place.end);
-            let settings = Settings { backslash: place.setting == 1 };
-            literal.to_str_in(&self.source, settings).expect("a string").into_owned()
-        };
-        self.places.iter().map(value).collect()
+        self.places.iter().map(|place| self.value(place).into_owned()).collect()
     }
 
     /// How many bytes the literals or values have together.
@@ -114,7 +116,6 @@ impl Case {
 const LONG: usize = 65_536;
 const NUMBERS: usize = 1000;
 const SHORT_VALUES: usize = 1000;
-const WHOLESALE: &str = include_str!("../../lists/wholesale.txt");
 
 const PLAIN: [&str; 9] = ["a", "b", "c", "x", "y", "z", " ", "0", "-"];
 const WIDE: [&str; 9] = ["é", "ß", "ł", "€", "日", "本", "😀", "a", " "];
@@ -149,11 +150,19 @@ pub fn all() -> Vec<Case> {
     cases
 }
 
+pub fn ward() -> Case {
+    Case::list("ward list", include_str!("../../lists/ward.txt"))
+}
+
+pub fn wholesale() -> Case {
+    Case::list("wholesale list", include_str!("../../lists/wholesale.txt"))
+}
+
 fn read() -> Vec<Case> {
     let string = |name, setting, text| Case::of(name, Task::Read(Question::Str), setting, [text]);
     let mut cases = vec![
-        Case::list("ward list", include_str!("../../lists/ward.txt")),
-        Case::list("wholesale list", WHOLESALE),
+        ward(),
+        wholesale(),
         string("plain name, 64 KiB", 0, long("'", &PLAIN)),
         string("multi-byte name, 64 KiB", 0, long("'", &WIDE)),
         string("E escapes, 64 KiB", 0, long("E'", &ESCAPES)),
@@ -202,7 +211,7 @@ fn thin(open: &str, every: usize, escapes: &[&str]) -> String {
 fn written() -> impl Iterator<Item = Case> {
     let long = |pieces| [filled("", LONG, &mut Rng::new(64), pieces)];
     [
-        Case::written("names", &Case::list("", WHOLESALE).values()),
+        Case::written("names", &wholesale().values()),
         Case::written("ASCII name, 64 KiB", &long(&PLAIN)),
         Case::written("control characters", &short_values(&CONTROLS)),
         Case::written("control characters, 64 KiB", &long(&CONTROLS)),

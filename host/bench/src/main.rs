@@ -1,10 +1,12 @@
 //! Times ours and the Rust original side by side, in one process; the writers, which the original has not, beside loops that push into a `String`.
 //!
 //!     cargo run --release -p bench                          a table, as it stands in docs/PERFORMANCE.md
-//!     cargo run --release -p bench -- --cases               the names of the cases
-//!     cargo run --release -p bench -- --count CASE N SIDE   one case N times, to count instructions; SIDE is ours, rust or rust-str
+//!     cargo run --release -p bench -- --blocks              the same of strings that are read in blocks, beside single calls
+//!     cargo run --release -p bench -- --cases               the names of the cases of both
+//!     cargo run --release -p bench -- --count CASE N SIDE   one case N times, to count instructions; SIDE is ours, rust or rust-str, of a case in blocks block, singles or rust
 //!
-//! `rust` has bytes, as ours has, and so begins with `from_utf8`; `rust-str` has the text or value as `str` already.
+//! `rust` has bytes, as ours has, and so begins with `from_utf8`; `rust-str` has the text or value as `str` already. A block's items are made before it is timed, and its answers looked at behind each
+//! call just as those of single calls are.
 
 #[cfg(at_hand)]
 fn main() -> std::process::ExitCode {

@@ -1,5 +1,6 @@
 //! One question asked of both, with each of several buffers.
 
+use crate::blocks::Gathered;
 use crate::lent::Lent;
 use crate::question::{Asked, BORROWED, Question, Said, Told, WRITTEN, due};
 use crate::rng::Rng;
@@ -25,6 +26,7 @@ pub struct Comparing {
     pub tally: Tally,
     pub rng: Rng,
     pub lent: Lent,
+    pub gathered: Gathered,
 }
 
 /// Who said what is due.
@@ -38,10 +40,10 @@ enum Judge {
 
 impl Comparing {
     pub fn new(seed: u64) -> Comparing {
-        Comparing { tally: Tally::default(), rng: Rng::new(seed), lent: Lent::new() }
+        Comparing { tally: Tally::default(), rng: Rng::new(seed), lent: Lent::new(), gathered: Gathered::default() }
     }
 
-    /// Asks ours with each buffer that tells something, and compares with what is due.
+    /// Asks ours with each buffer that tells something, and compares with what is due; a string once more in a block.
     pub fn ask(&mut self, asked: &Asked, source: &[u8]) -> Outcome {
         let (said, judge) = expected(asked, source)
             .map_err(|what| self.difference(what, asked, source, 0, String::new(), String::new()))?;
@@ -56,7 +58,8 @@ impl Comparing {
         }
         let long = self.rng.within(1, 40);
         let (rooms, count) = rooms(&said, long);
-        rooms[..count].iter().try_for_each(|&room| self.ask_with(asked, source, &said, room))
+        rooms[..count].iter().try_for_each(|&room| self.ask_with(asked, source, &said, room))?;
+        self.gather(asked, source, &said)
     }
 
     fn ask_with(&mut self, asked: &Asked, source: &[u8], said: &Said, room: usize) -> Outcome {

@@ -1,6 +1,7 @@
 //! The parts of the comparison; empty where the Rust original is not at hand.
 #![cfg(at_hand)]
 
+mod blocks;
 mod comparing;
 mod edges;
 mod frames;

@@ -125,6 +125,27 @@ fn test(asked: &Asked, bare: &[u8]) -> Told {
     Told { returned, first, ..Told::default() }
 }
 
+/// A block's number, and a four for each item. More answers are lent, which must stay as they are.
+pub fn block(items: &[Asked], source: &[u8], out: &mut [u8]) -> (u32, Vec<[u32; 4]>) {
+    let items: Vec<u32> = items.iter().flat_map(|item| [item.kind, item.setting, item.start, item.end]).collect();
+    let mut answers = vec![STALE as u32; items.len() + 5];
+    // SAFETY: the slices are valid for their lengths, and what is written through is ours alone.
+    let returned = unsafe {
+        sys::valdrabus_read_block(
+            items.as_ptr(),
+            items.len(),
+            source.as_ptr(),
+            source.len(),
+            answers.as_mut_ptr(),
+            answers.len() - 1,
+            out.as_mut_ptr(),
+            out.len(),
+        )
+    };
+    assert_eq!(answers.split_off(items.len()), [STALE as u32; 5], "answers past the items");
+    (returned, answers.chunks_exact(4).map(|four| [four[0], four[1], four[2], four[3]]).collect())
+}
+
 /// What the view shows of an answer, as what it returns and its range.
 pub fn view(how: u32, first: usize, second: usize, source_len: usize, out_len: usize) -> (u32, usize, usize) {
     let (mut from, mut until) = (STALE, STALE);

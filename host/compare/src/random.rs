@@ -21,7 +21,7 @@ struct Placed {
 }
 
 pub fn run(comparing: &mut Comparing, texts: &mut Texts, until: u64) -> Outcome {
-    while comparing.tally.comparisons() < until {
+    while comparing.tally.one_by_one() < until {
         if texts.rng.odds(90) {
             write(comparing, texts)?;
         } else {

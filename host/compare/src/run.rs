@@ -64,7 +64,9 @@ fn parts(comparing: &mut Comparing, arguments: &Arguments) -> Outcome {
         frames::report("around the edges of blocks and chunks", comparing, texts, before);
     }
     let (texts, before) = (comparing.tally.texts, comparing.tally.comparisons());
-    random::run(comparing, &mut Texts { rng: Rng::new(!arguments.seed) }, before + arguments.count)?;
+    let until = comparing.tally.one_by_one() + arguments.count;
+    random::run(comparing, &mut Texts { rng: Rng::new(!arguments.seed) }, until)?;
+    comparing.block()?;
     frames::report("random texts", comparing, texts, before);
     Ok(())
 }

@@ -18,7 +18,9 @@ const WRITERS: [(&str, &str); 4] = [
     ("write_escape", "written 4 9 11 12"),
     ("write_unicode", "written 4 9 11 12"),
 ];
-const ROWS: usize = ALL.len() + WRITERS.len();
+/// The items of blocks, which are never synthetic.
+const BLOCK: (&str, &str) = ("read_block", "borrowed written 1 3 4 6 9 10");
+const ROWS: usize = ALL.len() + WRITERS.len() + 1;
 
 #[derive(Default)]
 pub struct Tally {
@@ -34,6 +36,8 @@ pub struct Tally {
 pub enum Row {
     Asked(Question),
     Written(Spelling),
+    /// An item of a block.
+    Block,
 }
 
 impl Row {
@@ -44,6 +48,7 @@ impl Row {
             Row::Written(Spelling::Plain { part: Some(_), .. }) => ALL.len() + 1,
             Row::Written(Spelling::Escape) => ALL.len() + 2,
             Row::Written(Spelling::Unicode) => ALL.len() + 3,
+            Row::Block => ROWS - 1,
         }
     }
 }
@@ -76,6 +81,11 @@ impl Tally {
         self.counts.iter().flatten().sum()
     }
 
+    /// All but those in blocks.
+    pub fn one_by_one(&self) -> u64 {
+        self.comparisons() - self.counts[Row::Block.at()].iter().sum::<u64>()
+    }
+
     pub fn print(&self) {
         print!("{:32}", "");
         OUTCOMES.iter().for_each(|name| print!("{name:>10}"));
@@ -102,7 +112,7 @@ impl Tally {
 }
 
 fn names() -> impl Iterator<Item = &'static str> {
-    ALL.iter().map(|question| question.name()).chain(WRITERS.map(|(name, _)| name))
+    ALL.iter().map(|question| question.name()).chain(WRITERS.map(|(name, _)| name)).chain([BLOCK.0])
 }
 
 /// For each row what it can give, as the header says.
@@ -124,5 +134,5 @@ fn possible() -> impl Iterator<Item = Vec<usize>> {
     let outcomes = |names: &str| {
         names.split(' ').map(|name| OUTCOMES.iter().position(|known| *known == name).expect("an outcome")).collect()
     };
-    rows.chain(WRITERS.map(|(_, possible)| possible)).map(outcomes)
+    rows.chain(WRITERS.map(|(_, possible)| possible)).chain([BLOCK.1]).map(outcomes)
 }

@@ -17,6 +17,7 @@
 //! The status is 0 if each row has a key, 1 if a row is refused, 2 if a list cannot be read.
 
 mod list;
+mod places;
 mod report;
 mod request;
 

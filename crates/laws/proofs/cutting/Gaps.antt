@@ -8,7 +8,7 @@ use native.Mathlib.Nat.{add-zero, zero-add}
 use native.Mathlib.Omega.{arith}
 use lib.Dec.{T, eqb, leb}
 use borrow.Author.Tests.{le-leb, leb-true, leb-false, eqb-true}
-use lib.ListN.{length}
+use lib.ListN.{length, drop}
 use Rattle.meaning.specs.Bytes.{if_then_else_, has, within, isMark}
 use Rattle.meaning.specs.Chars.{Due, due, broken, lead, gather, base, isSpace, space, spaceAt}
 use Rattle.meaning.specs.Walk.{walk, size}
@@ -107,6 +107,15 @@ has-all P b (c ∷ l) a h = go (eqb b c) refl h (has-all P b l (a .1))
     go : (x : Bool) → eqb b c ≡ x → (x || has b l) ≡ true → (has b l ≡ true → P b) → P b
     go true e g ih = subst P (sym (eqb-true b c e)) (a .0)
     go false e g ih = ih g
+
+pub all-append : (P : ℕ → Type 0) (l r : List ℕ) → AllP P l → AllP P r → AllP P (l ++ r)
+all-append P [] r a b = b
+all-append P (c ∷ l) r a b = (a .0, all-append P l r (a .1) b)
+
+pub all-drop : (P : ℕ → Type 0) (n : ℕ) (l : List ℕ) → AllP P l → AllP P (drop n l)
+all-drop P zero l a = a
+all-drop P (suc n) [] a = tt
+all-drop P (suc n) (c ∷ l) a = all-drop P n l (a .1)
 
 -- a byte that begins no white space; a quote mark is one
 abbrev pub Solid : ℕ → Type 0

@@ -5,8 +5,10 @@ use mathlib.Core.Path.{_≡_, refl, sym, subst}
 use mathlib.Core.Bool.{Bool, true, false}
 use mathlib.Core.List.{List, _++_}
 use Prim.Native.Nat.{ℕ, _≤_}
+use native.Mathlib.Omega.{arith}
 use lib.Dec.{leb, ltb, leb→le}
-use lib.ListN.{length, drop}
+use lib.ListN.{length, take, drop, length-append, length-drop}
+use lib.Seq.{take-at, drop-at}
 use Rattle.meaning.specs.declared.Settings.{Settings}
 use Rattle.meaning.specs.declared.PartSize.{PartSize}
 use Rattle.meaning.specs.declared.PartSize.the-variants.{Whole}
@@ -43,6 +45,17 @@ pub record Filled (n : ℕ) (out after : List ℕ) : Type 0 where
   pub size : length value ≡ n
   pub room : n ≤ length out
   pub bytes : after ≡ value ++ drop n out
+
+-- in front the value, behind it the buffer as lent, and nothing is longer or shorter
+module _ {n : ℕ} {out after : List ℕ} (f : Filled n out after) where
+  pub filled-front : take n after ≡ f .value
+  filled-front = rw (f .bytes) (take-at (f .value) (drop n out) n (f .size))
+
+  pub filled-rest : drop n after ≡ drop n out
+  filled-rest = rw (f .bytes) (drop-at (f .value) (drop n out) n (f .size))
+
+  pub filled-length : length after ≡ length out
+  filled-length = rw (f .bytes) (omega (arith, length-append (f .value) (drop n out), length-drop n out, f .size, f .room))
 
 -- what each case of an answer says of the buffer
 abbrev pub TextLeaves : List ℕ → Text → List ℕ → Type 0

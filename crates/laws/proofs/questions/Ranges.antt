@@ -37,12 +37,21 @@ pub record Bounds (n f u : ℕ) : Type 0 where
   pub ordered : f ≤ u
   pub inside : u ≤ n
 
+-- the same with a byte before it and one behind it, its marks
+pub record Between (n f u : ℕ) : Type 0 where
+  pub opened : 1 ≤ f
+  pub ordered : f ≤ u
+  pub closed : u < n
+
+pub between-range : {n f u : ℕ} → Between n f u → Bounds n f u
+between-range b = record { ordered = b .ordered; inside = omega arith }
+
 -- a spelling's body; an answer's range
 abbrev pub BodyIn : ℕ → Spelling → Type 0
-BodyIn n (standard q f u) = Bounds n f u
-BodyIn n (escape f u) = Bounds n f u
-BodyIn n (unicode e f u) = Bounds n f u
-BodyIn n (dollar f u) = Bounds n f u
+BodyIn n (standard q f u) = Between n f u
+BodyIn n (escape f u) = Between n f u
+BodyIn n (unicode e f u) = Between n f u
+BodyIn n (dollar f u) = Between n f u
 BodyIn n unspelt = Unit {0}
 
 abbrev pub AnswerIn : ℕ → Answer → Type 0
@@ -51,26 +60,29 @@ AnswerIn n (written v) = Unit {0}
 AnswerIn n (refused p) = Unit {0}
 
 -- behind a mark at place k, before the mark at the end
-pub enclosed-range : (k q : ℕ) (t : List ℕ) → encloses k q t ≡ true → Bounds (length t) (suc k) (length t - 1)
+enclosed-body : (k q : ℕ) (t : List ℕ) → encloses k q t ≡ true → Between (length t) (suc k) (length t - 1)
 unfolding encloses
-enclosed-range k q t h =
+enclosed-body k q t h =
     let l = ltb-true (suc k) (length t) (and-left (ltb (suc k) (length t)) (eqb (t ! k) q)
     (and-left (ltb (suc k) (length t) && eqb (t ! k) q) (eqb (t ! (length t - 1)) q) h)) in
-    record { ordered = omega arith; inside = omega arith }
+    record { opened = omega arith; ordered = omega arith; closed = omega arith }
+
+pub enclosed-range : (k q : ℕ) (t : List ℕ) → encloses k q t ≡ true → Bounds (length t) (suc k) (length t - 1)
+enclosed-range k q t h = between-range (enclosed-body k q t h)
 
 -- the case that a test chooses
 pick : (n : ℕ) (x : Bool) (a b : Spelling) → (x ≡ true → BodyIn n a) → BodyIn n b → BodyIn n (if x then a else b)
 pick n true a b f g = f refl
 pick n false a b f g = g
 
-charset-range : (t : List ℕ) → (eqb (t ! 0) (code "_") && ltb 0 (opening t) && encloses (opening t - 1) (t ! (opening t - 1)) t) ≡ true
-    → Bounds (length t) (opening t) (length t - 1)
-charset-range t h =
+charset-body : (t : List ℕ) → (eqb (t ! 0) (code "_") && ltb 0 (opening t) && encloses (opening t - 1) (t ! (opening t - 1)) t) ≡ true
+    → Between (length t) (opening t) (length t - 1)
+charset-body t h =
     let l = ltb-true 0 (opening t) (and-right (eqb (t ! 0) (code "_")) (ltb 0 (opening t)) (and-left _ (encloses (opening t - 1) (t ! (opening t - 1)) t) h)) in
-    let r = enclosed-range (opening t - 1) (t ! (opening t - 1)) t (and-right (eqb (t ! 0) (code "_") && ltb 0 (opening t)) _ h) in
-    record { ordered = omega arith; inside = r .inside }
+    let r = enclosed-body (opening t - 1) (t ! (opening t - 1)) t (and-right (eqb (t ! 0) (code "_") && ltb 0 (opening t)) _ h) in
+    record { opened = omega arith; ordered = omega arith; closed = r .closed }
 
-unicodeBy-body : (n : ℕ) (e : List ℕ) (u : ℕ) → Bounds n 3 u → BodyIn n (unicodeBy e u)
+unicodeBy-body : (n : ℕ) (e : List ℕ) (u : ℕ) → Between n 3 u → BodyIn n (unicodeBy e u)
 unicodeBy-body n [] u r = tt
 unicodeBy-body n (b ∷ e) u r = r
 
@@ -78,7 +90,7 @@ pub unicode-body : (q : ℕ) (t : List ℕ) → BodyIn (length t) (unicodeSpelli
 unfolding unicodeSpelling
 unicode-body q t =
     pick (length t) (isUnicode q t) (closedUnicode t r) unspelt
-    (λ i. pick (length t) (stops r) (unicodeBy e (3 + size r)) unspelt (λ h. unicodeBy-body (length t) e (3 + size r) (range h)) tt)
+    (λ i. pick (length t) (stops r) (unicodeBy e (3 + size r)) unspelt (λ h. unicodeBy-body (length t) e (3 + size r) (between h)) tt)
     tt
   where
     r : Trace
@@ -87,34 +99,34 @@ unicode-body q t =
     e : List ℕ
     e = chosen (trim (drop (4 + size r) t))
 
-    range : stops r ≡ true → Bounds (length t) 3 (3 + size r)
-    range h =
+    between : stops r ≡ true → Between (length t) 3 (3 + size r)
+    between h =
         let l = stops-inside (closingStep false q) 0 (drop 3 t) (true→T (stops r) h) in
         let d = length-drop 3 t in
-        record { ordered = omega arith; inside = omega arith }
+        record { opened = omega arith; ordered = omega arith; closed = omega arith }
 
 dollar-body : (t : List ℕ) (n : ℕ) → BodyIn (length t) (dollarBy t n)
 dollar-body t zero = tt
 dollar-body t (suc n) =
     pick (length t) (leb (suc n + suc n) (length t) && twice) (dollar (suc n) (length t - suc n)) unspelt
-    range tt
+    between tt
   where
     twice : Bool
     twice = same (take (suc n) t) (drop (length t - suc n) t)
 
-    range : (leb (suc n + suc n) (length t) && twice) ≡ true → Bounds (length t) (suc n) (length t - suc n)
-    range h =
+    between : (leb (suc n + suc n) (length t) && twice) ≡ true → Between (length t) (suc n) (length t - suc n)
+    between h =
         let l = leb-true (suc n + suc n) (length t) (and-left (leb (suc n + suc n) (length t)) twice h) in
-        record { ordered = omega arith; inside = omega arith }
+        record { opened = omega arith; ordered = omega arith; closed = omega arith }
 
 pub spelling-body : (t : List ℕ) → BodyIn (length t) (spelling t)
 unfolding spelling
 spelling-body t =
-    pick (length t) (encloses 0 quote t) _ _ (enclosed-range 0 quote t)
-    (pick (length t) (encloses 0 dquote t) _ _ (enclosed-range 0 dquote t)
-    (pick (length t) _ _ _ (λ h. enclosed-range 1 quote t (and-right (has (t ! 0) (ascii "Ee")) (encloses 1 quote t) h))
-    (pick (length t) _ _ _ (λ h. enclosed-range 1 quote t (and-right (has (t ! 0) (ascii "Nn")) (encloses 1 quote t) h))
-    (pick (length t) _ _ _ (charset-range t)
+    pick (length t) (encloses 0 quote t) _ _ (enclosed-body 0 quote t)
+    (pick (length t) (encloses 0 dquote t) _ _ (enclosed-body 0 dquote t)
+    (pick (length t) _ _ _ (λ h. enclosed-body 1 quote t (and-right (has (t ! 0) (ascii "Ee")) (encloses 1 quote t) h))
+    (pick (length t) _ _ _ (λ h. enclosed-body 1 quote t (and-right (has (t ! 0) (ascii "Nn")) (encloses 1 quote t) h))
+    (pick (length t) _ _ _ (charset-body t)
     (pick (length t) (isUnicode quote t) _ _ (λ h. unicode-body quote t) (dollar-body t (delimiter t)))))))
 
 -- what is read
@@ -128,10 +140,10 @@ answer-inside n f u r h = go (plain r) (stops r)
     go false false = tt
 
 as-inside : (σ : Settings) (t : List ℕ) (s : Spelling) → BodyIn (length t) s → AnswerIn (length t) (read-as σ t s)
-as-inside σ t (standard q f u) h = answer-inside (length t) f u _ h
-as-inside σ t (escape f u) h = answer-inside (length t) f u _ h
-as-inside σ t (unicode e f u) h = answer-inside (length t) f u _ h
-as-inside σ t (dollar f u) h = h
+as-inside σ t (standard q f u) h = answer-inside (length t) f u _ (between-range h)
+as-inside σ t (escape f u) h = answer-inside (length t) f u _ (between-range h)
+as-inside σ t (unicode e f u) h = answer-inside (length t) f u _ (between-range h)
+as-inside σ t (dollar f u) h = between-range h
 as-inside σ t unspelt h = tt
 
 pub one-inside : (σ : Settings) (t : List ℕ) → AnswerIn (length t) (one σ t)

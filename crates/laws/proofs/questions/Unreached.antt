@@ -22,7 +22,7 @@ use Rattle.meaning.specs.Reading.{Answer, borrowed, written, refused}
 use Rattle.meaning.specs.Kinds.{money}
 use Rattle.meaning.specs.Answers.{kindCode, refusalNumber, rangeNumber}
 use Rattle.meaning.specs.Questions.{Tested, passes, barred, badSpan, sourceText, tested, isMoney, rangeAs, ranged, sourceQuestion, moneyQuestion}
-use Rattle.meaning.specs.Records.{kindBy, kinds, kindOf}
+use Rattle.meaning.specs.Codes.{kindBy, kinds, kindOf}
 
 -- U& or nothing
 abbrev pub unicodeOrNone : Spelling → Bool

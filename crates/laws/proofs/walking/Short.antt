@@ -1,7 +1,7 @@
--- A segment's value is never longer than the segment, and the place of a refusal lies inside it: so no number that a pass counts exceeds the text's
--- length. Assumes nothing.
-use mathlib.Core.Path.{_≡_, refl, ap}
-use mathlib.Core.Bool.{Bool, true, false, _&&_}
+-- A segment's value is shorter than the segment by its two marks at least, and the place of a refusal lies inside it: so no number that a pass counts exceeds
+-- the text's length. Of a whole text, what is written is shorter by two bytes at least. Assumes nothing.
+use mathlib.Core.Path.{_≡_, refl, ap, sym, _∙_, subst}
+use mathlib.Core.Bool.{Bool, true, false, _&&_, false≢true}
 use mathlib.Core.List.{List, [], _∷_}
 use Prim.Native.Nat.{ℕ, zero, suc, _+_, _-_, _≤_, _<_}
 use Prim.Native.Char.{code}
@@ -13,15 +13,16 @@ use Rattle.meaning.specs.declared.Settings.{Settings}
 use Rattle.meaning.specs.Bytes.{if_then_else_, _!_, part, ascii, has, same, quote, dquote}
 use Rattle.meaning.specs.Chars.{Due, due, broken, fresh, push, pushes, whole}
 use Rattle.meaning.specs.Walk.{Step, keep, give, stop, Trace, ended, stopped, kept, gave, after, walk, size, stops, plain, value}
-use Rattle.meaning.specs.Steps.{standardStep, escapeStep, unicodeStep, checked, unlessBroken, closingStep, trim}
-use Rattle.meaning.specs.Cutting.{opening}
+use Rattle.meaning.specs.Steps.{standardStep, escapeStep, unicodeStep, checked, unlessBroken, closingStep, gap, trim}
+use Rattle.meaning.specs.Cutting.{opening, segment, segmentBy, segmentStep, cut, continues}
 use Rattle.meaning.specs.Spelling.{Spelling, standard, escape, unicode, dollar, unspelt, encloses, isUnicode, unicodeSpelling, unicodeBy, chosen, closedUnicode}
 use Rattle.meaning.specs.Spelling.{delimiter, dollarBy, spelling}
-use Rattle.meaning.specs.Reading.{borrowed, written, refused, Value, means, fails, valueOf, answer, read-as, one, alone}
+use Rattle.meaning.specs.Reading.{borrowed, written, refused, Value, means, fails, valueOf, answer, read-as, one, alone, joined, asWritten, read, meaning}
 use Rattle.laws.proofs.basics.Tests.{and-left, and-right}
 use Rattle.laws.proofs.walking.Walks.{FitsIn, fits-size}
 use Rattle.laws.proofs.cutting.Openings.{opening-mark, apart-of-mark, mark-0}
-use Rattle.laws.proofs.questions.Ranges.{Bounds, BodyIn, spelling-body}
+use Rattle.laws.proofs.joining.Joining.{fails≢means, both-means, value-written}
+use Rattle.laws.proofs.questions.Ranges.{Between, BodyIn, spelling-body}
 use Rattle.laws.proofs.walking.StepBounds.{Bounded, Steady, standard-steady, escape-steady, unicode-steady}
 use Rattle.laws.proofs.walking.Passes.{courseBy, course-same}
 
@@ -69,9 +70,9 @@ pub course-size : (x : Bool) (step : List ℕ → Step) → Steady step → (t :
 course-size false step ok t = omega (arith, walk-size step ok 0 t (omega arith))
 course-size true step ok t = omega (arith, walk-size step ok 0 t (omega arith), checked-size fresh (walk step 0 t))
 
--- of a value in a text of n bytes
+-- of a value in a text of n bytes, two of them marks
 abbrev pub Bound : Value → ℕ → Type 0
-Bound (means v) n = length v ≤ n
+Bound (means v) n = length v + 2 ≤ n
 Bound (fails p) n = p ≤ n
 
 -- A BODY
@@ -80,21 +81,22 @@ module _ (x : Bool) (step : List ℕ → Step) (t : List ℕ) (f u : ℕ) where
   course = courseBy x (walk step 0 (part f u t))
 
   -- its numbers lie inside the text
-  body-bound : Steady step → Bounds (length t) f u → Bound (valueOf t (answer f u course)) (length t)
+  body-bound : Steady step → Between (length t) f u → Bound (valueOf t (answer f u course)) (length t)
   unfolding answer
   body-bound ok b = go (plain course) (stops course) refl
     where
-      room : length (part f u t) + f ≤ length t
-      room = omega (arith, length-take (u - f) (drop f t), length-drop f t, b .ordered, b .inside)
+      room : length (part f u t) + f + 1 ≤ length t
+      room = omega (arith, length-take (u - f) (drop f t), length-drop f t, b .ordered, b .closed)
 
       go : (y z : Bool) → stops course ≡ z → Bound (valueOf t (if y then borrowed f u else if z then refused (f + size course) else written (value course)))
           (length t)
-      go true z h = omega (arith, room)
+      go true z h = omega (arith, room, b .opened)
       go false true h = omega (arith, room, course-size x step ok (part f u t))
       go false false h =
           omega (
             arith,
             room,
+            b .opened,
             walk-short step ok 0 (part f u t) (omega arith),
             ap (λ (r : Trace). length (value r)) (course-same x (walk step 0 (part f u t)) h),
           )
@@ -168,7 +170,7 @@ as-bound : (σ : Settings) (t : List ℕ) (s : Spelling) → BodyIn (length t) s
 as-bound σ t (standard q f u) b m = body-bound false (standardStep (σ .backslash) q) t f u (standard-steady (σ .backslash) q m) b
 as-bound σ t (escape f u) b m = body-bound true escapeStep t f u escape-steady b
 as-bound σ t (unicode e f u) b m = body-bound false (unicodeStep e quote) t f u (unicode-steady e quote refl) b
-as-bound σ t (dollar f u) b m = omega (arith, length-take (u - f) (drop f t), length-drop f t, b .ordered, b .inside)
+as-bound σ t (dollar f u) b m = omega (arith, length-take (u - f) (drop f t), length-drop f t, b .opened, b .ordered, b .closed)
 as-bound σ t unspelt b m = omega arith
 
 pub alone-bound : (σ : Settings) (t : List ℕ) → Bound (alone σ t) (length t)
@@ -178,3 +180,45 @@ alone-bound σ t = go (has 0 t)
     go : (x : Bool) → Bound (valueOf t (if x then refused 0 else read-as σ t (spelling t))) (length t)
     go true = omega arith
     go false = as-bound σ t (spelling t) (spelling-body t) (spelling-mark t)
+
+-- A WHOLE TEXT. Its segments mean no more than what is left behind k bytes that are passed
+module _ (σ : Settings) where
+  abbrev cutFrom : ℕ → List ℕ → Trace
+  cutFrom k t = walk (segmentStep σ) k t
+
+  -- the first segment's marks count
+  first-short : (b : ℕ) (t v : List ℕ) → ((k : ℕ) (w : List ℕ) → joined σ (cutFrom k t) ≡ means w → length w ≤ length t - k)
+      → joined σ (cutFrom 0 (b ∷ t)) ≡ means v → length v + 2 ≤ suc (length t)
+  unfolding segmentStep
+  first-short b t v ih h = go (segment σ (b ∷ t)) h
+    where
+      go : (n : ℕ) → joined σ (after (segmentBy (b ∷ t) n) b (λ k. cutFrom k t)) ≡ means v → length v + 2 ≤ suc (length t)
+      go zero g = absurd (fails≢means 0 v g)
+      go (suc n) g =
+          let m : ℕ = n + gap (drop (suc n) (b ∷ t)) in
+          let s : List ℕ = take (suc n) (b ∷ t) in
+          let p = both-means (alone σ s) (joined σ (cutFrom m t)) (suc m) v g in
+          let l : length (p .0) + 2 ≤ length s = subst (λ (x : Value). Bound x (length s)) (p .2) (alone-bound σ s) in
+          omega (arith, l, ih m (p .1) (p .3), ap length (p .4), length-append (p .0) (p .1), length-take (suc n) (b ∷ t))
+
+  joined-short : (k : ℕ) (t v : List ℕ) → joined σ (cutFrom k t) ≡ means v → length v ≤ length t - k
+  joined-short k [] v h = let z : [] ≡ v = cc in omega (arith, ap length z)
+  joined-short (suc k) (b ∷ t) v h = omega (arith, joined-short k t v h)
+  joined-short zero (b ∷ t) v h = omega (arith, first-short b t v (λ k w. joined-short k t w) h)
+
+  -- a value is shorter than its text by two bytes at least
+  pub meaning-length : (t v : List ℕ) → meaning σ t ≡ means v → length v + 2 ≤ length t
+  unfolding read cut continues segment
+  meaning-length t v h = go (continues σ t) refl h
+    where
+      some : (u : List ℕ) → continues σ u ≡ true → joined σ (cutFrom 0 u) ≡ means v → length v + 2 ≤ length u
+      some [] c g = absurd (false≢true c)
+      some (b ∷ u) c g = first-short b u v (λ k w. joined-short k u w) g
+
+      go : (x : Bool) → continues σ t ≡ x → valueOf t (if x then asWritten (joined σ (cutFrom 0 t)) else one σ t) ≡ means v → length v + 2 ≤ length t
+      go true c g = some t c (sym (value-written t (joined σ (cutFrom 0 t))) ∙ g)
+      go false c g = subst (λ (x : Value). Bound x (length t)) g (alone-bound σ t)
+
+  -- so what is written of it, too
+  pub read-length : (t v : List ℕ) → read σ t ≡ written v → length v + 2 ≤ length t
+  read-length t v h = meaning-length t v (ap (valueOf t) h)

@@ -3,7 +3,7 @@ use mathlib.Core.Path.{_≡_, sym, ap}
 use Prim.Native.Nat.{ℕ, suc, _+_, _-_, _≤_}
 use native.Mathlib.Omega.{arith}
 use Rattle.meaning.specs.declared.LiteralKind.the-variants.{Null}
-use Rattle.meaning.specs.Records.{kindOf, kindBy, kinds}
+use Rattle.meaning.specs.Codes.{kindOf, kindBy, kinds}
 use Rattle.admitting.proofs.kinds.kind_of.Statement.{statement}
 use Rattle.admitting.proofs.kinds.kind_of.Tie as tie
 

@@ -1,6 +1,6 @@
 -- `strings::reading::read_string` meets its contract, by how the text fits. Assumes nothing.
 use borrow.Author.Needs.{needs}
-use Rattle.strings.proofs.Fits.{fit-long, fit-checks, clean, answered-checks, onward-checks, other-not, other-checks}
+use Rattle.strings.proofs.Fits.{fit-long, fit-checks, clean, borrowed-checks, written-checks, lacking-checks, onward-checks, other-not, other-checks}
 use Rattle.strings.proofs.reading.read_string.Statement.{statement}
 use Rattle.strings.proofs.reading.read_string.Tie as tie
 
@@ -15,7 +15,7 @@ read-string-spec =
     (λ c κs. clean _ _ _ (c .before .before .before .fit-of .ensures) (c .before .enum-told2 .given .1))
     (λ c. search needs)
     (λ c. search needs)
-    (λ c. search answered-checks)
+    (λ c. search needs)
     (λ c. search needs)
     (λ c κs. search needs)
     (λ c. search needs)
@@ -23,6 +23,12 @@ read-string-spec =
     (λ c. search other-not)
     (λ c κs. search needs)
     (λ c. search fit-checks)
+    (λ c. search needs)
+    (λ c. search borrowed-checks)
+    (λ c. search needs)
+    (λ c. search written-checks)
+    (λ c. search needs)
+    (λ c. search lacking-checks)
     (λ c. search needs)
     (λ c. search onward-checks)
     (λ c. search needs)

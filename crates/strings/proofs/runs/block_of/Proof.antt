@@ -2,12 +2,12 @@
 use Prim.Native.Nat.{_-_}
 use native.Mathlib.Omega.{arith}
 use borrow.Author.Needs.{needs}
-use Rattle.strings.proofs.RunCopies.{Sixteen, sixteen-none, sixteen-turn, block-made}
+use Rattle.strings.proofs.RunCopies.{Putting, putting-none, putting-turn, block-made}
 use Rattle.strings.proofs.runs.block_of.Statement.{statement}
 use Rattle.strings.proofs.runs.block_of.Tie as tie
 
 abbrev Inv-loop : tie.InvT-loop
-Inv-loop text block₀ j₀ block j = Sixteen text block₀ block j
+Inv-loop text block₀ j₀ block j = Putting 16 text block₀ block j
 
 abbrev μ-loop : tie.MeasureT-loop
 μ-loop text block₀ j₀ block j = 16 - j
@@ -18,10 +18,10 @@ block-of-spec =
     (tie.spec
     Inv-loop
     μ-loop
-    (λ c. sixteen-none _ _ (search needs) (omega arith))
+    (λ c. putting-none 16 _ _ (search needs) (omega arith))
     (λ c. omega arith)
     (λ c. omega arith)
     (λ c. omega arith)
     (λ c. omega arith)
-    (λ c. search sixteen-turn)
+    (λ c. search putting-turn)
     (λ c. search block-made))

@@ -1,4 +1,5 @@
--- `strings::runs::copy_run` meets its contract: the last bytes one by one; else a block is put, and eight bytes and eight more tell the run in it. Assumes nothing.
+-- `strings::runs::copy_run` meets its contract: less than eight bytes one by one; less than sixteen by two words; else a block is put, and eight bytes and eight
+-- more tell the run in it. Assumes nothing.
 use native.Mathlib.Omega.{arith}
 use borrow.Author.Needs.{needs}
 use Rattle.strings.proofs.RunCopies.{eight-most, copied-low, copied-high}
@@ -9,6 +10,9 @@ pub copy-run-spec : {M : Type 1} → statement M
 copy-run-spec =
     tie.close
     (tie.spec
+    (λ c κs. search needs)
+    (λ c. search needs)
+    (λ c. search needs)
     (λ c κs. search needs)
     (λ c. search needs)
     (λ c. search needs)

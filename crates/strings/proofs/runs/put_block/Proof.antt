@@ -2,12 +2,12 @@
 use Prim.Native.Nat.{_-_}
 use native.Mathlib.Omega.{arith}
 use borrow.Author.Needs.{needs}
-use Rattle.strings.proofs.RunCopies.{Sixteen, sixteen-none, sixteen-turn, block-put}
+use Rattle.strings.proofs.RunCopies.{Putting, putting-none, putting-turn, block-put}
 use Rattle.strings.proofs.runs.put_block.Statement.{statement}
 use Rattle.strings.proofs.runs.put_block.Tie as tie
 
 abbrev Inv-loop : tie.InvT-loop
-Inv-loop out₀ block j₀ out j = Sixteen block out₀ out j
+Inv-loop out₀ block j₀ out j = Putting 16 block out₀ out j
 
 abbrev μ-loop : tie.MeasureT-loop
 μ-loop out₀ block j₀ out j = 16 - j
@@ -18,11 +18,11 @@ put-block-spec =
     (tie.spec
     Inv-loop
     μ-loop
-    (λ c. sixteen-none _ _ (search needs) (search needs))
+    (λ c. putting-none 16 _ _ (search needs) (search needs))
     (λ c. omega arith)
     (λ c. omega arith)
     (λ c. omega arith)
     (λ c. omega arith)
-    (λ c. search sixteen-turn)
+    (λ c. search putting-turn)
     (λ c. search needs)
     (λ c. search (block-put, needs)))

@@ -1,20 +1,22 @@
 // A literal and a setting by their numbers.
-use admitting::kinds::kind_of;
+use crate::kinds::kind_of;
 use meaning::Literal;
 use meaning::Settings;
 use meaning::Span;
 ghost use mathlib.Core.Path.{_≡_};
-ghost use Rattle.valdrabus.specs.Literals.{isKnown, literalOf, settingsOf};
+ghost use Rattle.meaning.specs.Codes.{isKnown, literalOf, settingsOf};
 
 // Whether the numbers name a kind, a mark and a setting.
-pub(crate) fn is_known(kind: u32, synthetic: u32, setting: u32) -> bool
+// Rules out: 15 taken for a kind; a setting of 2 taken for one (must-fail: number_past_the_last, setting_past_the_last).
+pub fn is_known(kind: u32, synthetic: u32, setting: u32) -> bool
     ensures { λ r. ⌜ r ≡ isKnown kind synthetic setting ⌝ }
 {
     ((1 <= kind) & (kind <= 14)) & ((synthetic <= 1) & (setting <= 1))
 }
 
 // The literal that four numbers stand for.
-pub(crate) fn literal_of(kind: u32, synthetic: u32, start: u32, end: u32) -> Literal
+// Rules out: the mark turned round; start and end exchanged (must-fail: setting_past_the_last, number_past_the_last).
+pub fn literal_of(kind: u32, synthetic: u32, start: u32, end: u32) -> Literal
     ensures { λ r. ⌜ r ≡ literalOf kind synthetic start end ⌝ }
 {
     Literal {
@@ -25,7 +27,8 @@ pub(crate) fn literal_of(kind: u32, synthetic: u32, start: u32, end: u32) -> Lit
 }
 
 // The setting that a number stands for.
-pub(crate) fn settings_of(setting: u32) -> Settings
+// Rules out: on for off; off for on (must-fail: number_past_the_last, setting_past_the_last).
+pub fn settings_of(setting: u32) -> Settings
     ensures { λ r. ⌜ r ≡ settingsOf setting ⌝ }
 {
     Settings {

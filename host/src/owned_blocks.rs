@@ -1,0 +1,115 @@
+//! Blocks with memory of their own.
+
+use crate::blocks::{self, Block, LONGEST_BUFFER, Texts};
+use crate::errors::Error;
+use crate::items::{Item, Told};
+use crate::source::Source;
+use std::fmt;
+
+/// As [`read_block`](crate::read_block), with memory of its own for answers and written texts, so that no item is refused by 9.
+///
+/// It asks without a buffer first, which is all that rows of plain literals need; where texts are to be written, it asks again with a buffer that just holds them.
+///
+/// ```
+/// use valdrabus::{Item, Kind, Literal, Text, to_block};
+///
+/// let list = "'Aspirin'\n'Bob''s balm'\n'50' ' ml'";
+/// let items = [0..9, 10..23, 24..34].map(|span| Item::from(Literal::new(Kind::String, span)));
+///
+/// let block = to_block(&items, list)?;
+/// let names: Vec<Text> = block.iter().collect::<Result<_, _>>()?;
+/// assert_eq!(names, [Text::Borrowed("Aspirin"), Text::Written("Bob's balm"), Text::Written("50 ml")]);
+/// # Ok::<(), valdrabus::Error>(())
+/// ```
+///
+/// # Errors
+///
+/// 15, for the whole call, if the written texts need more than [`LONGEST_BUFFER`] bytes together. An item's own refusal stands in the block: 1, 2, 3, 6.
+pub fn to_block<'s>(items: &[Item], source: &'s str) -> Result<BlockBuf<'s>, Error> {
+    owned(items, source)
+}
+
+/// [`to_block`] over bytes, as of a dump that may not be UTF-8 throughout.
+///
+/// ```
+/// use valdrabus::{Item, Kind, Literal, Text, to_block_bytes};
+///
+/// let items = [0..6, 8..15].map(|span| Item::from(Literal::new(Kind::String, span)));
+/// let block = to_block_bytes(&items, b"'caf\xE9', 'it''s'")?;
+/// let mut texts = block.iter();
+/// assert_eq!(texts.next().unwrap().unwrap_err().number(), 4);
+/// assert_eq!(texts.next(), Some(Ok(Text::Written(&b"it's"[..]))));
+/// # Ok::<(), valdrabus::Error>(())
+/// ```
+///
+/// # Errors
+///
+/// As [`to_block`]; an item can be refused by 4 as well.
+pub fn to_block_bytes<'s>(items: &[Item], source: &'s [u8]) -> Result<BlockBuf<'s, [u8]>, Error> {
+    owned(items, source)
+}
+
+fn owned<'s, T: Source + ?Sized>(items: &[Item], source: &'s T) -> Result<BlockBuf<'s, T>, Error> {
+    let answers = vec![Told::default(); items.len()];
+    let mut block = BlockBuf { items: items.to_vec(), source, answers, out: Vec::new() };
+    let needed = block.read()?.needed();
+    if needed > LONGEST_BUFFER {
+        // The call would say the same, of a buffer that is too long to be made.
+        return Err(Error::BadBlock);
+    }
+    if needed > 0 {
+        block.out = vec![0; needed];
+        block.read()?;
+    }
+    Ok(block)
+}
+
+/// A block that owns its answers and its buffer: [`to_block`], [`to_block_bytes`]. It keeps a copy of the items too, so that it borrows from the source alone.
+pub struct BlockBuf<'s, T: ?Sized = str> {
+    items: Vec<Item>,
+    source: &'s T,
+    answers: Vec<Told>,
+    out: Vec<u8>,
+}
+
+impl<'s, T: Source + ?Sized> BlockBuf<'s, T> {
+    /// Asks about all items with the buffer as long as it is.
+    fn read(&mut self) -> Result<Block<'s, '_, T>, Error> {
+        blocks::read(&self.items, self.source, &mut self.answers, &mut self.out)
+    }
+
+    /// The answers, as a lent block shows them.
+    ///
+    /// ```
+    /// use valdrabus::{Item, Kind, Literal, Text, to_block};
+    ///
+    /// let block = to_block(&[Literal::new(Kind::String, 0..7).into()], "'it''s'")?;
+    /// assert_eq!(block.as_block().get(0), Some(Ok(Text::Written("it's"))));
+    /// assert_eq!((block.as_block().len(), block.as_block().used()), (1, 4));
+    /// # Ok::<(), valdrabus::Error>(())
+    /// ```
+    pub fn as_block(&self) -> Block<'s, '_, T> {
+        Block { items: &self.items, source: self.source, answers: &self.answers, out: &self.out }
+    }
+
+    /// All answers, in the order of the items.
+    pub fn iter(&self) -> Texts<'s, '_, T> {
+        self.as_block().iter()
+    }
+}
+
+impl<'s, 'b, T: Source + ?Sized> IntoIterator for &'b BlockBuf<'s, T> {
+    type Item = <Block<'s, 'b, T> as IntoIterator>::Item;
+    type IntoIter = Texts<'s, 'b, T>;
+
+    fn into_iter(self) -> Texts<'s, 'b, T> {
+        self.iter()
+    }
+}
+
+/// Shows the answers.
+impl<T: Source + ?Sized + fmt::Debug> fmt::Debug for BlockBuf<'_, T> {
+    fn fmt(&self, f: &mut fmt::Formatter<'_>) -> fmt::Result {
+        self.as_block().fmt(f)
+    }
+}

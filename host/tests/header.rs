@@ -1,0 +1,71 @@
+//! That `sys` declares the functions of `include/valdrabus.h`, each with the same parameters in the same order. The linker compares names alone.
+
+use std::collections::BTreeMap;
+
+/// Each function's parameters and what it returns, in Rust's words.
+type Functions = BTreeMap<String, String>;
+
+fn read(path: &str) -> String {
+    let path = format!("{}/{path}", env!("CARGO_MANIFEST_DIR"));
+    std::fs::read_to_string(&path).unwrap_or_else(|why| panic!("{path}: {why}"))
+}
+
+fn scalar(c: &str) -> &str {
+    match c {
+        "uint8_t" => "u8",
+        "uint32_t" => "u32",
+        "int64_t" => "i64",
+        "size_t" => "usize",
+        "bool" => "bool",
+        _ => panic!("no type of the header: {c}"),
+    }
+}
+
+/// `const uint8_t *source` as `source: *const u8`.
+fn parameter(c: &str) -> String {
+    let (form, name) = c.trim().rsplit_once(' ').expect("a type and a name");
+    match (name.strip_prefix('*'), form.strip_prefix("const ")) {
+        (Some(name), Some(form)) => format!("{name}: *const {}", scalar(form)),
+        (Some(name), None) => format!("{name}: *mut {}", scalar(form)),
+        (None, _) => format!("{name}: {}", scalar(form)),
+    }
+}
+
+/// A name and a list of parameters, up to the bracket that closes it.
+fn split(declaration: &str) -> (&str, impl Iterator<Item = &str>) {
+    let (name, rest) = declaration.split_once('(').expect("parameters");
+    let (parameters, _) = rest.split_once(')').expect("their end");
+    (name, parameters.split(',').map(str::trim).filter(|parameter| !parameter.is_empty()))
+}
+
+/// A declaration begins a line with the type that is returned.
+fn of_header() -> Functions {
+    let header = read("../include/valdrabus.h");
+    let mut functions = Functions::new();
+    for returned in ["uint32_t", "bool"] {
+        for declaration in header.split(&format!("\n{returned} ")).skip(1) {
+            let (name, parameters) = split(declaration);
+            let parameters: Vec<String> = parameters.map(parameter).collect();
+            functions.insert(name.into(), format!("({}) -> {}", parameters.join(", "), scalar(returned)));
+        }
+    }
+    functions
+}
+
+fn of_sys() -> Functions {
+    let sys = read("src/sys.rs");
+    let declarations = sys.split("pub fn ").skip(1);
+    let functions = declarations.map(|declaration| {
+        let (name, parameters) = split(declaration);
+        let (_, rest) = declaration.split_once(" -> ").expect("what is returned");
+        let (returned, _) = rest.split_once(';').expect("its end");
+        (name.into(), format!("({}) -> {returned}", parameters.collect::<Vec<_>>().join(", ")))
+    });
+    functions.collect()
+}
+
+#[test]
+fn sys_is_the_header() {
+    assert_eq!(of_header(), of_sys());
+    assert!(of_sys().contains_key("valdrabus_as_str_in"));
+}
