@@ -164,7 +164,10 @@ impl fmt::Display for Error {
             Error::HoldsNul => write!(f, "the value holds a NUL: only plain literals with backslash escapes spell it"),
             Error::OverLimit => write!(f, "the value is too long to be written, or the part size too small"),
             Error::BadBlock => {
-                write!(f, "the block has fewer answers than items, or takes a buffer longer than {LONGEST_BUFFER} bytes")
+                write!(
+                    f,
+                    "the block has fewer answers than items, or takes a buffer longer than {LONGEST_BUFFER} bytes"
+                )
             }
         }?;
         write!(f, " (number {})", self.number())
