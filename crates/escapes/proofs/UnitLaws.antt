@@ -9,13 +9,14 @@ use native.Mathlib.Numerals.{add-one}
 use native.Mathlib.Omega.{arith}
 use borrow.Author.Tests.{eq-eqb, ne-eqb, lt-ltb, le-ltb, ltb-true, ltb-false, le-leb, leb-true, not-true, not-false}
 use lib.Dec.{eqb, ltb, leb}
-use lib.ListN.{length, drop, length-drop, drop-of-length-le}
+use lib.ListN.{length, take, drop, length-drop, drop-of-length-le}
 use lib.Seq.{drop-cons, drop-drop, getD-drop}
 use Rattle.meaning.specs.Bytes.{if_then_else_, _!_, ascii, has, starts, within, backslash, digit, digits, number}
 use Rattle.meaning.specs.Chars.{encode, isScalar}
 use Rattle.meaning.specs.Walk.{Step, keep, give, stop}
 use Rattle.meaning.specs.Steps.{byteOf, mysqlTable, escapeTable, doubled, mysql, oneByte, mayEscape, scalarBy, escaped, pair, lowHalf, uescaped, standardStep}
 use Rattle.meaning.specs.Steps.{escapeStep, unicodeStep}
+use Rattle.laws.proofs.basics.Lists.{part-tail}
 use Rattle.laws.proofs.basics.Tests.{and-left, and-right, eqb-sym, within-yes, within-below, within-above, within-bounds}
 use Rattle.laws.proofs.utf8.Encode.{isScalar-yes}
 use Rattle.laws.proofs.basics.Digits.{digits-le, number-digits-lt}
@@ -261,9 +262,11 @@ module _ (l : List ℕ) (at : ℕ) (h : at < length l) where
   unfolding digit within
   escaped-four c v e = here (rw c (scalar-by 4 5 (drop (at + 1) l) ∙ ap (scalarOf 5) (sym e))) (Scalar v 5) (record { means = λ _. refl })
 
-  pub escaped-eight : l ! at ≡ 85 → (v : ℕ) → v ≡ hexBy 8 (drop (at + 1) l) → Is (Scalar v 9) (escaped (drop at l))
+  pub escaped-eight : l ! at ≡ 85 → (v : ℕ) → v ≡ hexBy 8 (drop 1 (take (length l - at) (drop at l))) → Is (Scalar v 9) (escaped (drop at l))
   unfolding digit within
-  escaped-eight c v e = here (rw c (scalar-by 8 9 (drop (at + 1) l) ∙ ap (scalarOf 9) (sym e))) (Scalar v 9) (record { means = λ _. refl })
+  escaped-eight c v e =
+      let e′ : v ≡ hexBy 8 (drop (at + 1) l) = e ∙ ap (λ (t : List ℕ). hexBy 8 (drop 1 t)) (part-tail l at) ∙ ap (hexBy 8) (drop-drop 1 at l) in
+      here (rw c (scalar-by 8 9 (drop (at + 1) l) ∙ ap (scalarOf 9) (sym e′))) (Scalar v 9) (record { means = λ _. refl })
 
 -- U&. The low half that a high half h needs next
 module _ (e l : List ℕ) (at h : ℕ) (x : Bool) (ex : x ≡ starts e (drop at l)) where

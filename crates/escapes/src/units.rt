@@ -128,7 +128,8 @@ pub fn escaped_unit(body: &[u8], at: usize) -> Piece
         return Piece::Scalar(four_at(body, at + 1), 5);
     }
     if letter == 85 {
-        return Piece::Scalar(eight_at(body, at + 1), 9);
+        // A part, since the body as it was lent would come through memory, on the other ways too, and be waited for.
+        return Piece::Scalar(eight_at(&body[at..], 1), 9);
     }
     byte_unit(escape_letter(letter), 1)
 }

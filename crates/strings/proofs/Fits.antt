@@ -3,7 +3,7 @@ use mathlib.Core.Path.{_≡_, refl, sym, _∙_, subst}
 use mathlib.Core.Bool.{Bool, true, false, _&&_, not}
 use mathlib.Core.List.{List}
 use Prim.Native.Nat.{ℕ, _-_, _≤_}
-use lib.ListN.{length}
+use lib.ListN.{length, take, drop}
 use borrow.Author.Tests.{not-true, not-false}
 use Rattle.meaning.specs.declared.Settings.{Settings}
 use Rattle.meaning.specs.declared.Read.{Read}
@@ -12,6 +12,7 @@ use Rattle.meaning.specs.Bytes.{has}
 use Rattle.meaning.specs.Chars.{utf8}
 use Rattle.meaning.specs.Reading.{read}
 use Rattle.meaning.specs.Reads.{Reads}
+use Rattle.laws.proofs.basics.Lists.{part-tail}
 use Rattle.laws.proofs.basics.Tests.{and-left, and-right}
 use Rattle.leaves.specs.Blocks.{passes}
 use Rattle.utf8.specs.Plain.{plainOf}
@@ -20,13 +21,19 @@ use Rattle.strings.specs.declared.quick.Quick.{Quick}
 use Rattle.strings.specs.declared.quick.Quick.the-variants as Quick′
 use Rattle.strings.specs.declared.reading.Fit.{Fit}
 use Rattle.strings.specs.declared.reading.Fit.the-variants as Fit′
+use Rattle.strings.specs.declared.reading.Checked.{Checked}
 use Rattle.strings.specs.declared.reading.Checked.the-variants as Checked′
 use Rattle.strings.specs.Plain.{isPlain, PlainAscii}
-use Rattle.strings.specs.Driving.{FitBy, FitsAs, QuickReads, Checks}
+use Rattle.strings.specs.Driving.{FitBy, FitsAs, QuickReads, ChecksBy, Checks}
 use Rattle.strings.proofs.Plains.{plain-long, plain-borrowed}
 use Rattle.strings.proofs.QuickAnswers.{borrowed-reads, written-reads, lacking-reads, onward-reads}
 
 module _ (σ : Settings) (t : List ℕ) where
+  -- THE TEXT, taken as the part of itself that it is
+  pub whole : (out : List ℕ) (r : Checked) (after : List ℕ)
+      → Checks (utf8 (take (length t - 0) (drop 0 t))) (read σ (take (length t - 0) (drop 0 t))) out r after → Checks (utf8 t) (read σ t) out r after
+  whole out r after = subst (λ s. Checks (utf8 s) (read σ s) out r after) (part-tail t 0)
+
   -- WHAT THE SCANS TELL
   pub fit-run : (a b : ℕ) (x : Bool) → x ≡ passes (plainOf a b) (length t) t → x ≡ true → FitsAs σ t Fit′.Clean
   fit-run a b x e h = record { by = run-clean a b t x e h }
@@ -84,6 +91,14 @@ module _ (σ : Settings) (t : List ℕ) where
 
     pub other-checks : not x ≡ false → (r : Read) (last : List ℕ) → Reads (read σ t) out r last → Checks (utf8 t) (read σ t) out (Checked′.Text r) last
     other-checks y r last w = record { by = (sym e ∙ not-false x y, w) }
+
+  -- ONE THAT WAS TESTED: read, or left as it was
+  module _ (out : List ℕ) (c : Checked) (after : List ℕ) (x : Checks (utf8 t) (read σ t) out c after) where
+    pub text-reads : (r : Read) → c ≡ Checked′.Text r → Reads (read σ t) out r after
+    text-reads r z = subst (λ d. ChecksBy (utf8 t) (read σ t) out d after) z (x .by) .1
+
+    pub not-reads : c ≡ Checked′.NotUtf8 → (r : Read) (last : List ℕ) → Reads (read σ t) after r last → Reads (read σ t) out r last
+    not-reads z r last w = subst (λ b. Reads (read σ t) b r last) (subst (λ d. ChecksBy (utf8 t) (read σ t) out d after) z (x .by) .1) w
 
   -- A PLAIN TEXT IN ASCII, told by its scan
   module _ (x : Bool) (p : PlainAscii σ t x) (e : x ≡ true) where

@@ -27,6 +27,8 @@ escaped-unit-spec =
     (λ c κs. search needs)
     (λ c. search escaped-four)
     (λ c. search needs)
+    (λ c. search needs)
+    (λ c. search needs)
     (λ c κs. search needs)
     (λ c. search escaped-eight)
     (λ c κs. search needs)

@@ -1,7 +1,6 @@
--- `strings::reading::read_bytes` meets its contract: a plain text is told by its scan, any other by how it fits. Assumes nothing.
+-- `strings::reading::read_bytes` meets its contract: a plain text is told by its scan, any other that is UTF-8 by its reading. Assumes nothing.
 use borrow.Author.Needs.{needs}
-use Rattle.strings.proofs.Fits.{ascii-long, ascii-reads, fit-long, fit-reads, clean}
-use Rattle.strings.proofs.QuickAnswers.{borrowed-reads, written-reads, lacking-reads, onward-reads}
+use Rattle.strings.proofs.Fits.{ascii-long, ascii-reads, text-reads, not-reads}
 use Rattle.strings.proofs.reading.read_bytes.Statement.{statement}
 use Rattle.strings.proofs.reading.read_bytes.Tie as tie
 
@@ -14,24 +13,9 @@ read-bytes-spec =
     (λ c. search ascii-reads)
     (λ c κs. search needs)
     (λ c. search needs)
-    (λ c. search fit-long)
-    (λ c. search needs)
-    (λ c κs. clean _ _ _ (c .before .before .before .fit-of .ensures) (c .before .enum-told2 .given .1))
-    (λ c. search needs)
-    (λ c. search needs)
-    (λ c. search needs)
     (λ c. search needs)
     (λ c κs. search needs)
     (λ c. search needs)
-    (λ c κs. search needs)
-    (λ c. search fit-reads)
+    (λ c. search text-reads)
     (λ c. search needs)
-    (λ c. search borrowed-reads)
-    (λ c. search needs)
-    (λ c. search written-reads)
-    (λ c. search needs)
-    (λ c. search lacking-reads)
-    (λ c. search needs)
-    (λ c. search onward-reads)
-    (λ c. search needs)
-    (λ c. search needs))
+    (λ c. search not-reads))
