@@ -29,7 +29,7 @@ use Rattle.laws.proofs.questions.Unreached.{kindOf-code}
 use Rattle.laws.proofs.questions.Ranges.{Bounds, AnswerIn, read-inside, span-range}
 use Rattle.strings.specs.declared.reading.Checked.{Checked}
 use Rattle.strings.specs.declared.reading.Checked.the-variants as Checked′
-use Rattle.strings.specs.Plain.{PlainAscii}
+use Rattle.strings.specs.Plain.{isPlainAscii}
 use Rattle.strings.specs.Driving.{ChecksBy, Checks}
 use Rattle.strings.proofs.Fits.{ascii-checks}
 use Rattle.blocks.specs.declared.items.Told.{Told}
@@ -84,9 +84,6 @@ module _ {s used : ℕ} {q : Read} (i : InBlock s used q) where
 
     pub start-fits : s + f ≤ 4294967295
     start-fits = omega (arith, ordered, last)
-
-    pub end-fits : s + u ≤ 4294967295
-    end-fits = last
 
     pub len-fits : u - f ≤ 4294967295
     len-fits = omega (arith, last)
@@ -199,7 +196,7 @@ module _ (S : List ℕ) (used : ℕ) (out : List ℕ) (i : Item) where
                   in-block (i .start) used (length text) out (read σ text) a (reads .1 .answer) (read-inside σ text) (read-length σ text) n h
 
           -- A PLAIN TEXT IN ASCII is its body
-          module _ (σ : Settings) (g : σ ≡ settingsOf (i .setting)) (y : Bool) (p : PlainAscii σ text y) (z : y ≡ true) where
+          module _ (σ : Settings) (g : σ ≡ settingsOf (i .setting)) (y : Bool) (p : y ≡ isPlainAscii σ text) (z : y ≡ true) where
             abbrev body : Read
             body = Read′.Borrowed 1 (length text - 1)
 

@@ -45,8 +45,9 @@ fn refused(number: u32) -> Told
 }
 
 // A reading of the text at a place of the source, into the buffer behind `used` bytes.
-// Rules out: room taken without a text in it; a text told by its end, by its length, or as one of the other slice (must-fail: room_taken_by_a_refusal,
-// room_taken_by_a_borrowed_text, end_for_start, start_by_the_length, start_in_its_room, written_told_as_borrowed, lack_told_as_refused).
+// Rules out: room taken without a text in it, or none by a text; a text told by its end, by its length, or as one of the other slice (must-fail:
+// room_taken_by_a_refusal, room_taken_by_a_borrowed_text, nothing_taken, end_for_start, start_by_the_length, start_in_its_room, written_told_as_borrowed,
+// lack_told_as_refused).
 fn read_told(read: Read, start: usize, used: usize) -> Told
     requires { ⌜ InBlock start used read ⌝ }
     ensures { λ r. ⌜ r ≡ readTold start used read ⌝ }
@@ -60,8 +61,8 @@ fn read_told(read: Read, start: usize, used: usize) -> Told
 }
 
 // Reads an item into the room that is left of the buffer, behind `used` bytes of it.
-// Rules out: a setting not asked, so that 1 comes before 10, or known by a bit; one number for another; another kind read; one setting for all (must-fail:
-// setting_not_asked, setting_by_its_low_bit, unknown_told_as_wrong_kind, wrong_kind_told_as_unknown, bad_span_told_as_not_utf8, dates_read, setting_off_for_all).
+// Rules out: a setting not asked, so that 1 comes before 10; one number for another; another kind read; one setting for all (must-fail: setting_not_asked,
+// unknown_told_as_wrong_kind, wrong_kind_told_as_unknown, bad_span_told_as_not_utf8, dates_read, setting_off_for_all).
 pub(crate) fn read_item(item: Item, source: &[u8], used: usize, room: &mut [u8]) -> Told
     requires { ⌜ used + length (now room) ≤ 4294967295 ⌝ }
     ensures { λ r. ⌜ Asks (itemAsked (now (source .entry)) used (now (room .entry)) item) r (now (room .exit)) ⌝ }

@@ -104,7 +104,7 @@ use Rattle.laws.proofs.questions.BlockCalls.{Admitted, ZeroOr15, BlockL
 use Rattle.laws.proofs.questions.BlockSplits as BlockSplits
 use Rattle.laws.proofs.questions.BlockSplits.{movedStarts}
 use Rattle.laws.proofs.questions.BlockReturns as BlockReturns
-use Rattle.laws.proofs.questions.BlockReturns.{BlockCall, roomFrom, Returned, Splits}
+use Rattle.laws.proofs.questions.BlockReturns.{BlockCall, roomFrom, Returned, LeavesOut, Splits}
 use Rattle.laws.proofs.tables.Starred as Starred
 use Rattle.laws.proofs.tables.Controls as Controls
 use Rattle.laws.proofs.tables.Controls.{Program, Telling, WritesAt, ShutOut}
@@ -515,8 +515,22 @@ module _ (a : List ℕ) (k g s e : ℕ) (b S : List ℕ) (f : length a % 4 ≡ 0
       → Meets (stringQuestion (literalOf k 0 s e) S (settingsOf g) (drop (roomFrom c (length a)) (c .lent))) r d → Returned c (length a) r d
   block-calls = BlockReturns.block-calls a k g s e b S f c z
 
+  -- "a refused item takes no room and stops nothing": a call without it leaves the same buffer, and tells the same of the others
+  pub block-calls-refused : (take 4 (drop (length a) (c .told)) ! 0 ≡ 0 → ⊥) → (v : BlockCall (a ++ b) S) → v .result ≡ 0 → v .lent ≡ c .lent
+      → LeavesOut a b S c v
+  block-calls-refused = BlockReturns.refused-out a k g s e b S f c z
+
   pub block-calls-unknown : isKnown k 0 g ≡ false → take 4 (drop (length a) (c .told)) ≡ 10 ∷ 0 ∷ 0 ∷ 0 ∷ []
   block-calls-unknown = BlockReturns.block-calls-unknown a k g s e b S f c z
+
+-- the buffer at the end: what is written, one after the other, and the rest as lent; of calls, too
+pub block-written : (items S answers out : List ℕ) → Admitted items answers out
+    → blockCall items S answers out .buffer ≡ flatten (writtenBy S out (itemsOf items)) ++ drop (taken S out (itemsOf items)) out
+block-written = BlockCalls.call-written
+
+pub written-calls : {items S : List ℕ} (c : BlockCall items S) → c .result ≡ 0
+    → c .after ≡ flatten (writtenBy S (c .lent) (itemsOf items)) ++ drop (taken S (c .lent) (itemsOf items)) (c .lent)
+written-calls = BlockReturns.calls-written
 
 -- two calls, the second on what the first left of both slices, are the one call; of calls, too
 pub block-split : (a b S answers out : List ℕ) → Admitted (a ++ b) answers out → length a % 4 ≡ 0

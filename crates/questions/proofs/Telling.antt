@@ -1,5 +1,5 @@
 -- The questions whose answer is a text: what the code told of the tests and of the reading is the definition's outcome, and no sum wraps. Assumes nothing.
-use mathlib.Core.Path.{_≡_, refl, sym, ap, subst}
+use mathlib.Core.Path.{_≡_, refl, sym, ap, subst, _∙_}
 use mathlib.Core.Bool.{Bool, true, _&&_}
 use mathlib.Core.List.{List}
 use Prim.Native.Nat.{ℕ, _+_, _-_, _≤_, _<_, _^_}
@@ -34,8 +34,9 @@ use Rattle.admitting.specs.Tests.{Tests, Locates}
 use Rattle.admitting.proofs.Passing.{passed-too, undecoded-too, range, barred-too}
 use Rattle.strings.specs.declared.reading.Checked.{Checked}
 use Rattle.strings.specs.declared.reading.Checked.the-variants as Checked′
-use Rattle.strings.specs.Plain.{PlainAscii}
+use Rattle.strings.specs.Plain.{isPlainAscii}
 use Rattle.strings.specs.Driving.{ChecksBy, Checks}
+use Rattle.strings.proofs.AsciiRows.{ascii-utf8}
 use Rattle.strings.proofs.Fits.{ascii-long, ascii-reads}
 use Rattle.questions.specs.Told.{toldBy, InText, bitBaseBy}
 use Rattle.questions.proofs.Moved.{fits-text, told-meets, told-barred}
@@ -131,7 +132,7 @@ module _ {l : Literal} {S : List ℕ} {r : Tested} {code : ℕ} (c : code ≡ ki
     located-inside = range l S r g s e q .3
 
     -- A PLAIN TEXT IN ASCII is its body
-    module _ (y : Bool) (p : PlainAscii σ (part s e S) y) (z : y ≡ true) where
+    module _ (y : Bool) (p : y ≡ isPlainAscii σ (part s e S)) (z : y ≡ true) where
       some : s + 1 ≤ e
       some = omega (arith, ascii-long σ (part s e S) y p z, length-take (e - s) (drop s S), length-drop s S)
 
@@ -145,7 +146,7 @@ module _ {l : Literal} {S : List ℕ} {r : Tested} {code : ℕ} (c : code ≡ ki
       plain-told =
           let n : e - 1 ≡ s + (length (part s e S) - 1) =
           omega (arith, some, length-take (e - s) (drop s S), length-drop s S, located-inside) in
-          string-told c σ (passed-too l S r g s e q (p .by z .1)) s e refl out out (Read′.Borrowed 1 (length (part s e S) - 1))
+          string-told c σ (passed-too l S r g s e q (ascii-utf8 σ (part s e S) (sym p ∙ z))) s e refl out out (Read′.Borrowed 1 (length (part s e S) - 1))
           (ascii-reads σ (part s e S) y p z out) (Borrowed (s + 1) (e - 1)) (ap (Borrowed (s + 1)) n)
 
   pub located-barred : (out : List ℕ) (w : Refusal) → r ≡ Barred w → Meets (stringQuestion l S σ out) (Refused w) out

@@ -23,8 +23,9 @@ use Rattle.strings.specs.declared.reading.Fit.{Fit}
 use Rattle.strings.specs.declared.reading.Fit.the-variants as Fit′
 use Rattle.strings.specs.declared.reading.Checked.{Checked}
 use Rattle.strings.specs.declared.reading.Checked.the-variants as Checked′
-use Rattle.strings.specs.Plain.{isPlain, PlainAscii}
+use Rattle.strings.specs.Plain.{isPlain, isPlainAscii}
 use Rattle.strings.specs.Driving.{FitBy, FitsAs, QuickReads, ChecksBy, Checks}
+use Rattle.strings.proofs.AsciiRows.{ascii-plain, ascii-utf8}
 use Rattle.strings.proofs.Plains.{plain-long, plain-borrowed}
 use Rattle.strings.proofs.QuickAnswers.{borrowed-reads, written-reads, lacking-reads, onward-reads}
 
@@ -101,12 +102,15 @@ module _ (σ : Settings) (t : List ℕ) where
     not-reads z r last w = subst (λ b. Reads (read σ t) b r last) (subst (λ d. ChecksBy (utf8 t) (read σ t) out d after) z (x .by) .1) w
 
   -- A PLAIN TEXT IN ASCII, told by its scan
-  module _ (x : Bool) (p : PlainAscii σ t x) (e : x ≡ true) where
+  module _ (x : Bool) (p : x ≡ isPlainAscii σ t) (e : x ≡ true) where
+    plain-told : isPlain σ t ≡ true
+    plain-told = ascii-plain σ t (sym p ∙ e)
+
     pub ascii-long : 1 ≤ length t
-    ascii-long = plain-long σ t true (sym (p .by e .0)) refl
+    ascii-long = plain-long σ t true (sym plain-told) refl
 
     pub ascii-reads : (out : List ℕ) → Reads (read σ t) out (Read′.Borrowed 1 (length t - 1)) out
-    ascii-reads out = plain-borrowed σ t true (sym (p .by e .0)) refl out
+    ascii-reads out = plain-borrowed σ t true (sym plain-told) refl out
 
     pub ascii-checks : (out : List ℕ) → Checks (utf8 t) (read σ t) out (Checked′.Text (Read′.Borrowed 1 (length t - 1))) out
-    ascii-checks out = record { by = (p .by e .1, ascii-reads out) }
+    ascii-checks out = record { by = (ascii-utf8 σ t (sym p ∙ e), ascii-reads out) }

@@ -5,7 +5,7 @@ use leaves::texts::is_enclosed;
 use meaning::Settings;
 use utf8::ascii::is_plain_run;
 ghost use mathlib.Core.Path.{_≡_};
-ghost use Rattle.strings.specs.Plain.{settingStops, isPlain, PlainAscii};
+ghost use Rattle.strings.specs.Plain.{settingStops, isPlain, isPlainAscii};
 
 // The bytes that such a body may not hold: the mark, with the setting on the backslash, and NUL.
 // Rules out: an escape taken for plain (must-fail: escape_taken_for_plain).
@@ -38,10 +38,11 @@ pub(crate) fn is_plain(text: &[u8], settings: Settings) -> bool
     is_free(&text[1..until], plain_stops(settings))
 }
 
-// Whether a text is such a string, and in ASCII: then it is UTF-8 too, and nothing else has to be looked at. No is no answer: any text may be read on.
-// Rules out: an active backslash not looked for; a text told plain of which nothing was looked at (must-fail: backslash_not_looked_for, plain_unseen).
+// Whether a text is such a string, and in ASCII: then it is UTF-8 too, and nothing else has to be looked at.
+// Rules out: an active backslash not looked for; a text told plain of which nothing was looked at; none told plain (must-fail: backslash_not_looked_for,
+// plain_unseen, never_plain).
 pub fn is_plain_ascii(text: &[u8], settings: Settings) -> bool
-    ensures { λ r. ⌜ PlainAscii settings (now (text .entry)) r ⌝ }
+    ensures { λ r. ⌜ r ≡ isPlainAscii settings (now (text .entry)) ⌝ }
 {
     if !is_enclosed(text, 0, 39) {
         return false;

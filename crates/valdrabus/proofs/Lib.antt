@@ -8,3 +8,4 @@ mod Determined
 mod Demands
 mod BlockExports
 mod Witnesses
+mod BlockWitnesses

@@ -1,7 +1,7 @@
 -- [02 T-03] The call: when it is refused, what it tells of each item, what it leaves, and a call of one item. Assumes nothing.
 use mathlib.Core.Path.{_≡_, refl, ap, ap₂, sym, _∙_}
 use mathlib.Core.Bool.{Bool, true, false, _||_, not, false≢true}
-use mathlib.Core.List.{List, [], _∷_, _++_, append-assoc}
+use mathlib.Core.List.{List, [], _∷_, _++_, append-assoc, flatten}
 use Prim.Native.Nat.{ℕ, suc, _+_, _*_, _%_, _≤_}
 use native.Mathlib.Nat.{zero-add}
 use native.Mathlib.Omega.{arith}
@@ -17,7 +17,8 @@ use Rattle.meaning.specs.Codes.{isKnown, literalOf, settingsOf}
 use Rattle.meaning.specs.Blocks.{itemsOf, numbersOf, fourOf, Asked, itemAsked, Block, blockAt, badBlock, BlockOutcome, blockTold, blockCall}
 use Rattle.laws.proofs.basics.Tests.{or-left, or-right}
 use Rattle.laws.proofs.questions.Items.{item-known, lengthWritten}
-use Rattle.laws.proofs.questions.Blocks.{taken, lengthsWritten, block-count, block-length, block-rest, block-room, block-item, block-bytes, block-one}
+use Rattle.laws.proofs.questions.Blocks.{taken, writtenBy, lengthsWritten, block-count, block-buffer, block-length, block-rest, block-room}
+use Rattle.laws.proofs.questions.Blocks.{block-item, block-bytes, block-out-buffer, block-out-fours, block-one}
 
 -- WHEN IT IS ANSWERED: the items in fours, an answer for each, and a buffer whose places 32 bits hold
 pub record Admitted (items answers out : List ℕ) : Type 0 where
@@ -85,6 +86,24 @@ pub numbers-append : (fs gs : List Four) → numbersOf (fs ++ gs) ≡ numbersOf 
 numbers-append [] gs = refl
 numbers-append (f ∷ fs) gs = ap (λ (l : List ℕ). f .number ∷ (f .how ∷ (f .start ∷ (f .len ∷ l)))) (numbers-append fs gs)
 
+-- the fours of the first items, and of the others
+fours-before : (a : List ℕ) (fs : List Four) → length a % 4 ≡ 0 → numbersOf (take (length (itemsOf a)) fs) ≡ take (length a) (numbersOf fs)
+fours-before [] fs h = refl
+fours-before (k ∷ []) fs h = absurd (omega arith)
+fours-before (k ∷ (g ∷ [])) fs h = absurd (omega arith)
+fours-before (k ∷ (g ∷ (s ∷ []))) fs h = absurd (omega arith)
+fours-before (k ∷ (g ∷ (s ∷ (e ∷ a)))) [] h = refl
+fours-before (k ∷ (g ∷ (s ∷ (e ∷ a)))) (f ∷ fs) h =
+    ap (λ (l : List ℕ). f .number ∷ (f .how ∷ (f .start ∷ (f .len ∷ l)))) (fours-before a fs (four-less (length a) h))
+
+fours-behind : (a : List ℕ) (fs : List Four) → length a % 4 ≡ 0 → numbersOf (drop (length (itemsOf a)) fs) ≡ drop (length a) (numbersOf fs)
+fours-behind [] fs h = refl
+fours-behind (k ∷ []) fs h = absurd (omega arith)
+fours-behind (k ∷ (g ∷ [])) fs h = absurd (omega arith)
+fours-behind (k ∷ (g ∷ (s ∷ []))) fs h = absurd (omega arith)
+fours-behind (k ∷ (g ∷ (s ∷ (e ∷ a)))) [] h = refl
+fours-behind (k ∷ (g ∷ (s ∷ (e ∷ a)))) (f ∷ fs) h = fours-behind a fs (four-less (length a) h)
+
 -- WHAT IT RETURNS: 0, or 15 exactly where it is not admitted
 pub data ZeroOr15 (fact : Type 0) : ℕ → Type 0 where
   zero-by : fact → ZeroOr15 fact 0
@@ -135,6 +154,10 @@ module _ (items S answers out : List ℕ) (a : Admitted items answers out) where
 
   pub call-buffer : blockCall items S answers out .buffer ≡ block .buffer
   call-buffer = ap (λ (o : BlockOutcome). o .buffer) call-is
+
+  -- what is written, one after the other, and the rest as lent
+  pub call-written : blockCall items S answers out .buffer ≡ flatten (writtenBy S out (itemsOf items)) ++ drop (taken S out (itemsOf items)) out
+  call-written = call-buffer ∙ block-buffer S 0 out (itemsOf items)
 
 -- WHAT IT LEAVES: "Past the items the answer slice is unchanged", and so is the buffer past the bytes that are taken
 pub record BlockLeaves (items S answers out : List ℕ) (o : BlockOutcome) : Type 0 where
@@ -257,6 +280,37 @@ module _ (a : List ℕ) (k g s e : ℕ) (b S answers out : List ℕ) (f : length
         ∙ ap (λ (x : Asked). part n (n + x .took) (blockAt S 0 out (itemsOf a ++ (i ∷ itemsOf b)) .buffer)) (sym from-0)
         ∙ block-bytes S 0 out (itemsOf a) i (itemsOf b)
         ∙ ap (λ (x : Asked). take (x .took) (x .room)) from-0
+
+    -- LEFT OUT, where it takes nothing: the buffer is the same, and so is what is told of the others
+    module _ (none : single .took ≡ 0) (others : List ℕ) (o : Admitted (a ++ b) others out) where
+      none-0 : itemAsked S (0 + n) (drop n out) i .took ≡ 0
+      none-0 = ap (λ (x : Asked). x .took) from-0 ∙ none
+
+      abbrev left : List ℕ
+      left = take (length (a ++ b)) (blockCall (a ++ b) S others out .answers)
+
+      abbrev fs : List Four
+      fs = blockAt S 0 out (itemsOf a ++ itemsOf b) .fours
+
+      left-is : left ≡ numbersOf fs
+      left-is = call-told (a ++ b) S others out o ∙ ap (λ (is : List Item). numbersOf (blockAt S 0 out is .fours)) (items-append a b f)
+
+      pub call-out-told : take (length whole) (blockCall whole S answers out .answers)
+          ≡ take (length a) left ++ (numbersOf (single .told ∷ []) ++ drop (length a) left)
+      call-out-told =
+          call-told whole S answers out h
+          ∙ ap (λ (is : List Item). numbersOf (blockAt S 0 out is .fours)) (items-append a (k ∷ (g ∷ (s ∷ (e ∷ b)))) f)
+          ∙ ap numbersOf (block-out-fours S 0 out (itemsOf a) i (itemsOf b) none-0)
+          ∙ numbers-append (take (length (itemsOf a)) fs) (itemAsked S (0 + n) (drop n out) i .told ∷ drop (length (itemsOf a)) fs)
+          ∙ ap₂ _++_ (fours-before a fs f ∙ ap (take (length a)) (sym left-is))
+          (ap₂ (λ (x : Asked) (l : List ℕ). numbersOf (x .told ∷ []) ++ l) from-0 (fours-behind a fs f ∙ ap (drop (length a)) (sym left-is)))
+
+      pub call-out-buffer : blockCall whole S answers out .buffer ≡ blockCall (a ++ b) S others out .buffer
+      call-out-buffer =
+          call-buffer whole S answers out h
+          ∙ ap (λ (is : List Item). blockAt S 0 out is .buffer) (items-append a (k ∷ (g ∷ (s ∷ (e ∷ b)))) f)
+          ∙ block-out-buffer S 0 out (itemsOf a) i (itemsOf b) none-0
+          ∙ sym (call-buffer (a ++ b) S others out o ∙ ap (λ (is : List Item). blockAt S 0 out is .buffer) (items-append a b f))
 
     -- where its room begins is told
     pub call-begins : lengthsTold (take (length a) (blockCall whole S answers out .answers)) ≡ n

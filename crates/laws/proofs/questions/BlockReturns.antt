@@ -2,28 +2,30 @@
 -- with the room still left; and two block calls, one after the other on what is left, agree with the one. Assumes nothing.
 use mathlib.Core.Path.{_≡_, ap, ap₂, sym, _∙_, subst}
 use mathlib.Core.Bool.{true, false}
-use mathlib.Core.List.{List, [], _∷_, _++_}
+use mathlib.Core.List.{List, [], _∷_, _++_, flatten}
 use Prim.Native.Nat.{ℕ, _+_, _-_, _%_, _≤_}
 use native.Mathlib.Nat.{sub-zero}
 use native.Mathlib.Omega.{arith}
 use lib.Dec.{eqb}
-use lib.ListN.{length, take, drop, length-drop}
+use lib.ListN.{length, take, drop, length-append, length-drop}
+use lib.Seq.{take-take}
 use Rattle.meaning.specs.declared.Item.{Item}
 use Rattle.meaning.specs.declared.Four.{Four}
 use Rattle.meaning.specs.declared.Text.{Text}
 use Rattle.meaning.specs.declared.Text.the-variants as Text′
-use Rattle.meaning.specs.Bytes.{if_then_else_, part}
+use Rattle.meaning.specs.Bytes.{if_then_else_, _!_, part}
 use Rattle.meaning.specs.Answers.{Meets, partShown, shown}
 use Rattle.meaning.specs.Questions.{stringQuestion}
 use Rattle.meaning.specs.Codes.{isKnown, literalOf, settingsOf}
 use Rattle.meaning.specs.Blocks.{itemsOf, numbersOf, fourOf, takes, Asked, itemAsked, askedAs, BlockOutcome, blockCall, Blocks}
+use Rattle.laws.proofs.basics.Lists.{drop-take}
 use Rattle.laws.proofs.questions.Ranges.{partShown-range}
 use Rattle.laws.proofs.questions.Buffers.{Filled, filled-length}
-use Rattle.laws.proofs.questions.Items.{item-known, item-unknown, item-filled, refused-told}
-use Rattle.laws.proofs.questions.Blocks.{taken, taken-fits}
+use Rattle.laws.proofs.questions.Items.{item-known, item-unknown, item-refused-took, item-filled, refused-told}
+use Rattle.laws.proofs.questions.Blocks.{taken, writtenBy, taken-fits}
 use Rattle.laws.proofs.questions.Fits.{TextFits, string-fits}
-use Rattle.laws.proofs.questions.BlockCalls.{Admitted, answered-admitted, call-is, block-leaves, lengthsTold, call-taken}
-use Rattle.laws.proofs.questions.BlockCalls.{call-item, call-bytes, call-begins}
+use Rattle.laws.proofs.questions.BlockCalls.{Admitted, answered-admitted, call-is, call-written, block-leaves, lengthsTold, call-taken}
+use Rattle.laws.proofs.questions.BlockCalls.{call-item, call-bytes, call-out-told, call-out-buffer, call-begins}
 use Rattle.laws.proofs.questions.BlockSplits.{movedStarts, first-admitted, second-admitted, block-split}
 
 -- A CALL of the block: what went in, and what came out
@@ -37,6 +39,11 @@ pub record BlockCall (items S : List ℕ) : Type 0 where
 
 call-admitted : {items S : List ℕ} (c : BlockCall items S) → c .result ≡ 0 → Admitted items (c .answers) (c .lent)
 call-admitted {items} {S} c z = answered-admitted items S (c .answers) (c .lent) (sym (c .contract .result) ∙ z)
+
+-- THE BUFFER then: what is written, one after the other, and the rest as lent
+pub calls-written : {items S : List ℕ} (c : BlockCall items S) → c .result ≡ 0
+    → c .after ≡ flatten (writtenBy S (c .lent) (itemsOf items)) ++ drop (taken S (c .lent) (itemsOf items)) (c .lent)
+calls-written {items} {S} c z = c .contract .buffer ∙ call-written items S (c .answers) (c .lent) (call-admitted c z)
 
 -- WHAT A FOUR SHOWS: "A borrowed start is in the source, a written one in the buffer"
 abbrev pub fourShown : List ℕ → List ℕ → Four → List ℕ
@@ -64,6 +71,12 @@ pub record Returned {items S : List ℕ} (c : BlockCall items S) (n : ℕ) (r : 
   pub told : take 4 (drop n (c .told)) ≡ numbersOf (fourOf (roomFrom c n) r ∷ [])
   pub bytes : part (roomFrom c n) (roomFrom c n + takes r) (c .after) ≡ take (takes r) d
   pub shows : fourShown S (c .after) (fourOf (roomFrom c n) r) ≡ shown S d r
+
+-- call v leaves out an item behind the numbers a, of those that call c has: the same buffer at the end, and the same told of the others
+pub record LeavesOut (a b S : List ℕ) {items : List ℕ} (c : BlockCall items S) (v : BlockCall (a ++ b) S) : Type 0 where
+  pub told : take (length items) (c .told)
+      ≡ take (length a) (v .told) ++ (take 4 (drop (length a) (c .told)) ++ take (length b) (drop (length a) (v .told)))
+  pub bytes : c .after ≡ v .after
 
 -- ONE ITEM, behind the items a
 module _ (a : List ℕ) (k g s e : ℕ) (b S : List ℕ) (f : length a % 4 ≡ 0) (c : BlockCall (a ++ (k ∷ (g ∷ (s ∷ (e ∷ b))))) S) (z : c .result ≡ 0) where
@@ -141,6 +154,44 @@ module _ (a : List ℕ) (k g s e : ℕ) (b S : List ℕ) (f : length a % 4 ≡ 0
   -- 10 ahead of all else
   pub block-calls-unknown : isKnown k 0 g ≡ false → take 4 (drop (length a) (c .told)) ≡ 10 ∷ 0 ∷ 0 ∷ 0 ∷ []
   block-calls-unknown h = told-is ∙ ap (λ (x : Asked). numbersOf (x .told ∷ [])) (item-unknown S n (drop n (c .lent)) i h)
+
+  -- "a refused item takes no room and stops nothing": left out by another call on the same buffer
+  module _ (refused : take 4 (drop (length a) (c .told)) ! 0 ≡ 0 → ⊥) (v : BlockCall (a ++ b) S) (y : v .result ≡ 0) (same : v .lent ≡ c .lent) where
+    none : itemAsked S n (drop n (c .lent)) i .took ≡ 0
+    none = item-refused-took S n (drop n (c .lent)) i (λ h. refused (ap (_! 0) told-is ∙ h))
+
+    others : Admitted (a ++ b) (v .answers) (c .lent)
+    others = subst (Admitted (a ++ b) (v .answers)) same (call-admitted v y)
+
+    others-are : blockCall (a ++ b) S (v .answers) (v .lent) ≡ blockCall (a ++ b) S (v .answers) (c .lent)
+    others-are = ap (blockCall (a ++ b) S (v .answers)) same
+
+    abbrev left : List ℕ
+    left = blockCall (a ++ b) S (v .answers) (c .lent) .answers
+
+    left-is : left ≡ v .told
+    left-is = sym (v .contract .told ∙ ap (λ (o : BlockOutcome). o .answers) others-are)
+
+    before : take (length a) (take (length (a ++ b)) left) ≡ take (length a) (v .told)
+    before = take-take (length a) (length (a ++ b)) left (omega (arith, length-append a b)) ∙ ap (take (length a)) left-is
+
+    behind : drop (length a) (take (length (a ++ b)) left) ≡ take (length b) (drop (length a) (v .told))
+    behind =
+        ap (λ (k : ℕ). drop (length a) (take k left)) (length-append a b)
+        ∙ drop-take (length a) (length b) left
+        ∙ ap (λ (l : List ℕ). take (length b) (drop (length a) l)) left-is
+
+    pub refused-out : LeavesOut a b S c v
+    refused-out = record {
+      told =
+          ap (take (length (a ++ (k ∷ (g ∷ (s ∷ (e ∷ b))))))) (c .contract .told)
+          ∙ call-out-told a k g s e b S (c .answers) (c .lent) f admitted none (v .answers) others
+          ∙ ap₂ _++_ before (ap₂ _++_ (sym told-is) behind);
+      bytes =
+          c .contract .buffer
+          ∙ call-out-buffer a k g s e b S (c .answers) (c .lent) f admitted none (v .answers) others
+          ∙ sym (v .contract .buffer ∙ ap (λ (o : BlockOutcome). o .buffer) others-are);
+    }
 
 -- TWO CALLS, x and then y on what is left of its slices, and w in their stead
 pub record Splits (a b S : List ℕ) (w : BlockCall (a ++ b) S) (x : BlockCall a S) (y : BlockCall b S) : Type 0 where

@@ -45,8 +45,8 @@ abbrev pub wrong : List (ℕ × ℕ)
 wrong =
     -- it ends at the first refusal, or 9 or a borrowed item takes room
     (8, 99) ∷ (20, 9) ∷
-    -- a written start is counted from the item's room, a borrowed one from the text; an end is told for a length
-    (22, 0) ∷ (10, 1) ∷ (11, 7) ∷ (23, 4) ∷
+    -- a written start is counted from the item's room, a borrowed one from the text or in the buffer; an end is told for a length
+    (22, 0) ∷ (10, 1) ∷ (10, 2) ∷ (11, 7) ∷ (23, 4) ∷
     -- the length in 9 is what all items so far need; the span or the kinds are told with 1
     (7, 5) ∷ (14, 1) ∷ (14, 3) ∷
     -- 1 goes ahead of 10, or the setting's low bit is taken; the slice is cleared past the items

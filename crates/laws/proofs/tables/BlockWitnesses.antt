@@ -2,9 +2,9 @@
 -- call; the call without the second; and the two calls that do the same one after the other. Assumes nothing.
 use mathlib.Core.Path.{_≡_, refl}
 use mathlib.Core.List.{List, [], _∷_, _++_}
-use Prim.Native.Nat.{ℕ, _+_}
+use Prim.Native.Nat.{ℕ}
+use native.Mathlib.Omega.{arith}
 use lib.ListN.{replicate, take, drop}
-use Rattle.meaning.specs.declared.Item.{Item}
 use Rattle.meaning.specs.declared.Text.the-variants.{Written}
 use Rattle.meaning.specs.Bytes.{ascii, within, isMark}
 use Rattle.meaning.specs.Chars.{lead, utf8, isSpace}
@@ -15,9 +15,8 @@ use Rattle.meaning.specs.Reading.{answer, one, read}
 use Rattle.meaning.specs.Answers.{Meets, filled}
 use Rattle.meaning.specs.Questions.{cutsCharacter, badSpan, sourceText, tested, stringQuestion}
 use Rattle.meaning.specs.Codes.{literalOf, settingsOf}
-use Rattle.meaning.specs.Blocks.{itemsOf, itemAsked, blockAt, badBlock, BlockOutcome, blockCall, Blocks}
-use Rattle.laws.proofs.questions.Blocks.{taken, block-out-buffer}
-use Rattle.laws.proofs.questions.BlockReturns.{BlockCall, Returned, block-calls, Splits, split-calls}
+use Rattle.meaning.specs.Blocks.{itemAsked, badBlock, BlockOutcome, blockCall, Blocks}
+use Rattle.laws.proofs.questions.BlockReturns.{BlockCall, Returned, block-calls, LeavesOut, refused-out, Splits, split-calls}
 use Rattle.laws.proofs.tables.Controls.{two}
 
 -- what a call computes meets its contract
@@ -68,17 +67,25 @@ third-single = record { answer = refl; buffer = refl }
 pub third-returned : Returned three-call 8 (Written 2) (ascii "ab" ++ (7 ∷ []))
 third-returned = block-calls (written ++ refused) 4 0 0 7 [] two refl three-call refl refl (Written 2) (ascii "ab" ++ (7 ∷ [])) third-single
 
--- WITHOUT THE SECOND the buffer is the same
-abbrev pub second : Item
-second = record { kind = 4; setting = 0; start = 1; end = 2 }
+-- WITHOUT THE SECOND, by another call on the same buffer
+pub both-told : blockCall (written ++ written) two slice buffer
+    ≡ record { number = 0; answers = take 4 told ++ (drop 8 (take 12 told) ++ replicate 5 99); buffer = ascii "abab" ++ (7 ∷ []) }
+unfolding blockCall badBlock itemAsked stringQuestion tested sourceText badSpan cutsCharacter within utf8 lead read continues segment isMark segmentStep cut
+    isSpace one spelling encloses answer doubled named filled
+both-told = refl
 
-pub second-takes-none : itemAsked two (0 + taken two buffer (itemsOf written)) (drop (taken two buffer (itemsOf written)) buffer) second .took ≡ 0
-unfolding itemAsked stringQuestion tested sourceText badSpan cutsCharacter within utf8 lead read continues segment isMark segmentStep cut
-    isSpace one spelling encloses isUnicode delimiter answer doubled named filled
-second-takes-none = refl
+abbrev pub both-call : BlockCall (written ++ written) two
+both-call = record {
+  answers = slice;
+  lent = buffer;
+  result = 0;
+  told = take 4 told ++ (drop 8 (take 12 told) ++ replicate 5 99);
+  after = ascii "abab" ++ (7 ∷ []);
+  contract = met both-told;
+}
 
-pub second-out : blockAt two 0 buffer (itemsOf three) .buffer ≡ blockAt two 0 buffer (itemsOf (written ++ written)) .buffer
-second-out = block-out-buffer two 0 buffer (itemsOf written) second (itemsOf written) second-takes-none
+pub second-out : LeavesOut written written two three-call both-call
+second-out = refused-out written 4 0 1 2 written two refl three-call refl (λ h. omega arith) both-call refl refl
 
 -- IN TWO CALLS: of the first two items, and of the third on what is left
 pub first-told : blockCall (written ++ refused) two slice buffer
