@@ -26,7 +26,7 @@
  *    6  not a readable string                      first, second: its span; 0 and 0 without a literal
  *    7  not a readable bit string                  first, second: its span
  *    8  not a money text                           first, second: its span
- *    9  would be written, and the buffer is shorter                              first: 0, second: the length needed
+ *    9  would be written, and the buffer, in a block what is left of it, is shorter       first: 0, second: the length needed
  *   10  a number that is given, to a call or in a block's item, names nothing: an unknown kind, or a mark or setting that is neither 0 nor 1       first, second: 0
  *   11  a writer's value holds NUL, which a plain literal does not spell with the setting 0, and E'..' and U&'..' at neither setting
  *   12  a writer's value has more than 268435456 bytes, or the part size is below 4
@@ -34,7 +34,7 @@
  * 10 is tested before all others; then 1, 2, 3, 4, then 5 to 8, then 9. The plain writers test 10, 12, 4, 11, 9; the writers of E'..' and U&'..', which take no
  * number that could name nothing, 12, 4, 11, 9. Of a block 15 is tested before any item is looked at, and of each item 10, 1, 3, 4, 6, 9.
  *
- * WHAT STAYS UNCHANGED. On any number but 0, and on a borrowed answer, the buffer is byte for byte as it was lent. A written answer fills the buffer's start, in a block
+ * WHAT STAYS UNCHANGED. A refusal, by any number but 0, and a borrowed answer change no byte of the buffer. A written answer fills the buffer's start, in a block
  * the start of what is left; the rest is unchanged. The lent numbers (how, first, second ..) are written by every call, with 0 where nothing else is said. A block's answers
  * are written for its items: past them, and on 15, they are as they were lent.
  *
@@ -134,6 +134,8 @@ uint32_t valdrabus_as_temporal_text(uint32_t kind, uint32_t synthetic, uint32_t 
 
    Each literal gets the answer of valdrabus_as_str_in with the room that those before it left: 1, 3, 4, 6, 9, 10. Written texts stand one behind the other. A borrowed or refused
    one takes no room, and no refusal ends the block: behind a 9 a shorter one may still be written. The call itself gives 0, or 15 with neither answers nor buffer changed.
+
+   A buffer as long as the items' spans together always has room: no value is longer than its text less two bytes.
 
    For the source 'it','a''b' (11 bytes) and a buffer of 64, this answers 0 1 1 2 and 0 2 0 3, and the buffer begins with a'b:
 

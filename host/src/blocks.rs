@@ -12,10 +12,12 @@ use std::ops::Range;
 /// The longest buffer that a block call takes, in bytes.
 pub const LONGEST_BUFFER: usize = 4_294_967_295;
 
-/// Reads many string literals of one source in one call, which allocates nothing: a drag of a scroll bar needs hundreds of them.
+/// Reads many string literals of one source in one call, for a table that shows hundreds of them at once. It allocates nothing.
 ///
 /// Each item gets the answer of [`Literal::as_str_in`](crate::Literal::as_str_in) with the room that those before it left in the buffer. Written texts stand there one behind the other. A
-/// borrowed or refused item takes no room, and no refusal ends the block: behind one that has no room, a shorter one may still be written.
+/// borrowed or refused item takes no room, and no refusal ends the block: behind one that has no room, a shorter one may still be written. Answers past the items stay as they were lent.
+///
+/// A buffer as long as the items' spans together always has room: no value is longer than its text less two bytes.
 ///
 /// ```
 /// use valdrabus::{Error, Item, Kind, Literal, Settings, Text, Told, read_block};
@@ -36,8 +38,8 @@ pub const LONGEST_BUFFER: usize = 4_294_967_295;
 ///
 /// # Errors
 ///
-/// 15, for the whole call, if there are fewer answers than items or the buffer is longer than [`LONGEST_BUFFER`]; then neither is changed. An item's own refusal stands in the block: 1, 2, 3, 6, 9.
-/// Answers past the items stay as they were lent.
+/// 15, for the whole call, if there are fewer answers than items or the buffer is longer than [`LONGEST_BUFFER`]; then neither answers nor buffer are changed. An item's own refusal stands in the
+/// block: 1, 2, 3, 6, 9.
 pub fn read_block<'s, 'b>(
     items: &'b [Item],
     source: &'s str,
@@ -86,9 +88,8 @@ pub(crate) fn read<'s, 'b, T: Source + ?Sized>(
     }
 }
 
-/// The answers of a block, in the order of its items: each a [`Text`] of the source (`'s`) or of the buffer (`'b`), or the refusal that a single call gives.
-///
-/// Items keep their kinds by their codes, so that [`Error::WrongKind`] tells the kind without its data.
+/// The answers of a block, in the order of its items: each a [`Text`] of the source (`'s`) or of the buffer (`'b`), or the refusal that a single call gives. Only [`Error::WrongKind`] tells less, the
+/// kind without its data: an item keeps of its kind the code alone.
 ///
 /// ```
 /// use valdrabus::{Item, Kind, Literal, Text, Told, read_block};
@@ -137,7 +138,8 @@ impl<'s, 'b, T: ?Sized> Block<'s, 'b, T> {
         self.answers.iter().map(Told::taken).sum()
     }
 
-    /// How long a buffer must be for no item to be refused by 9, however long this one is.
+    /// How long a buffer must be for no item to be refused by 9, however long this one is; `usize::MAX` if it were longer still. A call takes no more than [`LONGEST_BUFFER`]: where more is
+    /// needed, ask for fewer items at once.
     ///
     /// ```
     /// use valdrabus::{Item, Kind, Literal, Told, read_block};
@@ -155,7 +157,7 @@ impl<'s, 'b, T: ?Sized> Block<'s, 'b, T> {
     /// # Ok::<(), valdrabus::Error>(())
     /// ```
     pub fn needed(&self) -> usize {
-        self.answers.iter().map(Told::needed).fold(0, usize::saturating_add)
+        usize::try_from(Told::needed(self.answers)).unwrap_or(usize::MAX)
     }
 }
 

@@ -6,7 +6,7 @@ use crate::literal::Literal;
 use crate::span::Span;
 use std::fmt;
 
-/// Why a call is refused. Each case has its [number](Error::number); a refusal leaves the lent buffer byte for byte as it was.
+/// Why a call, or an item of a block, is refused. Each case has its [number](Error::number); a refusal changes no byte of the lent buffer.
 ///
 /// A span is the literal's own; a call on bare text, which has no literal, gives none.
 ///
@@ -64,9 +64,9 @@ pub enum Error {
         /// The literal's span.
         span: Span,
     },
-    /// 9: the answer would be written, and the buffer is shorter.
+    /// 9: the answer would be written, and the room is too short: the buffer, or in a block what the items before left of it.
     NoRoom {
-        /// How many bytes a buffer must have.
+        /// How many bytes this answer takes, in a block without those of other items. With as much room it is written.
         needed: usize,
     },
     /// 10: this crate and the archive that it is linked with do not agree about a number. No call of this crate gives it while both are of one version.
@@ -159,7 +159,7 @@ impl fmt::Display for Error {
             Error::InvalidString { .. } => write!(f, "{text} is not a readable string"),
             Error::InvalidBitString { .. } => write!(f, "{text} is not a readable bit string"),
             Error::InvalidMoney { .. } => write!(f, "{text} is not a money text"),
-            Error::NoRoom { needed } => write!(f, "the buffer is too short: {needed} bytes are needed"),
+            Error::NoRoom { needed } => write!(f, "the room is too short: {needed} bytes are needed"),
             Error::BadNumber => write!(f, "the linked archive is of another version"),
             Error::HoldsNul => write!(f, "the value holds a NUL: only plain literals with backslash escapes spell it"),
             Error::OverLimit => write!(f, "the value is too long to be written, or the part size too small"),

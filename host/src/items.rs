@@ -98,8 +98,33 @@ impl Told {
         if self.how == WRITTEN { self.length as usize } else { 0 }
     }
 
-    /// How many bytes of a buffer that is long enough it takes.
-    pub(crate) const fn needed(&self) -> usize {
-        if self.number == NO_ROOM { self.length as usize } else { self.taken() }
+    /// How many bytes of a buffer that is long enough all of these take. One literal may be asked over and over, so that the sum passes what a usize of 32 bits holds.
+    pub(crate) fn needed(answers: &[Told]) -> u64 {
+        let needed = answers.iter().filter(|told| told.how == WRITTEN || told.number == NO_ROOM);
+        needed.map(|told| u64::from(told.length)).fold(0, u64::saturating_add)
+    }
+}
+
+#[cfg(test)]
+mod tests {
+    use super::*;
+
+    #[test]
+    fn lengths_together_may_pass_any_buffer() {
+        let borrowed = Told { number: 0, how: 1, start: 3, length: 5 };
+        let written = Told { number: 0, how: WRITTEN, start: 0, length: 7 };
+        let refused = Told { number: 3, how: 0, start: 0, length: 0 };
+        let no_room = Told { number: NO_ROOM, how: 0, start: 0, length: u32::MAX };
+        let most = u64::from(u32::MAX);
+        for (answers, due) in [
+            (&[][..], 0),
+            (&[borrowed, refused], 0),
+            (&[written, borrowed, refused, written], 14),
+            (&[no_room], most),
+            (&[written, no_room, borrowed], most + 7),
+            (&[no_room, no_room, no_room], 3 * most),
+        ] {
+            assert_eq!(Told::needed(answers), due, "{answers:?}");
+        }
     }
 }

@@ -78,7 +78,7 @@ pub enum BitStringRadix {
 
 /// What a literal is said to be. It is taken as given: no text is ever asked which kind it has.
 ///
-/// Time zones and an interval's data decide no answer; they come back in [`Error::WrongKind`](crate::Error::WrongKind).
+/// Time zones and an interval's data decide no answer; they come back in [`Error::WrongKind`](crate::Error::WrongKind), but not from a block.
 #[derive(Clone, Copy, Debug, PartialEq, Eq, Hash)]
 pub enum Kind {
     /// A whole number, as `42` or `0x2A`.

@@ -20,14 +20,15 @@
 //! ```
 //!
 //! It is a thin layer: the code that decodes is Rattle, proved to end with the answer that its definitions give or a numbered refusal, on every input. This crate adds types and lifetimes, and
-//! nothing that decides an answer. It has no dependency and no state, and every function may be called from any thread.
+//! decides two answers alone, both of blocks: a string that stands in no source, for which a block has no mark, is told as 2, and [`to_block`] says 15 itself where all texts together would need
+//! a buffer over the limit. It has no dependency and no state, and every function may be called from any thread.
 //!
 //! # Where to look
 //!
 //! - [`Literal`]: a kind and a span; the questions are its methods. [`InBytes`]: the same over bytes that may not be UTF-8.
 //! - [`Text`]: an answer that is a part of the source, or written into the buffer that was lent.
 //! - [`read_block`]: many string literals of one source in one call, each an [`Item`]; [`Block`] shows their answers. [`to_block`]: the same with memory of its own.
-//! - [`Error`]: why a call is refused, with its number. A refusal leaves the buffer as it was.
+//! - [`Error`]: why a call, or an item of a block, is refused, with its number. A refusal changes no byte of the buffer.
 //! - [`write_literal`], [`write_parts`]: values as plain literals, whole or in parts. [`write_escape`], [`write_unicode`]: values as `E'..'` and `U&'..'`, in which no byte is below 20 hex. [`to_literal`],
 //!   [`to_parts`], [`to_escape`], [`to_unicode`]: the same into texts of their own.
 //! - [`split_radix_prefix`] and the other functions: helpers on bare text.

@@ -4,6 +4,7 @@ use crate::blocks::{self, Block, LONGEST_BUFFER, Texts};
 use crate::errors::Error;
 use crate::items::{Item, Told};
 use crate::source::Source;
+use crate::texts::Text;
 use std::fmt;
 
 /// As [`read_block`](crate::read_block), with memory of its own for answers and written texts, so that no item is refused by 9.
@@ -52,16 +53,18 @@ pub fn to_block_bytes<'s>(items: &[Item], source: &'s [u8]) -> Result<BlockBuf<'
 fn owned<'s, T: Source + ?Sized>(items: &[Item], source: &'s T) -> Result<BlockBuf<'s, T>, Error> {
     let answers = vec![Told::default(); items.len()];
     let mut block = BlockBuf { items: items.to_vec(), source, answers, out: Vec::new() };
-    let needed = block.read()?.needed();
-    if needed > LONGEST_BUFFER {
-        // The call would say the same, of a buffer that is too long to be made.
-        return Err(Error::BadBlock);
-    }
+    block.read()?;
+    let needed = buffer_len(Told::needed(&block.answers))?;
     if needed > 0 {
         block.out = vec![0; needed];
         block.read()?;
     }
     Ok(block)
+}
+
+/// The length of a buffer for so many bytes. Over the limit the call would refuse it by the same number, but such a buffer may be too long to be made.
+fn buffer_len(needed: u64) -> Result<usize, Error> {
+    usize::try_from(needed).ok().filter(|len| *len <= LONGEST_BUFFER).ok_or(Error::BadBlock)
 }
 
 /// A block that owns its answers and its buffer: [`to_block`], [`to_block_bytes`]. It keeps a copy of the items too, so that it borrows from the source alone.
@@ -78,18 +81,43 @@ impl<'s, T: Source + ?Sized> BlockBuf<'s, T> {
         blocks::read(&self.items, self.source, &mut self.answers, &mut self.out)
     }
 
-    /// The answers, as a lent block shows them.
+    /// The same as a block over lent memory.
     ///
     /// ```
-    /// use valdrabus::{Item, Kind, Literal, Text, to_block};
+    /// use valdrabus::{Kind, Literal, to_block};
     ///
     /// let block = to_block(&[Literal::new(Kind::String, 0..7).into()], "'it''s'")?;
-    /// assert_eq!(block.as_block().get(0), Some(Ok(Text::Written("it's"))));
-    /// assert_eq!((block.as_block().len(), block.as_block().used()), (1, 4));
+    /// assert_eq!(block.as_block().used(), 4);
     /// # Ok::<(), valdrabus::Error>(())
     /// ```
     pub fn as_block(&self) -> Block<'s, '_, T> {
         Block { items: &self.items, source: self.source, answers: &self.answers, out: &self.out }
+    }
+
+    /// How many items there are, refused ones among them.
+    pub fn len(&self) -> usize {
+        self.items.len()
+    }
+
+    /// Whether there is no item.
+    pub fn is_empty(&self) -> bool {
+        self.items.is_empty()
+    }
+
+    /// The answer of the item at a place, counted from 0; none past the items. Refusals: 1, 2, 3, 6, over bytes 4 too.
+    ///
+    /// ```
+    /// use valdrabus::{Item, Kind, Literal, Text, to_block};
+    ///
+    /// let items = [0..7, 7..9].map(|span| Item::from(Literal::new(Kind::String, span)));
+    /// let block = to_block(&items, "'it''s''x")?;
+    /// assert_eq!(block.get(0), Some(Ok(Text::Written("it's"))));
+    /// assert_eq!(block.get(1).unwrap().unwrap_err().number(), 6);
+    /// assert_eq!(block.get(2), None);
+    /// # Ok::<(), valdrabus::Error>(())
+    /// ```
+    pub fn get(&self, at: usize) -> Option<Result<Text<'s, '_, T>, Error>> {
+        self.as_block().get(at)
     }
 
     /// All answers, in the order of the items.
@@ -111,5 +139,17 @@ impl<'s, 'b, T: Source + ?Sized> IntoIterator for &'b BlockBuf<'s, T> {
 impl<T: Source + ?Sized + fmt::Debug> fmt::Debug for BlockBuf<'_, T> {
     fn fmt(&self, f: &mut fmt::Formatter<'_>) -> fmt::Result {
         self.as_block().fmt(f)
+    }
+}
+
+#[cfg(test)]
+mod tests {
+    use super::*;
+
+    #[test]
+    fn buffers_over_the_limit_are_not_made() {
+        let limit = LONGEST_BUFFER as u64;
+        assert_eq!([0, 1, limit].map(buffer_len), [Ok(0), Ok(1), Ok(LONGEST_BUFFER)]);
+        assert_eq!([limit + 1, 2 * limit, u64::MAX].map(buffer_len), [Err(Error::BadBlock); 3]);
     }
 }

@@ -1,6 +1,6 @@
 //! What the reading and writing of strings may differ by.
 
-/// What the reading and writing of strings may differ by, given at each call.
+/// What the reading and writing of strings may differ by, given at each call, in a block with each item.
 ///
 /// ```
 /// use valdrabus::Settings;

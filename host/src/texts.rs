@@ -24,9 +24,9 @@ use std::ops::Deref;
 /// ```
 #[derive(Debug, PartialEq, Eq, Hash)]
 pub enum Text<'s, 'b, T: ?Sized = str> {
-    /// A part of the source; the buffer is unchanged.
+    /// A part of the source; nothing is written for it.
     Borrowed(&'s T),
-    /// The first bytes of the buffer; its other bytes are unchanged.
+    /// The first bytes of the buffer; in a block, those behind the texts that were written before it. What stands behind the last text is unchanged.
     Written(&'b T),
 }
 

@@ -1,133 +1,152 @@
-//! Blocks through the typed functions: the rows of request T-03's table that they can ask, single calls item by item, and what a caller sees of answers and refusals. `tests/c/blocks.c` has
-//! every row, by its numbers.
+//! Blocks through the typed functions: every row of `vectors/blocks.tsv` that they can ask, single calls item by item, and what a caller sees of answers and refusals. `tests/c/blocks.c` has
+//! every row of request T-03's table, by its numbers.
 
 mod common;
 #[allow(dead_code)] // not all of it is asked for here
 #[path = "../compare/src/rng.rs"]
 mod rng;
 
-use common::{KINDS, LENT, whole};
+use common::{Asked, KINDS, LENT, items, list, place, table, unhex, whole};
 use rng::Rng;
 use valdrabus::*;
-
-/// What an item is made of.
-#[derive(Clone, Copy, Debug)]
-struct Asked {
-    literal: Literal,
-    settings: Settings,
-}
-
-fn asked(kind: usize, setting: u32, start: u32, end: u32) -> Asked {
-    let literal = Literal::new(KINDS[kind - 1], Span { start, end });
-    Asked { literal, settings: Settings { backslash: setting == 1 } }
-}
-
-fn items(asked: &[Asked]) -> Vec<Item> {
-    asked.iter().map(|asked| Item::new(asked.literal, asked.settings)).collect()
-}
 
 fn strings<const N: usize>(spans: [(u32, u32); N]) -> [Item; N] {
     spans.map(|(start, end)| Literal::new(Kind::String, Span { start, end }).into())
 }
 
-/// Answers as no call here gives them: 999 bytes are needed.
+/// Answers as no row has them, at each place another: borrowed from further on than a row's source goes.
 fn stale(count: usize) -> Vec<Told> {
-    let source = format!("'{}' ''", "x".repeat(999));
-    let mut answers = vec![Told::default(); count];
-    let items = vec![Item::from(whole(Kind::String, &source)); count];
+    const FAR: usize = 1_000;
+    let source = " ".repeat(FAR) + &"'x'".repeat(count);
+    let literals = (FAR..source.len()).step_by(3).map(|at| Literal::new(Kind::String, at as u32..at as u32 + 3));
+    let (items, mut answers) = (literals.map(Item::from).collect::<Vec<_>>(), vec![Told::default(); count]);
     read_block(&items, &source, &mut answers, &mut []).expect("as many answers");
     answers
 }
 
-/// A text, or the number of a refusal with the length that comes with 9.
-#[derive(Debug, PartialEq)]
-enum Due {
-    Borrowed(&'static [u8]),
-    Written(&'static [u8]),
-    Refused(u32, usize),
+/// An item or an answer by its numbers.
+type Four = [u32; 4];
+
+/// What a call gives: its answers, and how many bytes of the buffer are used.
+type Given = Result<(Vec<Four>, usize), Error>;
+
+/// A row of the file; docs/VECTORS.md says what it holds.
+struct Row {
+    id: String,
+    items: Vec<Item>,
+    source: Vec<u8>,
+    answers: usize,
+    room: usize,
+    due: Given,
+    written: Vec<u8>,
 }
 
-use Due::{Borrowed, Refused, Written};
+/// The rows that can be asked by types: not those with an item that is short or of a kind or setting that is none, and not those with a buffer of 4 GiB, which a test of their own asks.
+fn rows() -> Vec<Row> {
+    table("blocks").into_iter().filter_map(row).collect()
+}
 
-/// A row of the table: its number, its items, its source, the room, and what is due.
-type Row = (u32, &'static [(usize, u32, u32, u32)], &'static [u8], usize, &'static [Due]);
+/// As many answers are lent as the answer slice has whole ones. These are too few for the items just where its numbers are.
+fn row(columns: Vec<String>) -> Option<Row> {
+    let [id, items, source, answers, room, number, told, written, _] = columns.try_into().expect("nine columns");
+    let [answers, room] = [answers, room].map(|len| len.parse::<usize>().expect("a length"));
+    if room >= LONGEST_BUFFER {
+        return None;
+    }
+    let (items, written) = (fours(&items)?.into_iter().map(item).collect::<Option<_>>()?, unhex(&written));
+    let due = match number.as_str() {
+        "15" => Err(Error::BadBlock),
+        _ => Ok((fours(&told).expect("whole answers"), written.len())),
+    };
+    Some(Row { id, items, source: unhex(&source), answers: answers / 4, room, due, written })
+}
 
-const ROWS: [Row; 29] = [
-    (1, &[], b"", 0, &[]),
-    (2, &[], b"", 3, &[]),
-    (3, &[(4, 0, 0, 4)], b"'ab'", 0, &[Borrowed(b"ab")]),
-    (4, &[(4, 0, 3, 7)], b"xyz'ab'", 2, &[Borrowed(b"ab")]),
-    (5, &[(4, 0, 0, 8)], b"'ab' 'c'", 5, &[Written(b"abc")]),
-    (6, &[(4, 0, 0, 7), (4, 0, 7, 14)], br"'a' 'b'E'\x63'", 5, &[Written(b"ab"), Written(b"c")]),
-    (7, &[(4, 0, 0, 7), (4, 0, 0, 7)], b"'a' 'b'", 4, &[Written(b"ab"), Written(b"ab")]),
-    (8, &[(4, 0, 0, 7), (4, 0, 1, 2), (4, 0, 4, 7)], b"'a' 'b'", 2, &[Written(b"ab"), Refused(6, 0), Borrowed(b"b")]),
-    (9, &[(4, 0, 0, 11), (4, 0, 0, 7)], b"'a' 'b' 'c'", 2, &[Refused(9, 3), Written(b"ab")]),
-    (
-        10,
-        &[(4, 0, 0, 7), (4, 0, 0, 11), (4, 0, 0, 7)],
-        b"'a' 'b' 'c'",
-        4,
-        &[Written(b"ab"), Refused(9, 3), Written(b"ab")],
-    ),
-    (11, &[(4, 0, 0, 7), (4, 0, 7, 12)], b"'a' 'b''' ''", 2, &[Written(b"ab"), Written(b"")]),
-    (12, &[(4, 0, 0, 5)], b"'' ''", 0, &[Written(b"")]),
-    (13, &[(4, 0, 0, 7), (4, 0, 0, 7)], b"'a' 'b'", 3, &[Written(b"ab"), Refused(9, 2)]),
-    (14, &[(4, 0, 2, 7)], b"xx'a'b'", 0, &[Refused(6, 0)]),
-    (15, &[(4, 0, 0, 11)], br"E'\xC3' 'b'", 4, &[Refused(6, 0)]),
-    (16, &[(4, 0, 0, 0)], b"'a'", 0, &[Refused(6, 0)]),
-    (17, &[(8, 0, 0, 3)], b"'a'", 0, &[Refused(1, 0)]),
-    (18, &[(14, 0, 0, 3), (4, 0, 0, 3)], b"'a'", 0, &[Refused(1, 0), Borrowed(b"a")]),
-    (19, &[(12, 0, 0, 4)], b"B'0'", 9, &[Refused(1, 0)]),
-    (20, &[(4, 0, 3, 0)], b"'a'", 0, &[Refused(3, 0)]),
-    (21, &[(4, 0, 0, u32::MAX)], b"'a'", 0, &[Refused(3, 0)]),
-    (22, &[(4, 0, u32::MAX, u32::MAX)], b"'a'", 0, &[Refused(3, 0)]),
-    (23, &[(4, 0, 0, 2)], b"'\xC3\xA9'", 0, &[Refused(3, 0)]),
-    (24, &[(4, 0, 0, 3)], b"'\xFF'", 0, &[Refused(4, 0)]),
-    (25, &[(4, 0, 0, 3), (4, 0, 3, 6)], b"'\xFF''a'", 0, &[Refused(4, 0), Borrowed(b"a")]),
-    (32, &[(8, 0, 3, 0)], b"'a'", 0, &[Refused(1, 0)]),
-    (33, &[(4, 0, 0, 4), (4, 1, 0, 4)], br"'\n'", 1, &[Borrowed(br"\n"), Written(b"\n")]),
-    (37, &[(4, 0, 0, 6)], b"q'[a]'", 0, &[Refused(6, 0)]),
-    // without the item of kind 0, which no literal makes
-    (38, &[(4, 0, 0, 3), (4, 0, 0, 7), (4, 0, 4, 7)], b"'a' 'b'", 9, &[Borrowed(b"a"), Written(b"ab"), Borrowed(b"b")]),
-];
+/// Fours of numbers; none where one is short.
+fn fours(text: &str) -> Option<Vec<Four>> {
+    let numbers = |four: &str| four.split(' ').map(|number| number.parse().expect("a number")).collect::<Vec<_>>();
+    let all = text.split(", ").filter(|four| *four != "-");
+    all.map(|four| numbers(four).try_into().ok()).collect()
+}
 
-fn is_due(told: Result<Text<'_, '_, [u8]>, Error>, due: &Due) -> bool {
-    match (told, due) {
-        (Ok(Text::Borrowed(told)), Borrowed(due)) | (Ok(Text::Written(told)), Written(due)) => told == *due,
-        (Err(Error::NoRoom { needed }), Refused(9, due)) => needed == *due,
-        (Err(error), Refused(due, 0)) => error.number() == *due,
-        _ => false,
+/// None where the numbers name no kind or no setting.
+fn item([kind, setting, start, end]: Four) -> Option<Item> {
+    let kind = *KINDS.get((kind as usize).checked_sub(1)?)?;
+    let settings = *[Settings::STANDARD, Settings::MYSQL].get(setting as usize)?;
+    Some(Item::new(Literal::new(kind, Span { start, end }), settings))
+}
+
+/// A call's answers by their numbers. Source and buffer are given by where they begin.
+fn given<'s, 'b, T>(block: Result<Block<'s, 'b, T>, Error>, source: *const u8, out: *const u8) -> Given
+where
+    T: AsRef<[u8]> + ?Sized + 'static,
+    Block<'s, 'b, T>: IntoIterator<Item = Result<Text<'s, 'b, T>, Error>>,
+{
+    let block = block?;
+    let accepted = |how, whole, text: &T| [0, how, place(whole, text.as_ref()) as u32, text.as_ref().len() as u32];
+    let four = |answer| match answer {
+        Ok(Text::Borrowed(text)) => accepted(1, source, text),
+        Ok(Text::Written(text)) => accepted(2, out, text),
+        Err(Error::NoRoom { needed }) => [9, 0, 0, needed as u32],
+        Err(error) => [error.number(), 0, 0, 0],
+    };
+    Ok((block.into_iter().map(four).collect(), block.used()))
+}
+
+impl Row {
+    /// Asked in a way, it gives what is due, and nothing else is changed, neither in the slices that are lent nor behind them. But for 15, more answers change nothing.
+    fn holds(&self, way: &str, ask: impl Fn(&mut [Told], &mut [u8]) -> Given) {
+        let lengths = [self.answers, self.answers + 2];
+        for &len in if self.due.is_ok() { &lengths[..] } else { &lengths[..1] } {
+            let (lent, name) = (stale(len + 1), format!("{} {way}, {len} answers lent", self.id));
+            let (mut answers, mut out) = (lent.clone(), vec![LENT; self.room + 1]);
+            let given = ask(&mut answers[..len], &mut out[..self.room]);
+            assert_eq!(given, self.due, "{name}");
+            let told = given.map_or(0, |(fours, _)| fours.len());
+            assert_eq!(answers[told..], lent[told..], "{name}");
+            let rest = vec![LENT; out.len() - self.written.len()];
+            assert_eq!(out, [&self.written[..], &rest].concat(), "{name}");
+        }
     }
 }
 
 #[test]
-fn the_rows_of_the_table() {
-    for (number, asked_for, source, room, due) in ROWS {
-        let asked: Vec<Asked> = asked_for.iter().map(|&(kind, set, start, end)| asked(kind, set, start, end)).collect();
-        let items = items(&asked);
-        let (mut answers, mut out) = (stale(items.len() + 2), [LENT; 16]);
-        let block = read_block_bytes(&items, source, &mut answers, &mut out[..room]).expect("a block");
-        assert_eq!((block.len(), block.is_empty()), (due.len(), due.is_empty()), "row {number}");
-        assert!(block.iter().zip(due).all(|(told, due)| is_due(told, due)), "row {number}: {block:?}");
-        let written: Vec<u8> =
-            due.iter().flat_map(|due| if let Written(text) = due { *text } else { &[] }).copied().collect();
-        assert_eq!(block.used(), written.len(), "row {number}");
-        assert!(out.starts_with(&written) && out[written.len()..].iter().all(|&byte| byte == LENT), "row {number}");
-        assert_eq!(answers[items.len()..], stale(2), "row {number}");
+fn the_rows_of_the_file() {
+    let rows = rows();
+    // Three have the long buffer, ten a short item, 27 a kind or setting that is none.
+    assert_eq!(rows.len(), 158 - 3 - 10 - 27);
+    for row in &rows {
+        let (items, source) = (&row.items, &row.source);
+        row.holds("in bytes", |answers, out| {
+            let start = out.as_ptr();
+            given(read_block_bytes(items, source, answers, out), source.as_ptr(), start)
+        });
+        if let Ok(text) = str::from_utf8(source) {
+            row.holds("in text", |answers, out| {
+                let start = out.as_ptr();
+                given(read_block(items, text, answers, out), source.as_ptr(), start)
+            });
+        }
     }
 }
 
 #[test]
-fn number_15_for_fewer_answers_and_nothing_is_changed() {
-    let items = strings([(0, 7), (0, 7)]);
-    for count in 0..2 {
-        let (mut answers, mut out) = (stale(count), [LENT; 4]);
-        let error = read_block(&items, "'a' 'b'", &mut answers, &mut out).unwrap_err();
-        assert_eq!((error, error.number(), error.span()), (Error::BadBlock, 15, None));
-        assert_eq!((answers, out), (stale(count), [LENT; 4]));
+fn memory_of_its_own_gives_the_same_as_room_for_all() {
+    for row in rows() {
+        let (mut answers, mut out) = (stale(row.items.len()), [LENT; 64]);
+        let lent = read_block_bytes(&row.items, &row.source, &mut answers, &mut out).expect("a block");
+        assert_eq!(lent.used(), lent.needed(), "{}", row.id);
+        let owned = to_block_bytes(&row.items, &row.source).expect("a block");
+        assert!(owned.iter().eq(lent), "{}: {owned:?}", row.id);
+        assert_eq!((owned.len(), owned.as_block().used()), (row.items.len(), lent.used()), "{}", row.id);
     }
+}
+
+#[test]
+fn number_15_as_an_error() {
+    let error = read_block(&strings([(0, 7)]), "'a' 'b'", &mut [], &mut []).unwrap_err();
+    assert_eq!((error, error.number(), error.span()), (Error::BadBlock, 15, None));
     let said = "the block has fewer answers than items, or takes a buffer longer than 4294967295 bytes (number 15)";
-    assert_eq!(Error::BadBlock.to_string(), said);
+    assert_eq!(error.to_string(), said);
 }
 
 /// Zeros that take no memory before they are written; none where the machine has no room for them.
@@ -153,24 +172,6 @@ fn number_15_for_a_buffer_that_is_too_long() {
     let block =
         read_block(&items, "'a' 'b'", &mut answers, &mut out[..LONGEST_BUFFER]).expect("just as long as it may be");
     assert_eq!(block.get(0), Some(Ok(Text::Written("ab"))));
-}
-
-/// A list's bytes, and its rows with their settings.
-fn list(name: &str) -> (Vec<u8>, Vec<Asked>) {
-    let path = format!("{}/lists/{name}.txt", env!("CARGO_MANIFEST_DIR"));
-    let text = std::fs::read_to_string(&path).unwrap_or_else(|why| panic!("{path}: {why}"));
-    let (mut rows, mut start, mut setting) = (Vec::new(), 0, 0);
-    for line in text.split_inclusive('\n') {
-        let end = start + line.trim_end().len() as u32;
-        match line.trim_end() {
-            "-- backslash on" => setting = 1,
-            "-- backslash off" => setting = 0,
-            row if !row.starts_with("--") => rows.push(asked(4, setting, start, end)),
-            _ => {}
-        }
-        start += line.len() as u32;
-    }
-    (text.into_bytes(), rows)
 }
 
 /// A row of the list, one in three of another kind, setting or span, or in no source.
@@ -207,7 +208,8 @@ fn as_singles(asked: &[Asked], source: &[u8], room: usize) {
 #[test]
 fn each_item_as_by_a_single_call_with_the_room_left() {
     let mut rng = Rng::new(3);
-    for (mut source, rows) in ["ward", "wholesale"].map(list) {
+    for (text, rows) in ["ward", "wholesale"].map(list) {
+        let mut source = text.into_bytes();
         // Some rows are no UTF-8 then.
         for _ in 0..source.len() / 200 {
             let at = rng.below(source.len());
@@ -223,16 +225,28 @@ fn each_item_as_by_a_single_call_with_the_room_left() {
 
 #[test]
 fn a_list_as_one_block() {
-    let (source, rows) = list("wholesale");
+    let (text, rows) = list("wholesale");
     assert_eq!(rows.len(), 4_000);
-    for room in [0, 1_000, source.len()] {
-        as_singles(&rows, &source, room);
+    for room in [0, 1_000, text.len()] {
+        as_singles(&rows, text.as_bytes(), room);
     }
-    let (text, items) = (str::from_utf8(&source).expect("UTF-8"), items(&rows));
-    let block = to_block(&items, text).expect("a block");
+    let block = to_block(&items(&rows), &text).expect("a block");
     for (told, row) in block.iter().zip(&rows) {
-        assert_eq!(told.expect("a name").into_cow(), row.literal.to_str_in(text, row.settings).expect("a name"));
+        assert_eq!(told.expect("a name").into_cow(), row.literal.to_str_in(&text, row.settings).expect("a name"));
     }
+}
+
+#[test]
+fn a_buffer_as_long_as_all_spans_has_room() {
+    let (text, rows) = list("wholesale");
+    let long = |row: &Asked| (row.literal.span.end - row.literal.span.start) as usize;
+    let (mut answers, mut out) = (stale(rows.len()), vec![LENT; rows.iter().map(long).sum()]);
+    let items = items(&rows);
+    let block = read_block(&items, &text, &mut answers, &mut out).expect("a block");
+    for (name, row) in block.iter().zip(&rows) {
+        assert!(name.expect("a name").len() + 2 <= long(row), "{row:?}");
+    }
+    assert!(block.used() > 0);
 }
 
 #[test]
@@ -285,14 +299,14 @@ fn answers_from_either_end_and_from_a_place_on() {
     let block = to_block(&items, "'a''b''c''d'").expect("a block");
     let names = |texts: Texts| texts.map(|text| text.expect("a name").to_string()).collect::<String>();
     assert_eq!((names(block.iter()), block.iter().len()), ("abcd".to_string(), 4));
-    assert!(block.iter().rev().eq([3, 2, 1, 0].map(|at| block.as_block().get(at).expect("an item"))));
+    assert!(block.iter().rev().eq([3, 2, 1, 0].map(|at| block.get(at).expect("an item"))));
 
     let mut texts = block.iter();
     assert_eq!(texts.nth(1), Some(Ok(Text::Borrowed("b"))));
     assert_eq!((texts.len(), names(texts.clone())), (2, "cd".to_string()));
     assert_eq!(format!("{texts:?}"), r#"[Ok(Borrowed("c")), Ok(Borrowed("d"))]"#);
     assert_eq!((texts.nth(2), texts.next(), texts.next_back()), (None, None, None));
-    assert_eq!(block.as_block().get(4), None);
+    assert_eq!((block.get(4), block.as_block().get(4)), (None, None));
     assert_eq!((&block).into_iter().count(), 4);
     assert_eq!(format!("{block:?}"), format!("{:?}", block.as_block()));
 }
@@ -308,8 +322,9 @@ fn number_15_for_texts_that_no_buffer_holds() {
 #[test]
 fn an_empty_block() {
     let block = to_block(&[], "'a'").expect("a block");
-    assert!(block.as_block().is_empty() && block.iter().next().is_none());
-    assert_eq!((block.as_block().used(), block.as_block().needed()), (0, 0));
+    assert_eq!((block.len(), block.is_empty(), block.iter().next()), (0, true, None));
+    let shown = block.as_block();
+    assert_eq!((shown.len(), shown.is_empty(), shown.used(), shown.needed()), (0, true, 0, 0));
     let empty_texts = to_block(&strings([(0, 5), (0, 5)]), "'' ''").expect("a block");
     assert!(empty_texts.iter().all(|text| text == Ok(Text::Written(""))));
 }

@@ -88,6 +88,21 @@ fn the_readmes_example() {
 }
 
 #[test]
+fn the_readmes_example_of_a_block() -> Result<(), Error> {
+    let mut names = Vec::new();
+
+    let rows = "'Aspirin' 'Bob''s balm' 'unended";
+    let items = [0..9, 10..23, 24..32].map(|span| Item::new(Literal::new(Kind::String, span), Settings::STANDARD));
+    for name in to_block(&items, rows)?.iter() {
+        names.push(format!("{name:?}"));
+    }
+
+    let refused: Result<Text, Error> = Err(Error::InvalidString { span: Some(Span::from(24..32)) });
+    assert_eq!(names, [r#"Ok(Borrowed("Aspirin"))"#, r#"Ok(Written("Bob's balm"))"#, &format!("{refused:?}")]);
+    Ok(())
+}
+
+#[test]
 fn many_parts_and_long_values_are_allocated_exactly() {
     let (count, part) = (5_000, "'abcdefghij' ");
     let source = part.repeat(count);

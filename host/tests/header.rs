@@ -1,14 +1,12 @@
 //! That `sys` declares the functions of `include/valdrabus.h`, each with the same parameters in the same order. The linker compares names alone.
 
+mod common;
+
+use common::read;
 use std::collections::BTreeMap;
 
 /// Each function's parameters and what it returns, in Rust's words.
 type Functions = BTreeMap<String, String>;
-
-fn read(path: &str) -> String {
-    let path = format!("{}/{path}", env!("CARGO_MANIFEST_DIR"));
-    std::fs::read_to_string(&path).unwrap_or_else(|why| panic!("{path}: {why}"))
-}
 
 fn scalar(c: &str) -> &str {
     match c {

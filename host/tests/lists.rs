@@ -1,16 +1,20 @@
 //! The sample lists: the examples `keys` and `block` find what the script that made them knows.
 
+#[path = "../examples/block/request.rs"]
+mod block_request;
+mod common;
 #[path = "../examples/keys/list.rs"]
 mod list;
 #[path = "../examples/block/one_call.rs"]
 mod one_call;
-#[path = "../examples/keys/places.rs"]
-mod places;
 #[path = "../examples/keys/report.rs"]
 mod report;
 #[path = "../examples/keys/request.rs"]
 mod request;
 
+// The examples' modules look for it at the root.
+use common::places;
+use common::read;
 use report::Look;
 use std::borrow::Cow;
 use std::collections::HashSet;
@@ -18,25 +22,20 @@ use std::ffi::OsString;
 use std::os::unix::ffi::OsStringExt;
 use valdrabus::{Error, Settings, to_escape, to_literal, to_parts, to_unicode};
 
-fn read(name: &str) -> String {
-    let path = format!("{}/lists/{name}", env!("CARGO_MANIFEST_DIR"));
-    std::fs::read_to_string(&path).unwrap_or_else(|why| panic!("{path}: {why}"))
-}
-
 fn finds_its_doubles(name: &str, count: usize) {
-    let text = read(&format!("{name}.txt"));
+    let text = read(&format!("lists/{name}.txt"));
     let rows = list::rows(text.as_bytes(), Settings::STANDARD).expect("settings that can be read");
     assert_eq!(rows.len(), count);
     assert_eq!(report::keys(&rows, Look::Marked).lines().count(), count);
     assert_eq!(report::refused(&rows), "");
-    assert_eq!(report::doubles(&rows, Look::Marked), read(&format!("{name}.doubles")));
+    assert_eq!(report::doubles(&rows, Look::Marked), read(&format!("lists/{name}.doubles")));
     one_call_finds_the_same(name, &text, &rows);
 }
 
 /// The keys row by row are those of one call, borrowed or written alike.
 fn one_call_finds_the_same(name: &str, text: &str, rows: &[list::Row<'_>]) {
     let reading = one_call::read(text.as_bytes()).expect("settings that can be read");
-    assert_eq!(report::doubles(&reading.rows, Look::Marked), read(&format!("{name}.doubles")));
+    assert_eq!(report::doubles(&reading.rows, Look::Marked), read(&format!("lists/{name}.doubles")));
     let mut used = 0;
     for (one, all) in rows.iter().zip(&reading.rows) {
         match (&one.key, &all.key) {
@@ -76,8 +75,8 @@ fn the_wholesale_list() {
 /// Doubles do not show in the literals themselves. The one literal that stands twice means two products, by the setting.
 #[test]
 fn doubles_are_spelled_in_different_ways() {
-    for name in ["ward.txt", "wholesale.txt"] {
-        let text = read(name);
+    for name in ["ward", "wholesale"] {
+        let text = read(&format!("lists/{name}.txt"));
         let literals: Vec<&str> = text.lines().filter(|line| !line.starts_with("--")).collect();
         let different: HashSet<&str> = literals.iter().copied().collect();
         assert_eq!(different.len(), literals.len() - 1, "{name}");
@@ -162,7 +161,7 @@ fn keys_are_spelled_where_that_is_asked() {
 
 #[test]
 fn a_spelled_key_is_a_row_itself_at_either_setting() {
-    let text = read("wholesale.txt");
+    let text = read("lists/wholesale.txt");
     let rows = list::rows(text.as_bytes(), Settings::STANDARD).expect("settings that can be read");
     for look in [Look::Escape, Look::Unicode] {
         let shown = report::keys(&rows, look);
@@ -230,4 +229,22 @@ fn names_of_files_need_not_be_utf_8() {
     assert_eq!(request::request([name.clone()]).map(|request| request.files), Ok(vec![name.into()]));
     let option = OsString::from_vec(b"--\xFF".to_vec());
     assert!(request::request([option]).is_err_and(|why| why.starts_with("no option --\u{FFFD}\n")));
+}
+
+#[test]
+fn block_is_told_one_list() {
+    let list = |words: &[&str]| block_request::list(words.iter().map(OsString::from));
+    assert_eq!(list(&["a b.txt"]), Ok("a b.txt".into()));
+    assert_eq!(list(&["./-x"]), Ok("./-x".into()));
+    for (words, why) in [
+        (&[][..], "one list is to be named, and not 0"),
+        (&["a", "b"], "one list is to be named, and not 2"),
+        (&["--help"], "no option --help"),
+        (&["a", "-x"], "no option -x"),
+        (&["-"], "no option -"),
+    ] {
+        assert_eq!(list(words), Err(format!("{why}\n{}", block_request::USAGE)));
+    }
+    let name = OsString::from_vec(b"\xFF.txt".to_vec());
+    assert_eq!(block_request::list([name.clone()]), Ok(name.into()));
 }

@@ -166,7 +166,7 @@ fn errors_say_what_is_wrong() {
     assert_eq!(said(Error::InvalidString { span: None }), "the text is not a readable string (number 6)");
     assert_eq!(said(Error::NotUtf8 { span: Some(span) }), "the text at 2..9 is not UTF-8 (number 4)");
     assert_eq!(said(Error::NotUtf8 { span: None }), "the text or value is not UTF-8 (number 4)");
-    assert_eq!(said(Error::NoRoom { needed: 7 }), "the buffer is too short: 7 bytes are needed (number 9)");
+    assert_eq!(said(Error::NoRoom { needed: 7 }), "the room is too short: 7 bytes are needed (number 9)");
     let boxed: Box<dyn std::error::Error + Send + Sync> = Error::HoldsNul.into();
     let nul = "the value holds a NUL: only plain literals with backslash escapes spell it (number 11)";
     assert_eq!(boxed.to_string(), nul);

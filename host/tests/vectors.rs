@@ -1,9 +1,9 @@
-//! Every row of `vectors/` that a caller of this crate can ask: the Rust original's own answers, how document 01 is read, and the facts of the writers' two forms and of values in parts.
-//! docs/VECTORS.md says what a row holds.
+//! Rows of `vectors/`, all that a caller of this crate can ask: the Rust original's own answers, how document 01 is read, and the facts of the writers' two forms and of values in parts.
+//! `tests/blocks.rs` has those of blocks. docs/VECTORS.md says what a row holds.
 
 mod common;
 
-use common::{KINDS, LENT};
+use common::{KINDS, LENT, place, table, unhex};
 use std::borrow::Cow;
 use std::fmt::Write;
 use valdrabus::*;
@@ -22,39 +22,20 @@ struct Row {
 }
 
 fn rows(name: &str) -> Vec<Row> {
-    let path = format!("{}/../vectors/{name}.tsv", env!("CARGO_MANIFEST_DIR"));
-    let table = std::fs::read_to_string(&path).unwrap_or_else(|why| panic!("{path}: {why}"));
     let read = if name == "forms" { form_row } else { row };
-    table.lines().filter(|line| !line.starts_with('#')).map(read).filter(|row| row.question != "record").collect()
+    table(name).into_iter().map(read).filter(|row| row.question != "record").collect()
 }
 
-fn row(line: &str) -> Row {
-    let mut columns = line.split('\t').map(str::to_owned);
-    let mut next = || columns.next().expect("nine columns");
-    Row {
-        id: next(),
-        question: next(),
-        kind: next(),
-        setting: Settings { backslash: next() == "1" },
-        start: next(),
-        end: next(),
-        source: unhex(&next()),
-        room: next(),
-        answer: next(),
-    }
+fn row(columns: Vec<String>) -> Row {
+    let [id, question, kind, setting, start, end, source, room, answer] = columns.try_into().expect("nine columns");
+    let setting = Settings { backslash: setting == "1" };
+    Row { id, question, kind, setting, start, end, source: unhex(&source), room, answer }
 }
 
 /// A row of a value to write; its question is the form, and its room the buffer's length.
-fn form_row(line: &str) -> Row {
-    let columns: Vec<&str> = line.split('\t').collect();
-    let [id, form, value, room, answer] = columns[..] else { panic!("five columns are due: {line}") };
-    let [id, question, room, answer] = [id, form, room, answer].map(str::to_owned);
-    Row { id, question, source: unhex(value), room, answer, ..Row::default() }
-}
-
-fn unhex(text: &str) -> Vec<u8> {
-    let digits = if text == "-" { "" } else { text };
-    (0..digits.len()).step_by(2).map(|at| u8::from_str_radix(&digits[at..at + 2], 16).expect("hex")).collect()
+fn form_row(columns: Vec<String>) -> Row {
+    let [id, question, value, room, answer] = columns.try_into().expect("five columns");
+    Row { id, question, source: unhex(&value), room, answer, ..Row::default() }
 }
 
 fn hex(bytes: &[u8]) -> String {
@@ -118,7 +99,7 @@ fn refused(error: Error) -> String {
 
 /// Where a part stands in the source that it is a part of.
 fn borrowed(source: &[u8], part: &[u8]) -> String {
-    let start = part.as_ptr().addr() - source.as_ptr().addr();
+    let start = place(source.as_ptr(), part);
     format!("b {} {}", start, start + part.len())
 }
 

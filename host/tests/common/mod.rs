@@ -1,7 +1,11 @@
 //! What several tests use.
 #![allow(dead_code)] // each test uses a part
 
-use valdrabus::{BitStringRadix, Kind, Literal, TimeZone};
+#[path = "../../examples/keys/places.rs"]
+pub mod places;
+
+use places::Place;
+use valdrabus::{BitStringRadix, Item, Kind, Literal, Settings, TimeZone};
 
 /// What a buffer holds before a call, so that a changed byte shows.
 pub const LENT: u8 = 0xA5;
@@ -39,4 +43,51 @@ pub fn values(alphabet: &[char], most: usize) -> Vec<String> {
 
 pub fn whole(kind: Kind, source: impl AsRef<[u8]>) -> Literal {
     Literal::whole(kind, source).expect("a short text")
+}
+
+/// A file of the repository, by its path from this crate.
+pub fn read(path: &str) -> String {
+    let path = format!("{}/{path}", env!("CARGO_MANIFEST_DIR"));
+    std::fs::read_to_string(&path).unwrap_or_else(|why| panic!("{path}: {why}"))
+}
+
+/// The rows of a file of `vectors/`, each by its columns.
+pub fn table(name: &str) -> Vec<Vec<String>> {
+    let text = read(&format!("../vectors/{name}.tsv"));
+    let rows = text.lines().filter(|line| !line.starts_with('#'));
+    rows.map(|row| row.split('\t').map(str::to_owned).collect()).collect()
+}
+
+pub fn unhex(text: &str) -> Vec<u8> {
+    let digits = if text == "-" { "" } else { text };
+    (0..digits.len()).step_by(2).map(|at| u8::from_str_radix(&digits[at..at + 2], 16).expect("hex")).collect()
+}
+
+/// Where a part stands in the whole that begins here.
+pub fn place(whole: *const u8, part: &[u8]) -> usize {
+    part.as_ptr().addr() - whole.addr()
+}
+
+/// What an item is made of.
+#[derive(Clone, Copy, Debug)]
+pub struct Asked {
+    pub literal: Literal,
+    pub settings: Settings,
+}
+
+pub fn items(asked: &[Asked]) -> Vec<Item> {
+    asked.iter().map(|asked| Item::new(asked.literal, asked.settings)).collect()
+}
+
+/// A sample list, and its rows.
+pub fn list(name: &str) -> (String, Vec<Asked>) {
+    let list = read(&format!("lists/{name}.txt"));
+    let places = places::places(list.as_bytes(), Settings::STANDARD).expect("settings that can be read");
+    let rows = places.into_iter().map(asked).collect();
+    (list, rows)
+}
+
+fn asked(place: Place) -> Asked {
+    let [start, end] = [place.bytes.start, place.bytes.end].map(|at| at.try_into().expect("a short list"));
+    Asked { literal: Literal::new(Kind::String, start..end), settings: place.settings }
 }

@@ -1,0 +1,92 @@
+//! What allocates and what does not, by an allocator that counts.
+
+mod common;
+
+use common::{Asked, items, list};
+use std::alloc::{GlobalAlloc, Layout, System};
+use std::cell::Cell;
+use valdrabus::*;
+
+/// The system's allocator, with a count for each thread: a test has a thread of its own, and others run beside it.
+struct Counting;
+
+thread_local! {
+    static COUNT: Cell<usize> = const { Cell::new(0) };
+}
+
+// SAFETY: all is handed on as it comes, and the count itself takes no memory. Memory that is asked for zeroed, or longer than before, comes from `alloc` too, by the trait's own functions.
+unsafe impl GlobalAlloc for Counting {
+    unsafe fn alloc(&self, layout: Layout) -> *mut u8 {
+        COUNT.set(COUNT.get() + 1);
+        // SAFETY: the caller's word.
+        unsafe { System.alloc(layout) }
+    }
+
+    unsafe fn dealloc(&self, at: *mut u8, layout: Layout) {
+        // SAFETY: the caller's word.
+        unsafe { System.dealloc(at, layout) }
+    }
+}
+
+#[global_allocator]
+static COUNTING: Counting = Counting;
+
+/// What a run tells, and how many allocations it makes.
+fn counted<T>(run: impl FnOnce() -> T) -> (T, usize) {
+    let before = COUNT.get();
+    let told = run();
+    (told, COUNT.get() - before)
+}
+
+/// The list, its rows, and how many bytes their names have together.
+fn wholesale() -> (String, Vec<Asked>, usize) {
+    let (text, rows) = list("wholesale");
+    let block = to_block(&items(&rows), &text).expect("a block");
+    let long = block.iter().map(|name| name.expect("a name").len()).sum();
+    (text, rows, long)
+}
+
+#[test]
+fn what_to_block_allocates_is_seen() {
+    let (text, rows) = list("wholesale");
+    let items = items(&rows);
+    let (block, made) = counted(|| to_block(&items, &text).expect("a block"));
+    assert_eq!((block.len(), made), (4_000, 3), "items, answers and buffer");
+}
+
+#[test]
+fn a_block_and_its_answers_allocate_nothing() {
+    let (text, rows, long) = wholesale();
+    let (items, mut answers, mut out) = (items(&rows), vec![Told::default(); rows.len()], vec![0; text.len()]);
+    let (in_text, made) = counted(|| {
+        let block = read_block(&items, &text, &mut answers, &mut out).expect("a block");
+        block.iter().flatten().map(|name| name.len()).sum::<usize>()
+    });
+    assert_eq!((in_text, made), (long, 0));
+    let (in_bytes, made) = counted(|| {
+        let block = read_block_bytes(&items, text.as_bytes(), &mut answers, &mut out).expect("a block");
+        block.iter().flatten().map(|name| name.len()).sum::<usize>()
+    });
+    assert_eq!((in_bytes, made), (long, 0));
+}
+
+#[test]
+fn refusals_allocate_nothing() {
+    let (text, rows, _) = wholesale();
+    let (items, mut answers) = (items(&rows), vec![Told::default(); rows.len()]);
+    let (refused, made) = counted(|| {
+        let block = read_block(&items, &text, &mut answers, &mut []).expect("a block");
+        block.iter().filter(|name| matches!(name, Err(Error::NoRoom { .. }))).count()
+    });
+    assert!(refused > 0);
+    assert_eq!(made, 0);
+}
+
+#[test]
+fn single_calls_allocate_nothing() {
+    let (text, rows, long) = wholesale();
+    let mut out = [0; 256];
+    let mut name_len = |row: &Asked| row.literal.as_str_in(&text, row.settings, &mut out).expect("a name").len();
+    let (one_by_one, made) = counted(|| rows.iter().map(&mut name_len).sum::<usize>());
+    assert_eq!((one_by_one, made), (long, 0));
+}
