@@ -76,37 +76,46 @@ impl ReadyBlocks {
                 )
             };
             assert!(number == 0, "refused by {number}");
-            for &[number, how, start, length] in black_box(&*answers) {
-                let (start, length) = (start as usize, length as usize);
-                sum += seen(number, how, start, start + length, source, &self.out);
-            }
+            sum += all_seen(black_box(answers), source, &self.out);
         }
         sum
     }
 
     fn singles(&mut self) -> u64 {
         let source = self.ready.case().source.as_bytes();
-        let (mut how, mut first, mut second) = (0, 0, 0);
-        let mut sum = 0;
-        for (items, &room) in self.items.chunks(self.by).zip(&self.rooms) {
-            let mut left = &mut self.out[..room];
-            for &[kind, setting, start, end] in black_box(items) {
-                let (how_to, first_to, second_to) = (&raw mut how, &raw mut first, &raw mut second);
-                let (from, long, to, room) = (source.as_ptr(), source.len(), left.as_mut_ptr(), left.len());
-                // SAFETY: source and buffer are valid for their lengths; the numbers are ours alone.
-                let number = unsafe {
-                    sys::valdrabus_as_str_in(
-                        kind, 0, start, end, from, long, setting, to, room, how_to, first_to, second_to,
-                    )
-                };
-                sum += seen(number, how, first, second, source, left);
-                if how == WRITTEN {
-                    left = &mut left[second..];
-                }
-            }
-        }
-        sum
+        let calls = self.items.chunks(self.by).zip(&self.rooms);
+        calls.map(|(items, &room)| one_by_one(black_box(items), source, &mut self.out[..room])).sum()
     }
+}
+
+/// Single calls on the items of a block, each with the room that those before it left.
+#[inline]
+fn one_by_one(items: &[Four], source: &[u8], mut left: &mut [u8]) -> u64 {
+    let (mut how, mut first, mut second) = (0, 0, 0);
+    let mut sum = 0;
+    for &[kind, setting, start, end] in items {
+        let (how_to, first_to, second_to) = (&raw mut how, &raw mut first, &raw mut second);
+        let (from, long, to, room) = (source.as_ptr(), source.len(), left.as_mut_ptr(), left.len());
+        // SAFETY: source and buffer are valid for their lengths; the numbers are ours alone.
+        let number = unsafe {
+            sys::valdrabus_as_str_in(kind, 0, start, end, from, long, setting, to, room, how_to, first_to, second_to)
+        };
+        sum += seen(number, how, first, second, source, left);
+        if how == WRITTEN {
+            left = &mut left[second..];
+        }
+    }
+    sum
+}
+
+/// What is looked at of a block's answers.
+#[inline]
+fn all_seen(answers: &[Four], source: &[u8], out: &[u8]) -> u64 {
+    let one = |&[number, how, start, length]: &Four| {
+        let (start, length) = (start as usize, length as usize);
+        seen(number, how, start, start + length, source, out)
+    };
+    answers.iter().map(one).sum()
 }
 
 /// What is looked at of an answer: the text that it shows, or the number and the length needed.
