@@ -1,4 +1,4 @@
--- What is promised, and what proves it: begin here. Each theorem is a sentence of the order or of document 01, in their order. Its type says the sentence over
+-- What is promised, and what proves it: begin here. Each theorem is a sentence of the order or of documents 01 and 02, in their order. Its type says the sentence over
 -- the definitions of `meaning`, and its body names the law that proves it, with the file that holds it. Where code carries a sentence, a comment names the
 -- crate: its contracts cite the same definitions. Assumes nothing.
 use mathlib.Core.Logic.{_⊎_, _↔_}

@@ -77,17 +77,6 @@ string-fits l S σ out = go (isString (l .kind)) (l .synthetic) (badSpan (l .spa
         told-fits (l .span) (l .span .start) (l .span .end) (length text) out (fits (span-range (l .span) S h)) (read σ text) (read-inside σ text)
         (λ v. read-length σ text v)
 
--- BY CASES, as the code comes to them
-module _ (l : Literal) (S : List ℕ) (σ : Settings) (out : List ℕ) where
-  pub borrowed-fits : (f u : ℕ) → stringQuestion l S σ out .answer ≡ Text′.Borrowed f u → Bounds (l .span .end) f u
-  borrowed-fits f u h = subst (TextFits (l .span .end) (length out)) h (string-fits l S σ out)
-
-  pub written-fits : (n : ℕ) → stringQuestion l S σ out .answer ≡ Text′.Written n → n ≤ length out
-  written-fits n h = subst (TextFits (l .span .end) (length out)) h (string-fits l S σ out)
-
-  pub needed-fits : (n : ℕ) → stringQuestion l S σ out .answer ≡ Text′.Refused (NoRoom n) → n ≤ l .span .end
-  needed-fits n h = subst (TextFits (l .span .end) (length out)) h (string-fits l S σ out)
-
 -- WHAT IS TOLD OF AN ITEM, where 32 bits hold the span's end and the buffer's: also where a text ends
 pub record Small (f : Four) : Type 0 where
   pub number : f .number < 2 ^ 32
