@@ -85,6 +85,10 @@ module _ {s used : ℕ} {q : Read} (i : InBlock s used q) where
     pub start-fits : s + f ≤ 4294967295
     start-fits = omega (arith, ordered, last)
 
+    -- so that a text told by its end is refused for what it tells, and not for its width
+    pub end-fits : s + u ≤ 4294967295
+    end-fits = last
+
     pub len-fits : u - f ≤ 4294967295
     len-fits = omega (arith, last)
 
@@ -168,7 +172,8 @@ module _ (S : List ℕ) (used : ℕ) (out : List ℕ) (i : Item) where
           abbrev text : List ℕ
           text = part (i .start) (i .end) S
 
-          module _ (σ : Settings) (g : σ ≡ settingsOf (i .setting)) (d : Checked) (after : List ℕ) (c : Checks (utf8 text) (read σ text) out d after) where
+          -- AS IT IS READ, whatever the setting; what it tells is the item's at the item's own
+          module _ (σ : Settings) (d : Checked) (after : List ℕ) (c : Checks (utf8 text) (read σ text) out d after) where
             pub undecoded-asks : d ≡ Checked′.NotUtf8 → (r : Told) → r ≡ toldOf 4 0 0 0 0 → Asks it r after
             unfolding itemAsked stringQuestion tested sourceText
             undecoded-asks o r p =
@@ -182,12 +187,13 @@ module _ (S : List ℕ) (used : ℕ) (out : List ℕ) (i : Item) where
               reads : (utf8 text ≡ true) × Reads (read σ text) out a after
               reads = subst (λ (z : Checked). ChecksBy (utf8 text) (read σ text) out z after) o (c .by)
 
-              its : it ≡ askedAs used (toldAs (InvalidString (record { start = i .start; end = i .end })) (i .start) out (read σ text))
-              unfolding itemAsked stringQuestion tested sourceText
-              its = rw (yes, k, sym e ∙ f, reads .0, ← g)
+              module _ (g : σ ≡ settingsOf (i .setting)) where
+                its : it ≡ askedAs used (toldAs (InvalidString (record { start = i .start; end = i .end })) (i .start) out (read σ text))
+                unfolding itemAsked stringQuestion tested sourceText
+                its = rw (yes, k, sym e ∙ f, reads .0, ← g)
 
-              pub text-asks : (r : Told) → r ≡ readTold (i .start) used a → Asks it r after
-              text-asks r p = rw (its, p) (read-asks (record { start = i .start; end = i .end }) (i .start) used out after (read σ text) a (reads .1))
+                pub text-asks : (r : Told) → r ≡ readTold (i .start) used a → Asks it r after
+                text-asks r p = rw (its, p) (read-asks (record { start = i .start; end = i .end }) (i .start) used out after (read σ text) a (reads .1))
 
               pub text-fits : used + length out ≤ 4294967295 → Fits w32 (i .end) → InBlock (i .start) used a
               text-fits h w =
@@ -196,12 +202,12 @@ module _ (S : List ℕ) (used : ℕ) (out : List ℕ) (i : Item) where
                   in-block (i .start) used (length text) out (read σ text) a (reads .1 .answer) (read-inside σ text) (read-length σ text) n h
 
           -- A PLAIN TEXT IN ASCII is its body
-          module _ (σ : Settings) (g : σ ≡ settingsOf (i .setting)) (y : Bool) (p : y ≡ isPlainAscii σ text) (z : y ≡ true) where
+          module _ (σ : Settings) (y : Bool) (p : y ≡ isPlainAscii σ text) (z : y ≡ true) where
             abbrev body : Read
             body = Read′.Borrowed 1 (length text - 1)
 
             pub plain-fits : used + length out ≤ 4294967295 → Fits w32 (i .end) → InBlock (i .start) used (Read′.Borrowed 1 (length text - 1))
-            plain-fits h w = text-fits σ g (Checked′.Text body) out (ascii-checks σ text y p z out) body refl h w
+            plain-fits h w = text-fits σ (Checked′.Text body) out (ascii-checks σ text y p z out) body refl h w
 
-            pub plain-asks : (r : Told) → r ≡ readTold (i .start) used (Read′.Borrowed 1 (length text - 1)) → Asks it r out
-            plain-asks r q = text-asks σ g (Checked′.Text body) out (ascii-checks σ text y p z out) body refl r q
+            pub plain-asks : σ ≡ settingsOf (i .setting) → (r : Told) → r ≡ readTold (i .start) used (Read′.Borrowed 1 (length text - 1)) → Asks it r out
+            plain-asks g r q = text-asks σ (Checked′.Text body) out (ascii-checks σ text y p z out) body refl g r q

@@ -16,8 +16,8 @@ fn is_bad_block(items: usize, answers: usize, out: usize) -> bool
 }
 
 // Reads the items, and tells four numbers of each; or 15, and nothing is changed.
-// Rules out: one item read for all; 15 told as 0; an item past the last; answers laid over each other; every written text told from the buffer's start
-// (must-fail: first_item_for_all, fifteen_told_as_nought, answers_past_the_items, answers_at_the_start, taken_bytes_not_handed_on).
+// Rules out: 15 told as 0; an item past the last; items or answers counted by the bytes that are taken, texts by the numbers that were read (must-fail:
+// fifteen_told_as_nought, answers_past_the_items, item_sought_by_the_bytes, answers_laid_by_the_bytes, texts_put_by_the_numbers).
 pub fn read_block(items: &[u32], source: &[u8], answers: &mut [u32], out: &mut [u8]) -> u32
     ensures { λ r. ⌜ Blocks (blockCall (now (items .entry)) (now (source .entry)) (now (answers .entry)) (now (out .entry))) r
         (now (answers .exit)) (now (out .exit)) ⌝ }

@@ -61,7 +61,7 @@ fn read_told(read: Read, start: usize, used: usize) -> Told
 }
 
 // Reads an item into the room that is left of the buffer, behind `used` bytes of it.
-// Rules out: a setting not asked, so that 1 comes before 10; one number for another; another kind read; one setting for all (must-fail: setting_not_asked,
+// Rules out: kind and setting exchanged; one number for another; another kind read; one setting for all (must-fail: kind_and_setting_exchanged,
 // unknown_told_as_wrong_kind, wrong_kind_told_as_unknown, bad_span_told_as_not_utf8, dates_read, setting_off_for_all).
 pub(crate) fn read_item(item: Item, source: &[u8], used: usize, room: &mut [u8]) -> Told
     requires { ⌜ used + length (now room) ≤ 4294967295 ⌝ }

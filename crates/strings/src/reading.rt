@@ -46,8 +46,8 @@ fn fit_of(text: &[u8], settings: Settings) -> Fit
 }
 
 // Reads a string's text, which is tested to be UTF-8. Whoever asks tells a plain text in ASCII before, by `is_plain_ascii`: that costs a scan where this costs a call.
-// Rules out: 6 for bytes that are not UTF-8; the setting lost; a plain body shown from its mark on, or nothing of it; another part of the text read (must-fail:
-// not_utf8_told_as_refused, setting_lost_on_the_way, plain_from_its_mark, plain_shown_empty, nothing_of_the_text_read).
+// Rules out: 6 for bytes that are not UTF-8; the setting lost; a plain body shown from its mark on, or nothing of it; the first byte passed over (must-fail:
+// not_utf8_told_as_refused, setting_lost_on_the_way, plain_from_its_mark, plain_shown_empty, first_byte_passed_over).
 pub fn read_string(text: &[u8], settings: Settings, out: &mut [u8]) -> Checked
     ensures { λ r. ⌜ Checks (utf8 (now (text .entry))) (read settings (now (text .entry))) (now (out .entry)) r (now (out .exit)) ⌝ }
 {

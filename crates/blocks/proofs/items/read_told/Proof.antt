@@ -1,6 +1,6 @@
 -- `blocks::items::read_told` meets its contract: by the reading, whose numbers fit. Assumes nothing.
 use borrow.Author.Needs.{needs}
-use Rattle.blocks.proofs.Answering.{ordered, start-wide, end-wide, start-fits, len-fits, used-fits, written-fits, needed-fits}
+use Rattle.blocks.proofs.Answering.{ordered, start-wide, end-wide, start-fits, end-fits, len-fits, used-fits, written-fits, needed-fits}
 use Rattle.blocks.proofs.Answering.{told-borrowed, told-written, told-refused, told-short}
 use Rattle.blocks.proofs.items.read_told.Statement.{statement}
 use Rattle.blocks.proofs.items.read_told.Tie as tie
@@ -12,7 +12,7 @@ read-told-spec =
     (λ c. search needs)
     (λ c. search (start-wide, end-wide))
     (λ c. search ordered)
-    (λ c κs. search (start-fits, len-fits))
+    (λ c κs. search (start-fits, end-fits, len-fits))
     (λ c. search needs)
     (λ c κs. search (used-fits, written-fits, needs))
     (λ c. search needs)
