@@ -1,4 +1,5 @@
--- [02 T-03] The call: when it is refused, what it tells of each item, what it leaves, and a call of one item. Assumes nothing.
+-- [02 T-03] The call: when it is refused, what it tells of each item, what it leaves, a call of one item, and one without an item that takes nothing.
+-- Assumes nothing.
 use mathlib.Core.Path.{_≡_, refl, ap, ap₂, sym, _∙_}
 use mathlib.Core.Bool.{Bool, true, false, _||_, not, false≢true}
 use mathlib.Core.List.{List, [], _∷_, _++_, append-assoc, flatten}
@@ -87,22 +88,15 @@ numbers-append [] gs = refl
 numbers-append (f ∷ fs) gs = ap (λ (l : List ℕ). f .number ∷ (f .how ∷ (f .start ∷ (f .len ∷ l)))) (numbers-append fs gs)
 
 -- the fours of the first items, and of the others
-fours-before : (a : List ℕ) (fs : List Four) → length a % 4 ≡ 0 → numbersOf (take (length (itemsOf a)) fs) ≡ take (length a) (numbersOf fs)
-fours-before [] fs h = refl
-fours-before (k ∷ []) fs h = absurd (omega arith)
-fours-before (k ∷ (g ∷ [])) fs h = absurd (omega arith)
-fours-before (k ∷ (g ∷ (s ∷ []))) fs h = absurd (omega arith)
-fours-before (k ∷ (g ∷ (s ∷ (e ∷ a)))) [] h = refl
-fours-before (k ∷ (g ∷ (s ∷ (e ∷ a)))) (f ∷ fs) h =
-    ap (λ (l : List ℕ). f .number ∷ (f .how ∷ (f .start ∷ (f .len ∷ l)))) (fours-before a fs (four-less (length a) h))
-
-fours-behind : (a : List ℕ) (fs : List Four) → length a % 4 ≡ 0 → numbersOf (drop (length (itemsOf a)) fs) ≡ drop (length a) (numbersOf fs)
-fours-behind [] fs h = refl
-fours-behind (k ∷ []) fs h = absurd (omega arith)
-fours-behind (k ∷ (g ∷ [])) fs h = absurd (omega arith)
-fours-behind (k ∷ (g ∷ (s ∷ []))) fs h = absurd (omega arith)
-fours-behind (k ∷ (g ∷ (s ∷ (e ∷ a)))) [] h = refl
-fours-behind (k ∷ (g ∷ (s ∷ (e ∷ a)))) (f ∷ fs) h = fours-behind a fs (four-less (length a) h)
+fours-cut : (a : List ℕ) (fs : List Four) → length a % 4 ≡ 0
+    → (numbersOf (take (length (itemsOf a)) fs) ≡ take (length a) (numbersOf fs)) × (numbersOf (drop (length (itemsOf a)) fs) ≡ drop (length a) (numbersOf fs))
+fours-cut [] fs h = (refl, refl)
+fours-cut (k ∷ []) fs h = absurd (omega arith)
+fours-cut (k ∷ (g ∷ [])) fs h = absurd (omega arith)
+fours-cut (k ∷ (g ∷ (s ∷ []))) fs h = absurd (omega arith)
+fours-cut (k ∷ (g ∷ (s ∷ (e ∷ a)))) [] h = (refl, refl)
+fours-cut (k ∷ (g ∷ (s ∷ (e ∷ a)))) (f ∷ fs) h =
+    let c = fours-cut a fs (four-less (length a) h) in (ap (λ (l : List ℕ). f .number ∷ (f .how ∷ (f .start ∷ (f .len ∷ l)))) (c .0), c .1)
 
 -- WHAT IT RETURNS: 0, or 15 exactly where it is not admitted
 pub data ZeroOr15 (fact : Type 0) : ℕ → Type 0 where
@@ -302,8 +296,8 @@ module _ (a : List ℕ) (k g s e : ℕ) (b S answers out : List ℕ) (f : length
           ∙ ap (λ (is : List Item). numbersOf (blockAt S 0 out is .fours)) (items-append a (k ∷ (g ∷ (s ∷ (e ∷ b)))) f)
           ∙ ap numbersOf (block-out-fours S 0 out (itemsOf a) i (itemsOf b) none-0)
           ∙ numbers-append (take (length (itemsOf a)) fs) (itemAsked S (0 + n) (drop n out) i .told ∷ drop (length (itemsOf a)) fs)
-          ∙ ap₂ _++_ (fours-before a fs f ∙ ap (take (length a)) (sym left-is))
-          (ap₂ (λ (x : Asked) (l : List ℕ). numbersOf (x .told ∷ []) ++ l) from-0 (fours-behind a fs f ∙ ap (drop (length a)) (sym left-is)))
+          ∙ ap₂ _++_ (fours-cut a fs f .0 ∙ ap (take (length a)) (sym left-is))
+          (ap₂ (λ (x : Asked) (l : List ℕ). numbersOf (x .told ∷ []) ++ l) from-0 (fours-cut a fs f .1 ∙ ap (drop (length a)) (sym left-is)))
 
       pub call-out-buffer : blockCall whole S answers out .buffer ≡ blockCall (a ++ b) S others out .buffer
       call-out-buffer =

@@ -1,5 +1,6 @@
 -- [02 T-03] The block, of what calls return: whatever its contract permits, and the single question's, an item gets the answer and the bytes of a single call
--- with the room still left; and two block calls, one after the other on what is left, agree with the one. Assumes nothing.
+-- with the room still left; a call without a refused item leaves the same and tells the same of the others; and two block calls, one after the other on what
+-- is left, agree with the one. Assumes nothing.
 use mathlib.Core.Path.{_≡_, ap, ap₂, sym, _∙_, subst}
 use mathlib.Core.Bool.{true, false}
 use mathlib.Core.List.{List, [], _∷_, _++_, flatten}
