@@ -6,7 +6,7 @@
  * WHAT THE CALLER OWES, and no more:
  *   - a pointer with a length is valid for that many bytes, for reading, and for writing where it is not const; with the length 0 it is any pointer but NULL;
  *   - the same of a block's items and answers, whose lengths count 32-bit numbers and not bytes; these pointers are aligned, with the length 0 too;
- *   - a pointer to a number (how, first, second, value, len ..) is valid for writing and aligned;
+ *   - a pointer to a number (how, first, second, place, value, len ..) is valid for writing and aligned;
  *   - what is written through (the buffer, each lent number, a block's answers) overlaps nothing else that is given.
  * Everything else is tested: every kind, span, source, setting and buffer gets an answer or a number.
  *
@@ -23,7 +23,7 @@
  *       (the place is below the source's length and its byte is 80 to BF hex; place 0 too, so a text that begins so is 3 and never 4)
  *    4  the text (for a writer: the value) is not UTF-8                          first, second: its span; 0 and 0 without a literal
  *    5  not a readable integer                     first, second: its span
- *    6  not a readable string                      first, second: its span; 0 and 0 without a literal
+ *    6  not a readable string                      first, second: its span; 0 and 0 without a literal       place: where reading stops
  *    7  not a readable bit string                  first, second: its span
  *    8  not a money text                           first, second: its span
  *    9  would be written, and the buffer, in a block what is left of it, is shorter       first: 0, second: the length needed
@@ -35,14 +35,24 @@
  * number that could name nothing, 12, 4, 11, 9. Of a block 15 is tested before any item is looked at, and of each item 10, 1, 3, 4, 6, 9.
  *
  * WHAT STAYS UNCHANGED. A refusal, by any number but 0, and a borrowed answer change no byte of the buffer. A written answer fills the buffer's start, in a block
- * the start of what is left; the rest is unchanged. The lent numbers (how, first, second ..) are written by every call, with 0 where nothing else is said. A block's answers
- * are written for its items: past them, and on 15, they are as they were lent.
+ * the start of what is left; the rest is unchanged. The lent numbers (how, first, second, place ..) are written by every call, with 0 where nothing else is said: so place is 0
+ * for every answer and for every number but 6. A block's answers are written for its items: past them, and on 15, they are as they were lent.
  *
  * HOW a text is answered:
  *   VALDRABUS_NONE      no text: a refusal, or no charset's name
  *   VALDRABUS_BORROWED  the bytes first to second (second not included) of the source
  *   VALDRABUS_WRITTEN   the bytes first (which is 0) to second of the buffer
  * A block tells its texts by start and length instead.
+ *
+ * THE PLACE of a 6 says where the text broke, so that nobody has to hunt for the byte. valdrabus_as_str_in and valdrabus_as_temporal_text are lent a number for it, and a block tells it in
+ * the start field of its answer; identifiers have none, and neither has any other number. It counts bytes from the literal's text's start: the byte in the source is start + place. That byte
+ * always begins a character and lies inside the text; for an empty text the place is 0. Reading from the left stops:
+ *   - at a lone quote;
+ *   - at an escape that cannot be read, at its first byte; of a broken pair of halves, at the first half's;
+ *   - in E'..' whose bytes become no UTF-8, at the escape or raw character that broke it, or at the closing quote where a sequence is left unfinished;
+ *   - at the segment's start, where it holds a raw NUL or is of no spelling; in text that is not joined that is 0;
+ *   - in joined text in the first segment that cannot be read, or at the start of what is no segment.
+ * For 'a'b' it is 2, for E'ab\400' 4, for 'a' 'b' E'\400' 10, and for DATE 'a'b' 7. A temporal text without a quoted token has the place 0.
  */
 #ifndef VALDRABUS_H
 #define VALDRABUS_H
@@ -110,7 +120,7 @@ enum {
 
 /* What a string literal means at a setting. 1, 2, 3, 4, 6, 9, 10. */
 uint32_t valdrabus_as_str_in(uint32_t kind, uint32_t synthetic, uint32_t start, uint32_t end, const uint8_t *source, size_t source_len,
-                             uint32_t setting, uint8_t *out, size_t out_len, uint32_t *how, size_t *first, size_t *second);
+                             uint32_t setting, uint8_t *out, size_t out_len, uint32_t *how, size_t *first, size_t *second, size_t *place);
 
 /* A number's decimal text (integer, float, decimal). 1, 2, 3, 4, 5, 9, 10. A buffer of 40 bytes holds every radix value; without a radix prefix the text is no longer
    than the literal's. */
@@ -123,14 +133,15 @@ uint32_t valdrabus_as_bit_text(uint32_t kind, uint32_t synthetic, uint32_t start
 
 /* What the quoted token of a date, time, timestamp or interval means, at the setting 0. 1, 2, 3, 4, 6, 9, 10. */
 uint32_t valdrabus_as_temporal_text(uint32_t kind, uint32_t synthetic, uint32_t start, uint32_t end, const uint8_t *source, size_t source_len,
-                                    uint8_t *out, size_t out_len, uint32_t *how, size_t *first, size_t *second);
+                                    uint8_t *out, size_t out_len, uint32_t *how, size_t *first, size_t *second, size_t *place);
 
 /* A BLOCK of string literals in one call: a grid that shows hundreds of rows asks for all of them at once.
 
    items    four numbers for each literal: kind, setting, start, end. There is no mark, so each stands in the source.
    answers  four numbers for each literal, in the same order: number, how, start, length. With VALDRABUS_BORROWED the text is length bytes of the source from start on, with
-            VALDRABUS_WRITTEN of the buffer, start being counted from the beginning of the whole buffer. With the number 9 length is what this literal alone needs. Where nothing
-            else is said a field is 0: on every refusal but 9 all but the number.
+            VALDRABUS_WRITTEN of the buffer, start being counted from the beginning of the whole buffer. With the number 9 length is what this literal alone needs. With the number 6
+            start is the place, counted from this literal's text's start: the byte in the source is the item's start + it. Where nothing else is said a field is 0: on every refusal
+            all but the number, 9's length and 6's start.
 
    Each literal gets the answer of valdrabus_as_str_in with the room that those before it left: 1, 3, 4, 6, 9, 10. Written texts stand one behind the other. A borrowed or refused
    one takes no room, and no refusal ends the block: behind a 9 a shorter one may still be written. The call itself gives 0, or 15 with neither answers nor buffer changed.

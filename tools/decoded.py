@@ -1,5 +1,6 @@
 #!/usr/bin/env python3
-"""Makes a list of the vectors' strings, at both settings, has Rattle's compiled program `keys` decode it, and compares each line with the row's answer.
+"""Makes a list of the vectors' strings, at both settings, has Rattle's compiled program `keys` decode it, and compares each line with the row's answer; where
+that is no readable string, also the place where reading stops, and the mark that points it out.
 
     tools/decoded.py [HOST]
 
@@ -15,12 +16,14 @@ import sys
 
 ROOT = pathlib.Path(__file__).resolve().parent.parent
 LIST = ROOT / 'target/lists/vectors.txt'
-# What is asked of a row of the vectors: its text and setting, and what its line has to say.
+# How many characters of a row are shown on each side of the place where reading stops.
+SHOWN = 40
+# What is asked of a row of the vectors: its text and setting, and what its line, or lines, have to say.
 Asked = collections.namedtuple('Asked', 'identity text setting due')
 
 
 def vectors():
-    for name in ('oracle', 'clarified'):
+    for name in ('oracle', 'clarified', 'places'):
         for line in (ROOT / f'vectors/{name}.tsv').read_text().splitlines():
             if not line.startswith('#'):
                 yield line.split('\t')
@@ -31,9 +34,21 @@ def shown(value):
     return re.sub('[\0-\x1f\x7f-\x9f‹]', lambda found: f'‹{ord(found[0]):02X}›', value.decode()).encode()
 
 
-def due(answer, source):
-    """What stands in the line behind its number, as a pattern."""
+def unreadable(text, place):
+    """What `keys` says of a row that is no readable string, in three lines: why; what stands around the place where reading stops; a mark under that."""
+    before, behind = text[:place].decode(), text[place:].decode()
+    left, right = ('…' if len(part) > SHOWN else '' for part in (before, behind))
+    before = left.encode() + shown(before[-SHOWN:].encode())
+    behind = shown(behind[:SHOWN].encode()) + right.encode()
+    return b'refused: the text at 0..%d is not a readable string: reading stops at its byte %d (number 6)\n%s\n%s' % (
+        len(text), place, b' ' * 8 + before + behind, b' ' * (8 + len(before.decode())) + b'^')
+
+
+def due(answer, source, text):
+    """What stands behind the line's number, as a pattern; a row that is no readable string has two lines more."""
     case, *values = answer.split()
+    if case == 'r' and values[0] == '6':
+        return re.escape(unreadable(text, int(values[3])))
     if case == 'r':
         return rb'refused: .* \(number %s\)' % values[0].encode()
     if case == 'b':
@@ -47,13 +62,14 @@ def is_row(text):
 
 
 def asked():
-    for identity, question, kind, setting, start, end, source, _, answer in vectors():
+    for identity, question, kind, setting, start, end, source, _, answer, *_ in vectors():
         if (question, kind) != ('string', '4') or source == '-' or answer.startswith('r 9'):
             continue
         source, start, end = bytes.fromhex(source), int(start), int(end)
         # By 3 a text can be refused for what stands around it, or for not being there.
         if is_row(source[start:end]) and (not answer.startswith('r 3') or (start, end) == (0, len(source))):
-            yield Asked(identity, source[start:end], setting, due(answer, source))
+            text = source[start:end]
+            yield Asked(identity, text, setting, due(answer, source, text))
 
 
 def lines(rows):
@@ -82,7 +98,8 @@ def main(host=None):
     different = 0
     for at, (text, row) in enumerate(listed, 1):
         if row:
-            line = next(said, b'')
+            # As many lines as are due: what is shown holds no line feed.
+            line = b'\n'.join(next(said, b'') for _ in range(1 + row.due.count(b'\n')))
             if not re.fullmatch(b'%6d  %s' % (at, row.due), line):
                 different += 1
                 print(f'{row.identity}: {text!r}: {row.due!r} is due, keys printed {line!r}')

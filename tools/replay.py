@@ -4,7 +4,7 @@
     tools/replay.py            writes crates/replay/stdin, the rows, and crates/replay/stdout, what the program has to say of them
     tools/replay.py --check    exits 1 if the two files are not what the vectors say
 
-A row is a head of 40 bytes, then the text with its padding, the value and the name. Numbers have their lowest byte first. The head:
+A row is a head of 44 bytes, then the text with its padding, the value and the name. Numbers have their lowest byte first. The head:
 
     0       the question, see QUESTIONS; 0 ends a stratum, which the name names; 255 fills a block of 65,536 bytes, which holds whole rows
     1       the kind's code; of the writer 1 if a part size is given; of a form 1 for E, 2 for U&
@@ -14,13 +14,13 @@ A row is a head of 40 bytes, then the text with its padding, the value and the n
     14      how long the buffer is in the first asking
     15, 16  what is due: a letter for the case, the number
     18-27   places of the row, two bytes each: where the source begins and ends, the padding ends and the value begins, the value ends and the name begins, the row ends
-    28-39   what is due: two values, of eight bytes and of four
+    28-43   what is due: three values, of eight bytes and twice of four; the third is the place of a 6
 
 Of a block of literals in one call the value is the items, the answer slice as it is lent and the answer slice as it is due, all by numbers of four bytes, and the
 bytes that are written:
 
     4-9     places of the row, two bytes each: where the items end, the slice as lent ends, the slice as due ends
-    28-39   what is due: that no number of the answer slice differs, told as the place behind the last that is compared, and 0
+    28-43   what is due: that no number of the answer slice differs, told as the place behind the last that is compared, and 0 twice
 """
 import pathlib
 import re
@@ -37,7 +37,7 @@ OPENING = {'escape': "E'", 'unicode': "U&'"}
 LONG = 200  # the buffer of the first asking; no value is as long
 NUMBERS = 128  # as many numbers of an answer slice are compared; none is as long
 OTHER = 0xA5A5A5A5  # an answer slice is lent full of this number and those behind it
-HEAD = 40
+HEAD = 44
 BLOCK = 65536
 # Bytes that would change an answer if they were read. The first byte behind a text never is 80 to BF, so a place that cut no character still cuts none.
 BEFORE = ["'", 'E', '\\', '"a', '$$', 'é', "U&'", '-', '0x', '_a', '\n', "'b' "]
@@ -86,8 +86,8 @@ class Row:
         assert len(self.value) < LONG, self.name
         parts = [before, self.source, behind, self.value, self.name.encode()]
         places = [HEAD + sum(map(len, parts[:n])) for n in (1, 2, 3, 4, 5)]
-        head = struct.pack('<4B2I5Bx5HQI', QUESTIONS.index(self.question) + 1, self.kind, self.setting, self.synthetic, self.start, self.end, len(before), self.is_padded(index), self.room,
-                           ord(self.letter), self.number, *places, *self.values)
+        head = struct.pack('<4B2I5Bx5HQ2I', QUESTIONS.index(self.question) + 1, self.kind, self.setting, self.synthetic, self.start, self.end, len(before),
+                           self.is_padded(index), self.room, ord(self.letter), self.number, *places, *self.values)
         return head + b''.join(parts)
 
 
@@ -132,33 +132,38 @@ class Call:
         parts = [b'', self.source, b'', b''.join(numbers) + self.written, self.name.encode()]
         places = [HEAD + sum(map(len, parts[:n])) for n in (1, 2, 3, 4, 5)]
         inner = [places[2] + sum(map(len, numbers[:n])) for n in (1, 2, 3)]
-        head = struct.pack('<B3x3H4x3Bx5HQI', QUESTIONS.index(self.question) + 1, *inner, self.room, ord('c'), self.number, *places, NUMBERS, 0)
+        head = struct.pack('<B3x3H4x3Bx5HQ8x', QUESTIONS.index(self.question) + 1, *inner, self.room, ord('c'), self.number, *places, NUMBERS)
         return head + b''.join(parts)
 
 
 def ending(stratum):
     """the row that ends a stratum"""
     name = stratum.encode()
-    return struct.pack('<24x2H12x', HEAD, HEAD + len(name)) + name
+    return struct.pack('<24x2H16x', HEAD, HEAD + len(name)) + name
 
 
 def due(source, answer):
-    """(number, letter, two values, the bytes shown) of an answer"""
+    """(number, letter, three values, the bytes shown) of an answer"""
     case, *values = answer.split()
     if case == 'b':
         start, end = map(int, values)
-        return 0, 'b', (start, end), source[start:end]
+        return 0, 'b', (start, end, 0), source[start:end]
     if case == 'w':
         value = unhex(values[0])
-        return 0, 'w', (len(value), 0), value
+        return 0, 'w', (len(value), 0, 0), value
     if case == 'r':
-        return int(values[0]), 'r', (*map(int, values[1:]), 0, 0)[:2], b''
+        return int(values[0]), 'r', three(values[1:]), b''
     if case in ('yes', 'no'):
-        return 0, 'y', (int(case == 'yes'), 0), b''
+        return 0, 'y', (int(case == 'yes'), 0, 0), b''
     if case == 'i':
         value = int(values[0])
-        return 0, 'i', (-1 - value, 1) if value < 0 else (value, 0), b''
-    return 0, case, (*map(int, values), 0, 0)[:2], b''
+        return 0, 'i', (-1 - value, 1, 0) if value < 0 else (value, 0, 0), b''
+    return 0, case, three(values), b''
+
+
+def three(values):
+    """three numbers, 0 where none is told"""
+    return (*map(int, values), 0, 0, 0)[:3]
 
 
 def lines(name):
@@ -168,8 +173,8 @@ def lines(name):
 
 
 def listed(name):
-    """(stratum, row) of oracle.tsv, clarified.tsv or parts.tsv; the records are no question's, and `litrec` answers them"""
-    for identity, question, kind, setting, start, end, source, room, answer in lines(name):
+    """(stratum, row) of oracle.tsv, clarified.tsv, parts.tsv or places.tsv; the records are no question's, and `litrec` answers them"""
+    for identity, question, kind, setting, start, end, source, room, answer, *_ in lines(name):
         if question == 'record':
             continue
         own = int(room) if question == 'writer' else LONG
@@ -182,7 +187,7 @@ def spelled(text):
 
 
 def stated(answer, text, bare):
-    """an answer in the words of the other files: the value of a borrowed one stands in the text just once"""
+    """an answer in the words of the other files: the value of a borrowed one stands in the text just once; a refusal but 1 gets its span"""
     case, _, value = answer.partition(' ')
     data = spelled(value)
     if case == 'b':
@@ -190,8 +195,9 @@ def stated(answer, text, bare):
         return f'b {text.index(data)} {text.index(data) + len(data)}'
     if case == 'w':
         return f'w {data.hex() or "-"}'
-    if case == 'r' and value.isdigit() and not bare:
-        return f'{answer} 0 {len(text)}'
+    if case == 'r' and not bare and not value.startswith('1 '):
+        number, *place = value.split()
+        return ' '.join(['r', number, '0', str(len(text)), *place])
     return answer
 
 
@@ -211,6 +217,20 @@ def is_utf8(data):
         return False
 
 
+# behind the bytes of a sequence that is not whole one of these makes it so: A0 where 80 would be overlong, 80 where A0 would be half of a pair or too high
+RESTS = [bytes.fromhex(rest) for rest in ('', '80', '8080', 'A080', '808080', 'A08080')]
+
+
+def goes_on(data):
+    """whether UTF-8 can go on behind these bytes"""
+    return any(is_utf8(data + rest) for rest in RESTS)
+
+
+def breaks_at(data):
+    """which byte can be none of an E string's expansion, a zero or one behind which no UTF-8 goes on; the length, where a sequence is unfinished"""
+    return next((n for n, byte in enumerate(data) if byte == 0 or not goes_on(data[:n + 1])), len(data))
+
+
 def refused_text(data):
     """why a text that is no UTF-8 is refused: 3 if its first place cuts a character"""
     return f'r {3 if 0x80 <= data[0] <= 0xBF else 4} 0 {len(data)}'
@@ -221,9 +241,9 @@ def sequence_asked(data, legal):
     size, clean = len(data), legal and 0 not in data
     quoted, ident = b"'" + data + b"'", b'U&"' + data + b'"'
     escaped = b"E'" + ''.join(f'\\x{b:02X}' for b in data).encode() + b"'"
-    yield 'between quote marks', 'string', 4, 0, size + 2, quoted, f'b 1 {size + 1}' if clean else f'r {6 if legal else 4} 0 {size + 2}'
+    yield 'between quote marks', 'string', 4, 0, size + 2, quoted, f'b 1 {size + 1}' if clean else f'r 6 0 {size + 2} 0' if legal else f'r 4 0 {size + 2}'
     yield 'whole sources', 'source', 4, 0, size, data, f'b 0 {size}' if legal else refused_text(data)
-    yield 'E strings', 'string', 4, 0, len(escaped), escaped, f'w {data.hex()}' if clean else f'r 6 0 {len(escaped)}'
+    yield 'E strings', 'string', 4, 0, len(escaped), escaped, f'w {data.hex()}' if clean else f'r 6 0 {len(escaped)} {2 + 4 * breaks_at(data)}'
     yield 'E strings, validated', 'evalid', 0, 0, 0, escaped, 'yes' if clean else 'no'
     yield 'identifiers', 'ident', 0, 0, 0, ident, f'b 3 {size + 3}' if legal else 'r 4'
     yield 'written', 'writer', 0, 'none', 0, data, f'w {quoted.hex()}' if clean else f'r {11 if legal else 4}'
@@ -304,6 +324,10 @@ def numbers(column):
     return [] if column == '-' else [int(n) for n in column.replace(',', '').split()]
 
 
+def in_fours(given):
+    return list(zip(*[iter(given)] * 4))
+
+
 def calls():
     """the rows of blocks.tsv"""
     for identity, items, source, answers, room, number, fours, written, _ in lines('blocks'):
@@ -333,6 +357,7 @@ def all_rows():
     yield from readable('examples')
     yield from forms_asked()
     yield from parts_asked()
+    yield from sorted(listed('places'), key=lambda r: QUESTIONS.index(r[1].question))
     yield from blocks_asked()
 
 

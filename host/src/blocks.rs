@@ -94,13 +94,15 @@ pub(crate) fn read<'s, 'b, T: Source + ?Sized>(
 /// ```
 /// use valdrabus::{Item, Kind, Literal, Text, Told, read_block};
 ///
-/// let source = "'a''b', 'open, 'c'";
-/// let items = [0..6, 8..13, 15..18].map(|span| Item::from(Literal::new(Kind::String, span)));
+/// let source = "'a''b', 'it's', 'c'";
+/// let items = [0..6, 8..14, 16..19].map(|span| Item::from(Literal::new(Kind::String, span)));
 /// let (mut answers, mut out) = ([Told::default(); 3], [0; 8]);
 ///
 /// let mut texts = read_block(&items, source, &mut answers, &mut out)?.iter();
 /// assert_eq!(texts.next(), Some(Ok(Text::Written("a'b"))));
-/// assert_eq!(texts.next().unwrap().unwrap_err().to_string(), "the text at 8..13 is not a readable string (number 6)");
+/// let refused = texts.next().unwrap().unwrap_err();
+/// assert_eq!(refused.to_string(), "the text at 8..14 is not a readable string: reading stops at its byte 3 (number 6)");
+/// assert_eq!(refused.place_in_source(), Some(11));
 /// assert_eq!(texts.next(), Some(Ok(Text::Borrowed("c"))));
 /// # Ok::<(), valdrabus::Error>(())
 /// ```

@@ -7,6 +7,7 @@ use crate::items::{Item, Told};
 use crate::literal::Literal;
 use crate::said::Said;
 use crate::settings::Settings;
+use crate::span::Span;
 use crate::sys;
 
 /// A question whose text is read at no setting.
@@ -42,6 +43,7 @@ pub(crate) fn as_str_in(literal: &Literal, source: &[u8], settings: Settings, ou
             &mut said.how,
             &mut said.first,
             &mut said.second,
+            &mut said.place,
         )
     };
     said
@@ -65,27 +67,23 @@ pub(crate) fn read_block(items: &[Item], source: &[u8], answers: &mut [Told], ou
 }
 
 pub(crate) fn text(question: TextQuestion, literal: &Literal, source: &[u8], out: &mut [u8]) -> Said {
-    let ask = match question {
-        TextQuestion::Decimal => sys::valdrabus_as_decimal_text,
-        TextQuestion::Bits => sys::valdrabus_as_bit_text,
-        TextQuestion::Temporal => sys::valdrabus_as_temporal_text,
-    };
+    let (kind, synthetic, Span { start, end }) = (literal.kind.code(), literal.synthetic.into(), literal.span);
+    let (from, long, to, room) = (source.as_ptr(), source.len(), out.as_mut_ptr(), out.len());
     let mut said = Said::default();
-    // SAFETY: slices.
+    let Said { how, first, second, place, .. } = &mut said;
+    // SAFETY: slices, in each call.
     said.number = unsafe {
-        ask(
-            literal.kind.code(),
-            literal.synthetic.into(),
-            literal.span.start,
-            literal.span.end,
-            source.as_ptr(),
-            source.len(),
-            out.as_mut_ptr(),
-            out.len(),
-            &mut said.how,
-            &mut said.first,
-            &mut said.second,
-        )
+        match question {
+            TextQuestion::Decimal => {
+                sys::valdrabus_as_decimal_text(kind, synthetic, start, end, from, long, to, room, how, first, second)
+            }
+            TextQuestion::Bits => {
+                sys::valdrabus_as_bit_text(kind, synthetic, start, end, from, long, to, room, how, first, second)
+            }
+            TextQuestion::Temporal => sys::valdrabus_as_temporal_text(
+                kind, synthetic, start, end, from, long, to, room, how, first, second, place,
+            ),
+        }
     };
     said
 }

@@ -3,12 +3,14 @@
 use crate::blocks::LONGEST_BUFFER;
 use crate::kinds::{Expected, Kind};
 use crate::literal::Literal;
+use crate::said::Said;
 use crate::span::Span;
 use std::fmt;
 
 /// Why a call, or an item of a block, is refused. Each case has its [number](Error::number); a refusal changes no byte of the lent buffer.
 ///
-/// A span is the literal's own; a call on bare text, which has no literal, gives none.
+/// A span is the literal's own; a call on bare text, which has no literal, gives none. A string or temporal text that cannot be read tells the [place](Error::place) where reading stops, and every
+/// refusal of a literal's text its [line and column](Error::position) in the source.
 ///
 /// ```
 /// use valdrabus::{Error, Kind, Literal};
@@ -53,6 +55,8 @@ pub enum Error {
     InvalidString {
         /// The literal's span, if there is a literal.
         span: Option<Span>,
+        /// Where reading from the left stops, in bytes from the literal's start; an identifier, which is no literal, has none.
+        place: Option<usize>,
     },
     /// 7: not a readable bit string.
     InvalidBitString {
@@ -102,7 +106,7 @@ impl Error {
     /// The span of the literal that is refused, where the refusal speaks of one.
     pub const fn span(&self) -> Option<Span> {
         match *self {
-            Error::NotUtf8 { span } | Error::InvalidString { span } => span,
+            Error::NotUtf8 { span } | Error::InvalidString { span, .. } => span,
             Error::MissingSource { span }
             | Error::InvalidSourceRange { span }
             | Error::InvalidInteger { span }
@@ -112,11 +116,50 @@ impl Error {
         }
     }
 
-    /// The refusal of a question on a literal, by its number and the two values that come with it.
-    pub(crate) fn of_literal(number: u32, first: usize, second: usize, literal: &Literal) -> Error {
+    /// Where reading a string or temporal text from the left stops, in bytes from the literal's start: 6 alone has it, and not that of an identifier.
+    ///
+    /// It is the lone quote, or the first byte of the escape that cannot be read; in `E'..'` that becomes no UTF-8 the escape or character that broke it, or the closing quote where a sequence is
+    /// unfinished. A segment with a raw NUL, or of no spelling, gives its own start, and so does what is no segment in joined text. The byte there begins a character, and lies inside the literal;
+    /// an empty literal has the place 0, and so has a temporal text without a quoted token.
+    ///
+    /// ```
+    /// use valdrabus::{Kind, Literal};
+    ///
+    /// let place = |text: &str| Literal::whole(Kind::String, text).unwrap().to_str(text).unwrap_err().place();
+    /// assert_eq!(place("'Bob's balm'"), Some(4));
+    /// assert_eq!(place(r"E'5\xB5g'"), Some(3));
+    /// assert_eq!(place("'50' ' ml"), Some(5));
+    /// assert_eq!(place("'50 ml"), Some(0));
+    /// ```
+    pub const fn place(&self) -> Option<usize> {
+        match *self {
+            Error::InvalidString { place, .. } => place,
+            _ => None,
+        }
+    }
+
+    /// The same counted from the source's start: the byte of the dump to look at.
+    ///
+    /// ```
+    /// use valdrabus::{Kind, Literal};
+    ///
+    /// let row = "(12, 'Bob's balm')";
+    /// let error = Literal::new(Kind::String, 5..17).to_str(row).unwrap_err();
+    /// assert_eq!((error.place(), error.place_in_source()), (Some(4), Some(9)));
+    /// assert_eq!(&row[9..], "'s balm')");
+    /// ```
+    pub const fn place_in_source(&self) -> Option<usize> {
+        match *self {
+            Error::InvalidString { span: Some(span), place: Some(place) } => (span.start as usize).checked_add(place),
+            _ => None,
+        }
+    }
+
+    /// The refusal of a question on a literal, by its number and what comes with it.
+    pub(crate) fn of_literal(said: &Said, literal: &Literal) -> Error {
         let span = literal.span;
-        match number {
-            1 => match Expected::of_code(first) {
+        match said.number {
+            1 => match Expected::of_code(said.first) {
                 Some(expected) => Error::WrongKind { expected, actual: literal.kind },
                 None => Error::BadNumber,
             },
@@ -124,10 +167,10 @@ impl Error {
             3 => Error::InvalidSourceRange { span },
             4 => Error::NotUtf8 { span: Some(span) },
             5 => Error::InvalidInteger { span },
-            6 => Error::InvalidString { span: Some(span) },
+            6 => Error::InvalidString { span: Some(span), place: Some(said.place) },
             7 => Error::InvalidBitString { span },
             8 => Error::InvalidMoney { span },
-            _ => Error::of_bare(number, second),
+            number => Error::of_bare(number, said.second),
         }
     }
 
@@ -135,7 +178,7 @@ impl Error {
     pub(crate) fn of_bare(number: u32, needed: usize) -> Error {
         match number {
             4 => Error::NotUtf8 { span: None },
-            6 => Error::InvalidString { span: None },
+            6 => Error::InvalidString { span: None, place: None },
             9 => Error::NoRoom { needed },
             11 => Error::HoldsNul,
             12 => Error::OverLimit,
@@ -156,6 +199,9 @@ impl fmt::Display for Error {
             Error::NotUtf8 { span: None } => write!(f, "the text or value is not UTF-8"),
             Error::NotUtf8 { .. } => write!(f, "{text} is not UTF-8"),
             Error::InvalidInteger { .. } => write!(f, "{text} is not a readable integer"),
+            Error::InvalidString { place: Some(place), .. } => {
+                write!(f, "{text} is not a readable string: reading stops at its byte {place}")
+            }
             Error::InvalidString { .. } => write!(f, "{text} is not a readable string"),
             Error::InvalidBitString { .. } => write!(f, "{text} is not a readable bit string"),
             Error::InvalidMoney { .. } => write!(f, "{text} is not a money text"),
@@ -193,19 +239,32 @@ impl std::error::Error for Error {}
 mod tests {
     use super::*;
 
+    fn of_literal(number: u32, first: usize, second: usize) -> Error {
+        let said = Said { number, first, second, place: 4, ..Said::default() };
+        Error::of_literal(&said, &Literal::new(Kind::Money, 3..8))
+    }
+
     #[test]
     fn every_number_of_a_literal_comes_back_as_its_error() {
-        let literal = Literal::new(Kind::Money, 3..8);
         for number in (1..=12).chain([15]) {
-            assert_eq!(Error::of_literal(number, 1, 2, &literal).number(), number);
+            let error = of_literal(number, 1, 2);
+            assert_eq!((error.number(), error.place()), (number, (number == 6).then_some(4)));
         }
     }
 
     #[test]
     fn what_the_header_does_not_know_is_a_bad_number() {
-        let literal = Literal::new(Kind::Money, 3..8);
-        assert_eq!([13, 14, 16].map(|number| Error::of_literal(number, 0, 0, &literal)), [Error::BadNumber; 3]);
-        assert_eq!(Error::of_literal(1, 9, 14, &literal), Error::BadNumber);
+        assert_eq!([13, 14, 16].map(|number| of_literal(number, 0, 0)), [Error::BadNumber; 3]);
+        assert_eq!(of_literal(1, 9, 14), Error::BadNumber);
         assert_eq!(Error::of_bare(5, 0), Error::BadNumber);
+    }
+
+    #[test]
+    fn a_place_in_the_source_is_counted_where_a_usize_holds_it() {
+        let at = |start, place| Error::InvalidString { span: Some(Span { start, end: start }), place };
+        assert_eq!(at(3, Some(4)).place_in_source(), Some(7));
+        assert_eq!(at(3, Some(usize::MAX)).place_in_source(), None);
+        assert_eq!(at(3, None).place_in_source(), None);
+        assert_eq!(Error::InvalidString { span: None, place: Some(4) }.place_in_source(), None);
     }
 }

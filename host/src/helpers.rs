@@ -91,7 +91,7 @@ pub fn is_unicode_ident(text: impl AsRef<[u8]>) -> bool {
     calls::holds(Test::UnicodeIdent, text.as_ref())
 }
 
-/// A U& identifier's text. Refusals: 6, 9.
+/// A U& identifier's text. Refusals: 6, which has no place here, 9.
 ///
 /// ```
 /// use valdrabus::{Text, materialize_unicode_ident};

@@ -8,6 +8,7 @@ use crate::span::Span;
 
 const WRONG_KIND: u32 = 1;
 const MISSING_SOURCE: u32 = 2;
+const INVALID_STRING: u32 = 6;
 const NO_ROOM: u32 = 9;
 const BAD_NUMBER: u32 = 10;
 
@@ -90,7 +91,8 @@ impl Told {
             number => number,
         };
         let first = if number == WRONG_KIND { Expected::String.code() as usize } else { start };
-        Said { number, how: self.how, first, second: start + length }
+        let place = if number == INVALID_STRING { start } else { 0 };
+        Said { number, how: self.how, first, second: start + length, place }
     }
 
     /// How many bytes of the buffer the item takes.

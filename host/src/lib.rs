@@ -28,7 +28,8 @@
 //! - [`Literal`]: a kind and a span; the questions are its methods. [`InBytes`]: the same over bytes that may not be UTF-8.
 //! - [`Text`]: an answer that is a part of the source, or written into the buffer that was lent.
 //! - [`read_block`]: many string literals of one source in one call, each an [`Item`]; [`Block`] shows their answers. [`to_block`]: the same with memory of its own.
-//! - [`Error`]: why a call, or an item of a block, is refused, with its number. A refusal changes no byte of the buffer.
+//! - [`Error`]: why a call, or an item of a block, is refused, with its number. A refusal changes no byte of the buffer. That of a string has the [place](Error::place) where reading stops;
+//!   [`Error::in_source`] tells the line and column of it.
 //! - [`write_literal`], [`write_parts`]: values as plain literals, whole or in parts. [`write_escape`], [`write_unicode`]: values as `E'..'` and `U&'..'`, in which no byte is below 20 hex. [`to_literal`],
 //!   [`to_parts`], [`to_escape`], [`to_unicode`]: the same into texts of their own.
 //! - [`split_radix_prefix`] and the other functions: helpers on bare text.
@@ -51,6 +52,7 @@ mod kinds;
 mod literal;
 mod owned;
 mod owned_blocks;
+mod positions;
 mod questions;
 mod said;
 mod settings;
@@ -73,6 +75,7 @@ pub use items::{Item, Told};
 pub use kinds::{BitStringRadix, Expected, IntervalFields, Kind, TimeZone};
 pub use literal::Literal;
 pub use owned_blocks::{BlockBuf, to_block, to_block_bytes};
+pub use positions::Position;
 pub use settings::Settings;
 pub use span::Span;
 pub use texts::Text;

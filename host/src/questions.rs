@@ -77,7 +77,7 @@ impl Literal {
         self.as_str_in(source, Settings::STANDARD, out)
     }
 
-    /// What a string literal means at a setting. Refusals: 1, 2, 3, 6, 9.
+    /// What a string literal means at a setting. Refusals: 1, 2, 3, 6 with its [place](Error::place), 9.
     ///
     /// ```
     /// use valdrabus::{Kind, Literal, Settings, Text};
@@ -85,7 +85,9 @@ impl Literal {
     /// let literal = Literal::whole(Kind::String, source).unwrap();
     /// let mut out = [0; 8];
     /// assert_eq!(literal.as_str_in(source, Settings::MYSQL, &mut out)?, Text::Written("5'6"));
-    /// assert_eq!(literal.as_str_in(source, Settings::STANDARD, &mut out).unwrap_err().number(), 6);
+    ///
+    /// let refused = literal.as_str_in(source, Settings::STANDARD, &mut out).unwrap_err();
+    /// assert_eq!((refused.number(), refused.place()), (6, Some(3)));
     /// # Ok::<(), valdrabus::Error>(())
     /// ```
     pub fn as_str_in<'s, 'b>(
@@ -123,7 +125,7 @@ impl Literal {
         self.text(TextQuestion::Bits, source, out)
     }
 
-    /// What the quoted token of a date, time, timestamp or interval means, with backslash escapes off. Refusals: 1, 2, 3, 6, 9.
+    /// What the quoted token of a date, time, timestamp or interval means, with backslash escapes off. Refusals: 1, 2, 3, 6 with its [place](Error::place), 9.
     ///
     /// ```
     /// use valdrabus::{Kind, Literal, Text};

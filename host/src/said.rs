@@ -10,13 +10,14 @@ const NONE: u32 = 0;
 const BORROWED: u32 = 1;
 pub(crate) const WRITTEN: u32 = 2;
 
-/// A number, how a text is answered, and the two values that come with it.
+/// A number, how a text is answered, and the two values that come with it; with a 6 of a literal also where reading stops.
 #[derive(Default)]
 pub(crate) struct Said {
     pub(crate) number: u32,
     pub(crate) how: u32,
     pub(crate) first: usize,
     pub(crate) second: usize,
+    pub(crate) place: usize,
 }
 
 impl Said {
@@ -24,7 +25,7 @@ impl Said {
     pub(crate) fn accepted(&self, literal: Option<&Literal>) -> Result<(), Error> {
         match (self.number, literal) {
             (0, _) => Ok(()),
-            (number, Some(literal)) => Err(Error::of_literal(number, self.first, self.second, literal)),
+            (_, Some(literal)) => Err(Error::of_literal(self, literal)),
             (number, None) => Err(Error::of_bare(number, self.second)),
         }
     }

@@ -14,6 +14,7 @@ unsafe extern "C" {
         how: *mut u32,
         first: *mut usize,
         second: *mut usize,
+        place: *mut usize,
     ) -> u32;
     pub fn valdrabus_as_decimal_text(
         kind: u32,
@@ -53,6 +54,7 @@ unsafe extern "C" {
         how: *mut u32,
         first: *mut usize,
         second: *mut usize,
+        place: *mut usize,
     ) -> u32;
     pub fn valdrabus_read_block(
         items: *const u32,

@@ -82,6 +82,26 @@ fn refusals_allocate_nothing() {
     assert_eq!(made, 0);
 }
 
+/// Neither a place nor a position takes memory; what is shown goes where it is written.
+#[test]
+fn places_allocate_nothing() {
+    let (text, rows, _) = wholesale();
+    // A name without its last byte is cut short; few can be read then.
+    let cut = |row: &Asked| Item::from(Literal::new(Kind::String, row.literal.span.start..row.literal.span.end - 1));
+    let items: Vec<Item> = rows.iter().map(cut).collect();
+    let (mut answers, mut out) = (vec![Told::default(); rows.len()], vec![0; text.len()]);
+    let (placed, made) = counted(|| {
+        let block = read_block(&items, &text, &mut answers, &mut out).expect("a block");
+        let errors = block.iter().filter_map(Result::err);
+        errors.filter(|error| error.place_in_source().is_some_and(|at| at < text.len())).count()
+    });
+    assert!(placed > 3_000, "{placed}");
+    assert_eq!(made, 0);
+    let error = Literal::new(Kind::String, 1..6).as_str("\n'a'b'", &mut []).unwrap_err();
+    let (position, made) = counted(|| (error.position("\n'a'b'"), std::hint::black_box(error.in_source("\n'a'b'"))).0);
+    assert_eq!((position.is_some(), made), (true, 0));
+}
+
 #[test]
 fn single_calls_allocate_nothing() {
     let (text, rows, long) = wholesale();

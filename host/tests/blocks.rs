@@ -87,7 +87,7 @@ where
         Ok(Text::Borrowed(text)) => accepted(1, source, text),
         Ok(Text::Written(text)) => accepted(2, out, text),
         Err(Error::NoRoom { needed }) => [9, 0, 0, needed as u32],
-        Err(error) => [error.number(), 0, 0, 0],
+        Err(error) => [error.number(), 0, error.place().unwrap_or(0) as u32, 0],
     };
     Ok((block.into_iter().map(four).collect(), block.used()))
 }
@@ -113,7 +113,7 @@ impl Row {
 fn the_rows_of_the_file() {
     let rows = rows();
     // Three have the long buffer, ten a short item, 27 a kind or setting that is none.
-    assert_eq!(rows.len(), 158 - 3 - 10 - 27);
+    assert_eq!(rows.len(), 164 - 3 - 10 - 27);
     for row in &rows {
         let (items, source) = (&row.items, &row.source);
         row.holds("in bytes", |answers, out| {
@@ -282,15 +282,43 @@ fn a_wrong_kind_is_told_without_its_data() {
 
 #[test]
 fn refusals_have_the_items_spans_and_their_own_lengths() {
-    let items = strings([(0, 9), (9, 11), (3, 1), (0, 9)]);
-    let (mut answers, mut out) = ([Told::default(); 4], [LENT; 3]);
+    let items = strings([(0, 9), (9, 11), (3, 1), (0, 9), (0, 10)]);
+    let (mut answers, mut out) = ([Told::default(); 5], [LENT; 3]);
     let block = read_block(&items, "'ab' 'cd''x", &mut answers, &mut out).expect("a block");
-    let [full, open, backward, again] = [0, 1, 2, 3].map(|at| block.get(at).expect("an item").unwrap_err());
+    let [full, open, backward, again, rest] = [0, 1, 2, 3, 4].map(|at| block.get(at).expect("an item").unwrap_err());
     assert_eq!([full, again], [Error::NoRoom { needed: 4 }; 2]);
-    assert_eq!(open, Error::InvalidString { span: Some(Span { start: 9, end: 11 }) });
+    assert_eq!(open, Error::InvalidString { span: Some(Span { start: 9, end: 11 }), place: Some(0) });
     assert_eq!(backward, Error::InvalidSourceRange { span: Span { start: 3, end: 1 } });
+    assert_eq!(rest, Error::InvalidString { span: Some(Span { start: 0, end: 10 }), place: Some(5) });
     assert_eq!((block.used(), block.needed()), (0, 8));
     assert_eq!(out, [LENT; 3]);
+}
+
+/// A place counts from the item's own text, wherever that stands in the source, whatever was written before it, and whatever room there is.
+#[test]
+fn an_item_has_the_place_of_a_single_call() {
+    let source = r"('a' 'b', 'Bob's', E'\xC3', 'x' 'y' E'\400', 'd\''e')";
+    let texts = ["'a' 'b'", "'Bob's'", r"E'\xC3'", r"'x' 'y' E'\400'", r"'d\''e'"];
+    let literals = texts.map(|text| {
+        let start = source.find(text).expect("a part") as u32;
+        Literal::new(Kind::String, start..start + text.len() as u32)
+    });
+    for (settings, places) in [
+        (Settings::STANDARD, [None, Some(4), Some(6), Some(10), None]),
+        (Settings::MYSQL, [None, Some(4), Some(6), Some(10), Some(4)]),
+    ] {
+        let items = literals.map(|literal| Item::new(literal, settings));
+        for room in 0..9 {
+            let (mut answers, mut out) = ([Told::default(); 5], vec![LENT; room]);
+            let block = read_block(&items, source, &mut answers, &mut out).expect("a block");
+            for ((told, literal), place) in block.iter().zip(literals).zip(places) {
+                assert_eq!(told.err().and_then(|error| error.place()), place, "{literal:?}");
+                let in_source = place.map(|place| literal.span.start as usize + place);
+                assert_eq!(told.err().and_then(|error| error.place_in_source()), in_source, "{literal:?}");
+                assert!(place.is_none() || told == literal.as_str_in(source, settings, &mut []));
+            }
+        }
+    }
 }
 
 #[test]

@@ -97,7 +97,7 @@ fn the_readmes_example_of_a_block() -> Result<(), Error> {
         names.push(format!("{name:?}"));
     }
 
-    let refused: Result<Text, Error> = Err(Error::InvalidString { span: Some(Span::from(24..32)) });
+    let refused: Result<Text, Error> = Err(Error::InvalidString { span: Some(Span::from(24..32)), place: Some(0) });
     assert_eq!(names, [r#"Ok(Borrowed("Aspirin"))"#, r#"Ok(Written("Bob's balm"))"#, &format!("{refused:?}")]);
     Ok(())
 }

@@ -59,7 +59,9 @@ fn a_row_that_cannot_be_read_stops_nothing_in_one_call() {
     let reading = one_call::read(list).expect("settings that can be read");
     assert_eq!(reading.to_string(), "4 items in one call: 1 borrowed, 1 written into 1 bytes, 2 refused");
     let said = [
-        "     2  refused: the text at 4..6 is not a readable string (number 6)",
+        "     2  refused: the text at 4..6 is not a readable string: reading stops at its byte 0 (number 6)",
+        "        'b",
+        "        ^",
         "     3  refused: the text at 7..10 is not UTF-8 (number 4)",
     ];
     assert_eq!(report::refused(&reading.rows).lines().collect::<Vec<_>>(), said);
@@ -90,15 +92,65 @@ fn a_row_that_cannot_be_read_stops_nothing() {
     let rows = list::rows(list, Settings::STANDARD).expect("settings that can be read");
     let said = [
         "     1  a",
-        "     4  refused: the text at 0..2 is not a readable string (number 6)",
+        "     4  refused: the text at 0..2 is not a readable string: reading stops at its byte 0 (number 6)",
+        "        'b",
+        "        ^",
         "     5  refused: the text at 0..3 is not UTF-8 (number 4)",
         "     7  a\\",
         "     8  a",
     ];
     assert_eq!(report::keys(&rows, Look::Marked).lines().collect::<Vec<_>>(), said);
-    assert_eq!(report::refused(&rows).lines().collect::<Vec<_>>(), said[1..3]);
+    assert_eq!(report::refused(&rows).lines().collect::<Vec<_>>(), said[1..5]);
     let doubles = "doubled: a, on lines 1, 8\n3 products with doubles, 2 without; 1 doubled; 2 rows refused\n";
     assert_eq!(report::doubles(&rows, Look::Marked), doubles);
+}
+
+/// The lines behind a refused row's first, by the row alone and by one call on a list that has it further on.
+fn pointed_out(row: &str) -> Vec<String> {
+    let behind_its_first = |said: String| said.lines().skip(1).map(str::to_owned).collect::<Vec<_>>();
+    let alone = list::rows(row.as_bytes(), Settings::STANDARD).map(|rows| report::refused(&rows));
+    let further_on = format!("'a'\n{row}\n'b'\n");
+    let reading = one_call::read(further_on.as_bytes()).expect("no settings");
+    let lines = behind_its_first(alone.expect("no settings"));
+    assert_eq!(behind_its_first(report::refused(&reading.rows)), lines);
+    lines
+}
+
+#[test]
+fn a_refused_row_is_shown_with_a_mark_where_reading_stops() {
+    for (row, shown, column) in [
+        ("'Bob's balm'", "'Bob's balm'", 4),
+        ("'é€😀'b'", "'é€😀'b'", 4),
+        ("E'\t\u{85}‹\\400'", "E'‹09›‹85›‹2039›\\400'", 16),
+        ("'a' 'b' E'\\400'", "'a' 'b' E'\\400'", 10),
+        ("E'\\xC3'", "E'\\xC3'", 6),
+        ("   ", "   ", 0),
+        ("\t", "‹09›", 0),
+    ] {
+        let (shown, mark) = (format!("{:8}{shown}", ""), format!("{:1$}^", "", 8 + column));
+        assert_eq!(pointed_out(row), [shown, mark], "{row:?}");
+    }
+    assert_eq!(pointed_out("'a'"), [""; 0]);
+}
+
+/// Characters of the row are counted, not those that they are shown by.
+#[test]
+fn of_a_long_row_forty_characters_are_shown_on_each_side() {
+    let row = |before: &str, behind: &str| format!("'{before}'{behind}'");
+    for (piece, shown) in [("a", "a"), ("é", "é"), ("😀", "😀"), ("\u{1}", "‹01›")] {
+        let [few, fit, more] = [38, 39, 40].map(|count| piece.repeat(count));
+        let [few_shown, fit_shown, more_shown] = [38, 39, 40].map(|count| shown.repeat(count));
+        let of = |text: &str| text.chars().count();
+        for (row, line, column) in [
+            (row(&fit, &few), format!("'{fit_shown}'{few_shown}'"), 1 + of(&fit_shown)),
+            (row(&more, &few), format!("…{more_shown}'{few_shown}'"), 1 + of(&more_shown)),
+            (row(&fit, &fit), format!("'{fit_shown}'{fit_shown}…"), 1 + of(&fit_shown)),
+            (row(&more, &more), format!("…{more_shown}'{fit_shown}…"), 1 + of(&more_shown)),
+        ] {
+            let mark = format!("{:1$}^", "", 8 + column);
+            assert_eq!(pointed_out(&row), [format!("{:8}{line}", ""), mark], "{row:?}");
+        }
+    }
 }
 
 /// The writer puts a line feed between parts, so each would be a row; as E or U&, whole, or in one line the name is one.
@@ -151,7 +203,9 @@ fn keys_are_spelled_where_that_is_asked() {
             &format!("     2  {quoted}"),
             &format!("     3  {wide}"),
             "     5  no literal: ‹00›‹0A›",
-            "     6  refused: the text at 0..2 is not a readable string (number 6)",
+            "     6  refused: the text at 0..2 is not a readable string: reading stops at its byte 0 (number 6)",
+            "        'b",
+            "        ^",
         ];
         assert_eq!(report::keys(&rows, look).lines().collect::<Vec<_>>(), said);
         let counts = "4 products with doubles, 3 without; 1 doubled; 1 rows refused";
@@ -187,7 +241,8 @@ fn case_and_spaces_do_not_count_in_a_setting() {
         let off = setting.to_lowercase().replace("on", "off");
         assert_eq!(keys(&format!("{setting}\n{off}\n'\\a'")), Ok("     3  \\a\n".to_string()), "{off:?}");
     }
-    assert_eq!(keys("-- back slash on\n-- the backslash is on\n-\n'\\a'").map(|said| said.lines().count()), Ok(2));
+    // The row that is refused has three lines.
+    assert_eq!(keys("-- back slash on\n-- the backslash is on\n-\n'\\a'").map(|said| said.lines().count()), Ok(4));
 }
 
 #[test]

@@ -5,11 +5,11 @@ use valdrabus::sys;
 const BAD_NUMBER: u32 = 10;
 const BAD_BLOCK: u32 = 15;
 
-/// A string read by its raw numbers: what is returned, how, first and second, which all begin as 77.
-fn as_str(kind: u32, synthetic: u32, setting: u32) -> [usize; 4] {
+/// A string read by its raw numbers: what is returned, how, first, second and place, which all begin as 77.
+fn as_str(kind: u32, synthetic: u32, setting: u32) -> [usize; 5] {
     let source = b"'a''b'";
     let mut out = [0xA5; 8];
-    let (mut how, mut first, mut second) = (77, 77, 77);
+    let (mut how, mut first, mut second, mut place) = (77, 77, 77, 77);
     // SAFETY: slices and references of this function.
     let number = unsafe {
         sys::valdrabus_as_str_in(
@@ -25,19 +25,20 @@ fn as_str(kind: u32, synthetic: u32, setting: u32) -> [usize; 4] {
             &mut how,
             &mut first,
             &mut second,
+            &mut place,
         )
     };
     if number != 0 {
         assert_eq!(out, [0xA5; 8]);
     }
-    [number as usize, how as usize, first, second]
+    [number as usize, how as usize, first, second, place]
 }
 
 #[test]
 fn number_10_for_what_names_nothing() {
-    assert_eq!(as_str(4, 0, 0), [0, 2, 0, 3]);
+    assert_eq!(as_str(4, 0, 0), [0, 2, 0, 3, 0]);
     for (kind, synthetic, setting) in [(0, 0, 0), (15, 0, 0), (u32::MAX, 0, 0), (4, 2, 0), (4, 0, 2), (1, 0, 2)] {
-        assert_eq!(as_str(kind, synthetic, setting), [BAD_NUMBER as usize, 0, 0, 0], "{kind} {synthetic} {setting}");
+        assert_eq!(as_str(kind, synthetic, setting), [BAD_NUMBER as usize, 0, 0, 0, 0], "{kind} {synthetic} {setting}");
     }
     assert_eq!(as_str(1, 2, 0)[0], BAD_NUMBER as usize);
 }
@@ -46,13 +47,26 @@ fn number_10_for_what_names_nothing() {
 fn number_10_of_every_function_that_takes_a_number() {
     let (source, mut out) = (b"1", [0xA5; 8]);
     let (from, to, room) = (source.as_ptr(), out.as_mut_ptr(), out.len());
-    let (mut how, mut first, mut second, mut value, mut truth, mut len) = (77, 77, 77, 77, 77, 77);
+    let (mut how, mut first, mut second, mut place, mut value, mut truth, mut len) = (77, 77, 77, 77, 77, 77, 77);
     // SAFETY: slices and references of this function.
     let numbers = unsafe {
         [
             sys::valdrabus_as_decimal_text(0, 0, 0, 1, from, 1, to, room, &mut how, &mut first, &mut second),
             sys::valdrabus_as_bit_text(0, 0, 0, 1, from, 1, to, room, &mut how, &mut first, &mut second),
-            sys::valdrabus_as_temporal_text(0, 0, 0, 1, from, 1, to, room, &mut how, &mut first, &mut second),
+            sys::valdrabus_as_temporal_text(
+                0,
+                0,
+                0,
+                1,
+                from,
+                1,
+                to,
+                room,
+                &mut how,
+                &mut first,
+                &mut second,
+                &mut place,
+            ),
             sys::valdrabus_source_text(0, 0, 0, 1, from, 1, &mut how, &mut first, &mut second),
             sys::valdrabus_as_money_text(0, 0, 0, 1, from, 1, &mut how, &mut first, &mut second),
             sys::valdrabus_charset_introducer(0, 0, 0, 1, from, 1, &mut how, &mut first, &mut second),
@@ -64,7 +78,7 @@ fn number_10_of_every_function_that_takes_a_number() {
         ]
     };
     assert_eq!(numbers, [BAD_NUMBER; 11]);
-    assert_eq!((how, first, second, value, truth, len), (0, 0, 0, 0, 0, 0));
+    assert_eq!((how, first, second, place, value, truth, len), (0, 0, 0, 0, 0, 0, 0));
     assert_eq!(out, [0xA5; 8]);
     // SAFETY: no pointer is given.
     assert!(unsafe { !sys::valdrabus_is_null(0) && !sys::valdrabus_is_null(99) && sys::valdrabus_is_null(7) });
@@ -96,6 +110,14 @@ fn number_10_of_an_item_stops_nothing() {
         let due = vec![BAD_NUMBER, 0, 0, 0, 0, 2, 0, 3, 77];
         assert_eq!(block(&[kind, setting, 6, 0, 4, 0, 0, 6], 9), (0, due), "{kind} {setting}");
     }
+}
+
+/// On 6 the start is the place, counted from the item's text; on every other number all fields but 9's length are 0.
+#[test]
+fn an_items_fields_on_its_refusals() {
+    let items = [4, 0, 0, 4, 4, 0, 1, 6, 4, 0, 6, 6, 8, 0, 0, 6, 4, 0, 6, 0];
+    let due = vec![6, 0, 2, 0, 6, 0, 0, 0, 6, 0, 0, 0, 1, 0, 0, 0, 3, 0, 0, 0];
+    assert_eq!(block(&items, 20), (0, due));
 }
 
 #[test]

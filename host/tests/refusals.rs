@@ -77,19 +77,22 @@ fn numbers_5_to_8_for_texts_that_cannot_be_read() {
     );
     assert_eq!(
         refused(9, |out| whole(Kind::String, "'''").as_str("'''", out).err()),
-        Error::InvalidString { span: Some(span) }
+        Error::InvalidString { span: Some(span), place: Some(1) }
     );
     assert_eq!(
         refused(9, |out| whole(Kind::Date, "\"a\"").as_temporal_text("\"a\"", out).err()),
-        Error::InvalidString { span: Some(span) }
+        Error::InvalidString { span: Some(span), place: Some(0) }
     );
     assert_eq!(refused(9, |out| whole(BINARY, "B'2").as_bit_text("B'2", out).err()), Error::InvalidBitString { span });
     assert_eq!(whole(Kind::Money, " $1").as_money_text(" $1"), Err(Error::InvalidMoney { span }));
-    assert_eq!(refused(9, |out| materialize_unicode_ident("\"a\"", out).err()), Error::InvalidString { span: None });
+    assert_eq!(
+        refused(9, |out| materialize_unicode_ident("\"a\"", out).err()),
+        Error::InvalidString { span: None, place: None }
+    );
 
     let numbers = [
         Error::InvalidInteger { span },
-        Error::InvalidString { span: Some(span) },
+        Error::InvalidString { span: Some(span), place: Some(0) },
         Error::InvalidBitString { span },
         Error::InvalidMoney { span },
     ];
@@ -99,7 +102,112 @@ fn numbers_5_to_8_for_texts_that_cannot_be_read() {
 #[test]
 fn a_later_segment_that_is_refused_leaves_the_buffer() {
     let source = r"'first' 'second' E'\400'";
-    assert_eq!(refused(64, |out| whole(Kind::String, source).as_str(source, out).err()).number(), 6);
+    let error = refused(64, |out| whole(Kind::String, source).as_str(source, out).err());
+    assert_eq!((error.number(), error.place()), (6, Some(19)));
+}
+
+/// The place of a string that is refused: the same asked in every way, with every room, and with something around it.
+fn place(text: &str, settings: Settings) -> Option<usize> {
+    let literal = whole(Kind::String, text);
+    let error = refused(9, |out| literal.as_str_in(text, settings, out).err());
+    assert_eq!(refused(0, |out| literal.as_str_in(text, settings, out).err()), error);
+    assert_eq!(refused(9, |out| literal.in_bytes(text.as_bytes()).as_str_in(settings, out).err()), error);
+    assert_eq!(literal.to_str_in(text, settings), Err(error));
+
+    let source = format!("é'{text}'");
+    let inside = Literal::new(Kind::String, 3..3 + text.len() as u32);
+    let moved = refused(9, |out| inside.as_str_in(&source, settings, out).err());
+    assert_eq!((moved.place(), moved.span()), (error.place(), Some(inside.span)));
+    assert_eq!(moved.place_in_source(), error.place().map(|place| 3 + place));
+    error.place()
+}
+
+/// Facts of request T-04's table.
+#[test]
+fn the_place_of_number_6() {
+    for (text, due) in [
+        ("'a'b'", 2),
+        ("'''''", 3),
+        ("'é'b'", 3),
+        ("'a' E'c'", 2),
+        ("", 0),
+        ("'a' x", 0),
+        ("U&'a'b'", 0),
+        ("'a\0'", 0),
+        ("'a'b\0'", 0),
+        (r"E'\n\xzz\0'", 8),
+        (r"E'\xC3'", 6),
+        (r"E'\xC3'''", 6),
+        (r"E'\xE0\x80\x80'", 6),
+        (r"U&'\D83D\0041'", 3),
+        (r"U&'\0041\DE00'", 8),
+        ("'a' 'b'c'", 7),
+        (r"'a' 'b' E'\400'", 10),
+        (r"E'\400' 'b' x", 2),
+        ("'a' '\0' x", 4),
+    ] {
+        assert_eq!(place(text, Settings::STANDARD), Some(due), "{text:?}");
+    }
+    assert_eq!(place(r"'a\''b'", Settings::MYSQL), Some(4));
+}
+
+#[test]
+fn the_place_of_number_6_in_a_temporal_text() {
+    for (text, due) in [("DATE 'a'b'", 7), ("DATE", 0), (r"DATE E'\400'", 7), ("x'\0'", 1), ("DATE 'a' 'b", 9)] {
+        let (source, end) = (format!("é{text}é"), 2 + text.len() as u32);
+        let literal = Literal::new(Kind::Date, 2..end);
+        let error = refused(9, |out| literal.as_temporal_text(&source, out).err());
+        assert_eq!(error, Error::InvalidString { span: Some(literal.span), place: Some(due) }, "{text:?}");
+        assert_eq!(literal.to_temporal_text(&source), Err(error));
+        assert_eq!(refused(0, |out| literal.in_bytes(source.as_bytes()).as_temporal_text(out).err()), error);
+    }
+}
+
+#[test]
+fn no_other_number_has_a_place() {
+    let text = "'a'b'";
+    let error = |literal: Literal| literal.in_bytes(text.as_bytes()).as_str(&mut []).unwrap_err();
+    let whole = whole(Kind::String, text);
+    let others = [
+        error(Literal { kind: Kind::Date, ..whole }),
+        error(Literal { synthetic: true, ..whole }),
+        error(Literal { span: Span { start: 0, end: 9 }, ..whole }),
+        Literal::new(Kind::String, 0..3).in_bytes(b"'\xFF'").as_str(&mut []).unwrap_err(),
+        Literal::new(Kind::String, 0..7).as_str("'a' 'b'", &mut []).unwrap_err(),
+        Literal::new(BINARY, 0..5).as_bit_text(text, &mut []).unwrap_err(),
+        materialize_unicode_ident(text, &mut []).unwrap_err(),
+    ];
+    assert_eq!(others.map(|error| error.number()), [1, 2, 3, 4, 9, 7, 6]);
+    assert_eq!(others.map(|error| (error.place(), error.place_in_source())), [(None, None); 7]);
+}
+
+#[test]
+fn refusals_by_line_and_column() {
+    let dump = "'a',\r\n  'é' 'b'c',\r7_";
+    let string = Literal::new(Kind::String, 8..18).to_str(dump).unwrap_err();
+    assert_eq!((string.place(), string.position(dump)), (Some(8), Some(Position { line: 2, column: 10 })));
+    let said = "the text at 8..18 is not a readable string: reading stops at its byte 8 (number 6)";
+    assert_eq!(string.in_source(dump).to_string(), format!("{said}, line 2, column 10"));
+    assert_eq!(string.in_source(dump.replace(['\r', '\n'], " ")).to_string(), said);
+
+    let number = Literal::new(Kind::Integer, 20..22).as_i64(dump).unwrap_err();
+    let said = "the text at 20..22 is not a readable integer (number 5), line 3, column 1";
+    assert_eq!(number.in_source(dump).to_string(), said);
+    let behind = Literal::new(Kind::Integer, 20..30).as_i64(dump).unwrap_err();
+    assert_eq!((behind.number(), behind.position(dump)), (3, None));
+    assert_eq!(behind.in_source(dump).to_string(), behind.to_string());
+    assert_eq!(string.position("another\nsource"), None);
+}
+
+/// A line end behind the only line makes no second one.
+#[test]
+fn a_source_of_one_line_has_no_line_numbers() {
+    for source in ["'b", "'b\n", "'b\r\n", "'b\r"] {
+        let error = Literal::new(Kind::String, 0..2).to_str(source).unwrap_err();
+        assert_eq!(error.in_source(source).to_string(), error.to_string(), "{source:?}");
+        let longer = format!("{source}\n'c'");
+        assert!(error.in_source(longer).to_string().ends_with(", line 1, column 1"));
+    }
 }
 
 #[test]
@@ -162,8 +270,11 @@ fn the_order_of_the_tests() {
 fn errors_say_what_is_wrong() {
     let said = |error: Error| error.to_string();
     let span = Span { start: 2, end: 9 };
-    assert_eq!(said(Error::InvalidString { span: Some(span) }), "the text at 2..9 is not a readable string (number 6)");
-    assert_eq!(said(Error::InvalidString { span: None }), "the text is not a readable string (number 6)");
+    let string = |span, place| said(Error::InvalidString { span, place });
+    let broken = "the text at 2..9 is not a readable string: reading stops at its byte 5 (number 6)";
+    assert_eq!(string(Some(span), Some(5)), broken);
+    assert_eq!(string(Some(span), None), "the text at 2..9 is not a readable string (number 6)");
+    assert_eq!(string(None, None), "the text is not a readable string (number 6)");
     assert_eq!(said(Error::NotUtf8 { span: Some(span) }), "the text at 2..9 is not UTF-8 (number 4)");
     assert_eq!(said(Error::NotUtf8 { span: None }), "the text or value is not UTF-8 (number 4)");
     assert_eq!(said(Error::NoRoom { needed: 7 }), "the room is too short: 7 bytes are needed (number 9)");

@@ -1,4 +1,4 @@
-//! Rows of `vectors/`, all that a caller of this crate can ask: the Rust original's own answers, how document 01 is read, and the facts of the writers' two forms and of values in parts.
+//! Rows of `vectors/`, all that a caller of this crate can ask: the Rust original's own answers, how document 01 is read, and the facts of the writers' two forms, of values in parts and of places.
 //! `tests/blocks.rs` has those of blocks. docs/VECTORS.md says what a row holds.
 
 mod common;
@@ -26,7 +26,9 @@ fn rows(name: &str) -> Vec<Row> {
     table(name).into_iter().map(read).filter(|row| row.question != "record").collect()
 }
 
-fn row(columns: Vec<String>) -> Row {
+/// A tenth column, where a file has one, says what the row is there for.
+fn row(mut columns: Vec<String>) -> Row {
+    columns.truncate(9);
     let [id, question, kind, setting, start, end, source, room, answer] = columns.try_into().expect("nine columns");
     let setting = Settings { backslash: setting == "1" };
     Row { id, question, kind, setting, start, end, source: unhex(&source), room, answer }
@@ -92,6 +94,9 @@ fn refused(error: Error) -> String {
     match (error, error.span()) {
         (Error::WrongKind { expected, actual }, _) => format!("r 1 {} {}", expected.code(), actual.code()),
         (Error::NoRoom { needed }, _) => format!("r 9 {needed}"),
+        (Error::InvalidString { place: Some(place), .. }, Some(span)) => {
+            format!("r 6 {} {} {place}", span.start, span.end)
+        }
         (_, Some(span)) => format!("r {} {} {}", error.number(), span.start, span.end),
         (_, None) => format!("r {}", error.number()),
     }
@@ -254,6 +259,12 @@ fn the_rusts_own_answers() {
 #[test]
 fn how_document_01_is_read() {
     assert_eq!(replay("clarified"), 638 - 23);
+}
+
+/// The table of request T-04 has 78.
+#[test]
+fn the_facts_of_places() {
+    assert_eq!(replay("places"), 250);
 }
 
 #[test]

@@ -1,7 +1,7 @@
 /*
  * Reads blocks of string literals, and compares the number, every number of the answer slice and every byte of the buffer, past their lengths too, with what the
- * table of request T-03 says (but for the places of refusals and the settings above 1, which later requests bring), and with single calls. Prints one line; ends with
- * status 1 at the first difference, having said where it stands.
+ * table of request T-03 says (but for the settings above 1, which a later request brings), and with single calls. Prints one line; ends with status 1 at the first
+ * difference, having said where it stands.
  */
 #define _DEFAULT_SOURCE /* for mmap without a file */
 
@@ -46,8 +46,8 @@ static const struct row rows[] = {
     {"11: an empty text stands where the room begins", 8, {4, 0, 0, 7, 4, 0, 7, 12}, "'a' 'b''' ''", 8, 2, 0, {0, 2, 0, 2, 0, 2, 2, 0}, "ab"},
     {"12: an empty text in no room", 4, {4, 0, 0, 5}, "'' ''", 4, 0, 0, {0, 2, 0, 0}, ""},
     {"13: a byte that is too little stays", 8, {4, 0, 0, 7, 4, 0, 0, 7}, "'a' 'b'", 8, 3, 0, {0, 2, 0, 2, 9, 0, 0, 2}, "ab"},
-    {"14: a lone quote", 4, {4, 0, 2, 7}, "xx'a'b'", 4, 0, 0, {6, 0, 0, 0}, ""},
-    {"15: bytes that become no UTF-8", 4, {4, 0, 0, 11}, "E'\\xC3' 'b'", 4, 4, 0, {6, 0, 0, 0}, ""},
+    {"14: a lone quote, its place from the text's start", 4, {4, 0, 2, 7}, "xx'a'b'", 4, 0, 0, {6, 0, 2, 0}, ""},
+    {"15: bytes that become no UTF-8", 4, {4, 0, 0, 11}, "E'\\xC3' 'b'", 4, 4, 0, {6, 0, 6, 0}, ""},
     {"16: the empty text", 4, {4, 0, 0, 0}, "'a'", 4, 0, 0, {6, 0, 0, 0}, ""},
     {"17: on 1 the fields are zero", 4, {8, 0, 0, 3}, "'a'", 4, 0, 0, {1, 0, 0, 0}, ""},
     {"18: 1 stops nothing", 8, {14, 0, 0, 3, 4, 0, 0, 3}, "'a'", 8, 0, 0, {1, 0, 0, 0, 0, 1, 1, 1}, ""},
@@ -66,7 +66,7 @@ static const struct row rows[] = {
     {"31: 10 ahead of 3", 4, {0, 0, 3, 0}, "'a'", 4, 0, 0, {10, 0, 0, 0}, ""},
     {"32: 1 ahead of 3", 4, {8, 0, 3, 0}, "'a'", 4, 0, 0, {1, 0, 0, 0}, ""},
     {"33: a setting for each item", 8, {4, 0, 0, 4, 4, 1, 0, 4}, "'\\n'", 8, 1, 0, {0, 1, 1, 2, 0, 2, 0, 1}, "\n"},
-    {"34: the setting 2", 8, {4, 2, 0, 15, 4, 0, 0, 15}, "E'\\uD83D\\uDE00'", 8, 4, 0, {10, 0, 0, 0, 6, 0, 0, 0}, ""},
+    {"34: the setting 2", 8, {4, 2, 0, 15, 4, 0, 0, 15}, "E'\\uD83D\\uDE00'", 8, 4, 0, {10, 0, 0, 0, 6, 0, 2, 0}, ""},
     {"35: the setting 4", 8, {4, 4, 0, 7, 4, 4, 8, 15}, "'a' 'b' 'a'\n'b'", 8, 4, 0, {10, 0, 0, 0, 10, 0, 0, 0}, ""},
     {"36: the setting 7", 4, {4, 7, 0, 3}, "'a'", 4, 0, 0, {10, 0, 0, 0}, ""},
     {"37: no quoting of Oracle's", 4, {4, 0, 0, 6}, "q'[a]'", 4, 0, 0, {6, 0, 0, 0}, ""},
@@ -75,6 +75,9 @@ static const struct row rows[] = {
     {"40: three numbers are not", 3, {4, 0, 0}, "'a'", 4, 4, 15, {0}, ""},
     {"41: an answer slice of three numbers", 4, {4, 0, 0, 7}, "'a' 'b'", 3, 4, 15, {0}, ""},
     {"42: 15 before any item", 8, {0, 9, 0, 7, 4, 0, 0, 7}, "'a' 'b'", 7, 4, 15, {0}, ""},
+    {"a place behind a written item", 8, {4, 0, 0, 7, 4, 0, 8, 13}, "'a' 'b','c'd'", 8, 2, 0, {0, 2, 0, 2, 6, 0, 2, 0}, "ab"},
+    {"the place by each item's setting", 8, {4, 0, 0, 7, 4, 1, 0, 7}, "'a\\''b'", 8, 4, 0, {0, 2, 0, 4, 6, 0, 4, 0}, "a\\'b"},
+    {"a place in the third segment", 8, {4, 0, 1, 16, 4, 0, 1, 8}, " 'a' 'b' E'\\400'", 8, 0, 0, {6, 0, 10, 0, 9, 0, 0, 2}, ""},
     {"the header's example", 8, {4, 0, 0, 4, 4, 0, 5, 11}, "'it','a''b'", 8, 9, 0, {0, 1, 1, 2, 0, 2, 0, 3}, "a'b"},
 };
 
@@ -126,11 +129,11 @@ static size_t single(const struct row *row, size_t at, size_t used, size_t room,
     const uint32_t *item = row->items + at;
     uint32_t *four = due->answers + at;
     uint32_t how;
-    size_t first, second;
+    size_t first, second, place;
 
-    four[0] = valdrabus_as_str_in(item[0], 0, item[2], item[3], bytes(row->source), strlen(row->source), item[1], due->out + used, room - used, &how, &first, &second);
+    four[0] = valdrabus_as_str_in(item[0], 0, item[2], item[3], bytes(row->source), strlen(row->source), item[1], due->out + used, room - used, &how, &first, &second, &place);
     four[1] = how;
-    four[2] = (uint32_t)(how == VALDRABUS_BORROWED ? first : how == VALDRABUS_WRITTEN ? used : 0);
+    four[2] = (uint32_t)(how == VALDRABUS_BORROWED ? first : how == VALDRABUS_WRITTEN ? used : place);
     four[3] = (uint32_t)(how != VALDRABUS_NONE || four[0] == VALDRABUS_NO_ROOM ? second - first : 0);
     return how == VALDRABUS_WRITTEN ? second : 0;
 }

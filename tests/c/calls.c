@@ -1,6 +1,6 @@
 /*
  * Calls each function of valdrabus.h but the block's, which blocks.c calls, and compares what it answers, the lent numbers and every byte of the buffer with what
- * document 01's examples, the tables of its reading and those of request T-01 say. Prints one line; ends with status 1 at the first difference, having said where it stands.
+ * document 01's examples, the tables of its reading and those of requests T-01 and T-04 say. Prints one line; ends with status 1 at the first difference, having said where it stands.
  */
 #include "valdrabus.h"
 
@@ -16,14 +16,23 @@ struct call {
     uint32_t how;
     size_t first;
     size_t second;
+    size_t place;
     uint8_t out[ROOM];
 };
 
-/* Numbers that no call leaves, and a buffer in which a changed byte shows. */
+/* Numbers that no call leaves, and a buffer in which a changed byte shows. Most calls are lent no place: theirs stays 0. */
 static struct call lent(void)
 {
-    struct call call = {77, 77, 77, 77, {0}};
+    struct call call = {77, 77, 77, 77, 0, {0}};
     memset(call.out, LENT, ROOM);
+    return call;
+}
+
+/* The same for a call that is lent a place too, by a number that none leaves either. */
+static struct call lent_place(void)
+{
+    struct call call = lent();
+    call.place = SIZE_MAX - 77;
     return call;
 }
 
@@ -39,26 +48,32 @@ static int holds(const struct call *call, const char *text)
     return 1;
 }
 
-static int says(const struct call *call, uint32_t number, uint32_t how, size_t first, size_t second)
+static int says(const struct call *call, uint32_t number, uint32_t how, size_t first, size_t second, size_t place)
 {
-    return call->number == number && call->how == how && call->first == first && call->second == second;
+    return call->number == number && call->how == how && call->first == first && call->second == second && call->place == place;
 }
 
 /* Each of these holds of a call that was asked of a literal that is all of its source. */
 
 static int borrowed(struct call call, size_t first, size_t second)
 {
-    return says(&call, VALDRABUS_OK, VALDRABUS_BORROWED, first, second) && holds(&call, "");
+    return says(&call, VALDRABUS_OK, VALDRABUS_BORROWED, first, second, 0) && holds(&call, "");
 }
 
 static int written(struct call call, const char *text)
 {
-    return says(&call, VALDRABUS_OK, VALDRABUS_WRITTEN, 0, strlen(text)) && holds(&call, text);
+    return says(&call, VALDRABUS_OK, VALDRABUS_WRITTEN, 0, strlen(text), 0) && holds(&call, text);
 }
 
 static int refused(struct call call, uint32_t number, size_t first, size_t second)
 {
-    return says(&call, number, VALDRABUS_NONE, first, second) && holds(&call, "");
+    return says(&call, number, VALDRABUS_NONE, first, second, 0) && holds(&call, "");
+}
+
+/* A string, or a temporal text, that cannot be read: its span, and the place where reading stops. */
+static int broken(struct call call, size_t first, size_t second, size_t place)
+{
+    return says(&call, VALDRABUS_INVALID_STRING, VALDRABUS_NONE, first, second, place) && holds(&call, "");
 }
 
 /* The questions whose signatures are alike. */
@@ -67,14 +82,34 @@ typedef uint32_t part_question(uint32_t, uint32_t, uint32_t, uint32_t, const uin
 
 static struct call string_in(uint32_t kind, const char *source, size_t len, uint32_t setting, size_t room)
 {
-    struct call c = lent();
-    c.number = valdrabus_as_str_in(kind, 0, 0, (uint32_t)len, bytes(source), len, setting, c.out, room, &c.how, &c.first, &c.second);
+    struct call c = lent_place();
+    c.number = valdrabus_as_str_in(kind, 0, 0, (uint32_t)len, bytes(source), len, setting, c.out, room, &c.how, &c.first, &c.second, &c.place);
     return c;
 }
 
 static struct call string(const char *source, uint32_t setting)
 {
     return string_in(VALDRABUS_KIND_STRING, source, strlen(source), setting, ROOM);
+}
+
+/* A string in a source that may hold more than it. */
+static struct call string_of(uint32_t synthetic, uint32_t start, uint32_t end, const char *source)
+{
+    struct call c = lent_place();
+    c.number = valdrabus_as_str_in(VALDRABUS_KIND_STRING, synthetic, start, end, bytes(source), strlen(source), 0, c.out, ROOM, &c.how, &c.first, &c.second, &c.place);
+    return c;
+}
+
+static struct call temporal_of(uint32_t kind, uint32_t synthetic, uint32_t start, uint32_t end, const char *source, size_t room)
+{
+    struct call c = lent_place();
+    c.number = valdrabus_as_temporal_text(kind, synthetic, start, end, bytes(source), strlen(source), c.out, room, &c.how, &c.first, &c.second, &c.place);
+    return c;
+}
+
+static struct call temporal(uint32_t kind, const char *source)
+{
+    return temporal_of(kind, 0, 0, (uint32_t)strlen(source), source, ROOM);
 }
 
 static struct call text_in(text_question *ask, uint32_t kind, const char *source, size_t room)
@@ -100,19 +135,19 @@ static struct call part(part_question *ask, uint32_t kind, const char *source)
 static void strings(void)
 {
     CHECK(written(string("'a' 'b' ", 0), "ab"));
-    CHECK(refused(string("'a' ", 0), VALDRABUS_INVALID_STRING, 0, 4));
-    CHECK(refused(string("'a' E'c'", 0), VALDRABUS_INVALID_STRING, 0, 8));
+    CHECK(broken(string("'a' ", 0), 0, 4, 0));
+    CHECK(broken(string("'a' E'c'", 0), 0, 8, 2));
     CHECK(written(string("'x' 'a' E'c'", 0), "xac"));
     CHECK(written(string("'a\\'", 1), "a\\"));
     CHECK(borrowed(string("'a\\'", 0), 1, 3));
-    CHECK(refused(string("E'\\400'", 0), VALDRABUS_INVALID_STRING, 0, 7));
+    CHECK(broken(string("E'\\400'", 0), 0, 7, 2));
     CHECK(written(string("E'\\477'", 0), "?"));
     CHECK(written(string("E'\\xC3\\xA9'", 0), "\xC3\xA9"));
-    CHECK(refused(string("$a$a$", 0), VALDRABUS_INVALID_STRING, 0, 5));
+    CHECK(broken(string("$a$a$", 0), 0, 5, 0));
     CHECK(borrowed(string("$$a$$b$$", 0), 2, 6));
-    CHECK(refused(string_in(VALDRABUS_KIND_STRING, "E'a\0'", 5, 0, ROOM), VALDRABUS_INVALID_STRING, 0, 5));
+    CHECK(broken(string_in(VALDRABUS_KIND_STRING, "E'a\0'", 5, 0, ROOM), 0, 5, 0));
     CHECK(refused(string("'\xFF'", 0), VALDRABUS_NOT_UTF8, 0, 3));
-    CHECK(refused(string("", 0), VALDRABUS_INVALID_STRING, 0, 0));
+    CHECK(broken(string("", 0), 0, 0, 0));
     CHECK(refused(string_in(VALDRABUS_KIND_STRING, "'ab' 'c'", 8, 0, 2), VALDRABUS_NO_ROOM, 0, 3));
     CHECK(written(string_in(VALDRABUS_KIND_STRING, "'ab' 'c'", 8, 0, 3), "abc"));
     CHECK(borrowed(string_in(VALDRABUS_KIND_STRING, "'abc'", 5, 0, 0), 1, 4));
@@ -122,9 +157,52 @@ static void strings(void)
     CHECK(refused(string("'a'", 2), VALDRABUS_BAD_NUMBER, 0, 0));
 }
 
+/* Facts of request T-04, by their numbers in its table. */
+static void places(void)
+{
+    CHECK(broken(string("'a'b'", 0), 0, 5, 2));                                             /* 1 */
+    CHECK(broken(string("'\xC3\xA9'b'", 0), 0, 6, 3));                                      /* 6 */
+    CHECK(broken(string("'a\\''b'", 1), 0, 7, 4));                                          /* 10 */
+    CHECK(broken(string("U&'a'b'", 0), 0, 7, 0));                                           /* 20 */
+    CHECK(broken(string_in(VALDRABUS_KIND_STRING, "'a\0'", 4, 0, ROOM), 0, 4, 0));          /* 22 */
+    CHECK(broken(string_in(VALDRABUS_KIND_STRING, "'a'b\0'", 6, 0, ROOM), 0, 6, 0));        /* 23 */
+    CHECK(broken(string("E'\\xC3'", 0), 0, 7, 6));                                          /* 33 */
+    CHECK(broken(string("E'\\xC3a'", 0), 0, 8, 6));                                         /* 34 */
+    CHECK(broken(string("U&'\\D83D\\0041'", 0), 0, 14, 3));                                /* 50 */
+    CHECK(broken(string("U&'\xC3\xA9" "0041\xC3\xA9x'UESCAPE'\xC3\xA9'", 0), 0, 24, 9));     /* 54 */
+    CHECK(broken(string("'a' 'b' E'\\400'", 0), 0, 15, 10));                                /* 58 */
+    CHECK(broken(string_in(VALDRABUS_KIND_STRING, "'a' '\0' x", 9, 0, ROOM), 0, 9, 4));     /* 62 */
+    CHECK(broken(temporal(VALDRABUS_KIND_DATE, "DATE 'a'b'"), 0, 10, 7));                   /* 66 */
+    CHECK(broken(temporal(VALDRABUS_KIND_DATE, "DATE"), 0, 4, 0));                          /* 67 */
+    CHECK(broken(temporal(VALDRABUS_KIND_DATE, "DATE 'a' 'b"), 0, 11, 9));                  /* 71 */
+    CHECK(broken(string_of(0, 2, 7, "xx'a'b'"), 2, 7, 2));                                  /* 72 */
+    CHECK(broken(temporal_of(VALDRABUS_KIND_TIME, 0, 2, 12, "xxDATE 'a'b'yy", 0), 2, 12, 7));
+    CHECK(broken(string_in(VALDRABUS_KIND_STRING, "'a' 'b'c'", 9, 0, 0), 0, 9, 7));         /* 77 */
+}
+
+/* Every call writes the place: 0 for an answer, and for each number but 6. */
+static void no_places(void)
+{
+    CHECK(borrowed(temporal(VALDRABUS_KIND_DATE, "DATE 'a'"), 6, 7));
+    CHECK(written(temporal(VALDRABUS_KIND_DATE, "DATE 'a' 'b'"), "ab"));
+    CHECK(refused(string_in(VALDRABUS_KIND_DATE, "'a'b'", 5, 0, ROOM), VALDRABUS_WRONG_KIND, VALDRABUS_EXPECTED_STRING, VALDRABUS_KIND_DATE));
+    CHECK(refused(temporal(VALDRABUS_KIND_STRING, "'a'b'"), VALDRABUS_WRONG_KIND, VALDRABUS_EXPECTED_TEMPORAL, VALDRABUS_KIND_STRING));
+    CHECK(refused(string_of(1, 0, 5, "'a'b'"), VALDRABUS_MISSING_SOURCE, 0, 5));
+    CHECK(refused(temporal_of(VALDRABUS_KIND_DATE, 1, 0, 5, "'a'b'", ROOM), VALDRABUS_MISSING_SOURCE, 0, 5));
+    CHECK(refused(string_of(0, 0, 9, "'a'b'"), VALDRABUS_INVALID_SOURCE_RANGE, 0, 9));
+    CHECK(refused(temporal_of(VALDRABUS_KIND_DATE, 0, 3, 2, "'a'b'", ROOM), VALDRABUS_INVALID_SOURCE_RANGE, 3, 2));
+    CHECK(refused(string("'a'\xFF'", 0), VALDRABUS_NOT_UTF8, 0, 5));
+    CHECK(refused(temporal(VALDRABUS_KIND_DATE, "'a'\xFF'"), VALDRABUS_NOT_UTF8, 0, 5));
+    CHECK(refused(string_in(VALDRABUS_KIND_STRING, "'a' 'b'", 7, 0, 1), VALDRABUS_NO_ROOM, 0, 2));
+    CHECK(refused(temporal_of(VALDRABUS_KIND_DATE, 0, 0, 7, "'a' 'b'", 1), VALDRABUS_NO_ROOM, 0, 2));
+    CHECK(refused(string("'a'b'", 2), VALDRABUS_BAD_NUMBER, 0, 0));
+    CHECK(refused(string_of(2, 0, 5, "'a'b'"), VALDRABUS_BAD_NUMBER, 0, 0));
+    CHECK(refused(temporal(15, "'a'b'"), VALDRABUS_BAD_NUMBER, 0, 0));
+}
+
 static void other_texts(void)
 {
-    text_question *decimal = valdrabus_as_decimal_text, *bits = valdrabus_as_bit_text, *temporal = valdrabus_as_temporal_text;
+    text_question *decimal = valdrabus_as_decimal_text, *bits = valdrabus_as_bit_text;
 
     CHECK(written(text_in(decimal, VALDRABUS_KIND_INTEGER, "0x1F", ROOM), "31"));
     CHECK(written(text_in(decimal, VALDRABUS_KIND_DECIMAL, "1_000.5", ROOM), "1000.5"));
@@ -139,11 +217,11 @@ static void other_texts(void)
     CHECK(refused(text_in(bits, VALDRABUS_KIND_BINARY_BITS, "B'2'", ROOM), VALDRABUS_INVALID_BIT_STRING, 0, 4));
     CHECK(refused(text_in(bits, VALDRABUS_KIND_NULL, "B'0'", ROOM), VALDRABUS_WRONG_KIND, VALDRABUS_EXPECTED_BIT_STRING, VALDRABUS_KIND_NULL));
 
-    CHECK(borrowed(text_in(temporal, VALDRABUS_KIND_DATE, "DATE $$a$$b$$", ROOM), 7, 8));
-    CHECK(borrowed(text_in(temporal, VALDRABUS_KIND_TIME, "DATE'\\n'", ROOM), 5, 7));
-    CHECK(written(text_in(temporal, VALDRABUS_KIND_TIMESTAMP, "DATE E'\\n'", ROOM), "\n"));
-    CHECK(refused(text_in(temporal, VALDRABUS_KIND_INTERVAL, "\"a\"", ROOM), VALDRABUS_INVALID_STRING, 0, 3));
-    CHECK(refused(text_in(temporal, VALDRABUS_KIND_TRUE, "'a'", ROOM), VALDRABUS_WRONG_KIND, VALDRABUS_EXPECTED_TEMPORAL, VALDRABUS_KIND_TRUE));
+    CHECK(borrowed(temporal(VALDRABUS_KIND_DATE, "DATE $$a$$b$$"), 7, 8));
+    CHECK(borrowed(temporal(VALDRABUS_KIND_TIME, "DATE'\\n'"), 5, 7));
+    CHECK(written(temporal(VALDRABUS_KIND_TIMESTAMP, "DATE E'\\n'"), "\n"));
+    CHECK(broken(temporal(VALDRABUS_KIND_INTERVAL, "\"a\""), 0, 3, 0));
+    CHECK(refused(temporal(VALDRABUS_KIND_TRUE, "'a'"), VALDRABUS_WRONG_KIND, VALDRABUS_EXPECTED_TEMPORAL, VALDRABUS_KIND_TRUE));
 }
 
 static void parts(void)
@@ -369,6 +447,8 @@ static void helpers(void)
 int main(void)
 {
     strings();
+    places();
+    no_places();
     other_texts();
     parts();
     values();

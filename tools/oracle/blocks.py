@@ -1,6 +1,6 @@
 #!/usr/bin/env python3
-"""Whether the rows of blocks.tsv are what request T-03's sentences say, read once more: what each item's text means is the Rust's answer, and the rest follows
-from the room still left.
+"""Whether the rows of blocks.tsv are what request T-03's sentences say, read once more: what each item's text means is the Rust's answer, where it breaks is
+places.py's, and the rest follows from the room still left.
 
     tools/oracle/blocks.py
 
@@ -13,6 +13,7 @@ import sys
 sys.dont_write_bytecode = True
 sys.path.append(os.path.join(os.path.dirname(os.path.abspath(__file__)), '..'))
 import oracle  # noqa: E402
+import places  # noqa: E402
 import replay  # noqa: E402
 
 STRING = 4  # the kind's code
@@ -39,10 +40,6 @@ def barred(source, kind, setting, start, end):
     return 0 if replay.is_utf8(source[start:end]) else 4
 
 
-def fours_of(numbers):
-    return list(zip(*[iter(numbers)] * 4))
-
-
 def asked_alone(source, item):
     """what the Rust is asked of an item's text alone"""
     _, setting, start, end = item
@@ -55,16 +52,16 @@ def asked_in_place(source, item):
 
 
 def answers_to(requests):
-    """request -> (number, letter, values, bytes) of the Rust's answer"""
+    """request -> (number, letter, values, bytes) of the Rust's answer, a 6 with its place by request T-04's sentences"""
     requests = sorted(set(requests))
-    return {request: replay.due(request[-1], answer) for request, answer in zip(requests, oracle.ask(requests))}
+    return {request: replay.due(request[-1], places.placed(request, answer)) for request, answer in zip(requests, oracle.ask(requests))}
 
 
 class Items:
     """The single question of every item of every row, without a buffer."""
 
     def __init__(self, calls):
-        asked = [(call.source, item) for call in calls for item in fours_of(call.items)]
+        asked = [(call.source, item) for call in calls for item in replay.in_fours(call.items)]
         self.rust = answers_to([asked_alone(*i) for i in asked if not barred(i[0], *i[1])] + [asked_in_place(*i) for i in asked if self.fits(*i)])
         self.differ = [(source, item) for source, item in asked if self.fits(source, item) and self.in_place(source, item) != self.answer(source, item)]
 
@@ -74,17 +71,17 @@ class Items:
         return replay.is_utf8(source) and is_known(*item[:2])
 
     def answer(self, source, item):
-        """('r', number), ('b', start, length) or ('w', bytes)"""
+        """('r', number, place), ('b', start, length) or ('w', bytes)"""
         number = barred(source, *item)
-        return ('r', number) if number else self.shown(self.rust[asked_alone(source, item)], item[2])
+        return ('r', number, 0) if number else self.shown(self.rust[asked_alone(source, item)], item[2])
 
     def in_place(self, source, item):
         return self.shown(self.rust[asked_in_place(source, item)], 0)
 
     @staticmethod
     def shown(answer, moved):
-        number, letter, (first, second), value = answer
-        return {'b': ('b', first + moved, second - first), 'w': ('w', value), 'r': ('r', number)}[letter]
+        number, letter, (first, second, place), value = answer
+        return {'b': ('b', first + moved, second - first), 'w': ('w', value), 'r': ('r', number, place)}[letter]
 
 
 def is_bad(call):
@@ -98,7 +95,8 @@ def four_of(answer, used, room):
     if case == 'b':
         return (0, 1, *values), b''
     if case == 'r':
-        return (*values, 0, 0, 0), b''
+        number, place = values
+        return (number, 0, place, 0), b''
     value, = values
     return ((0, 2, used, len(value)), value) if len(value) <= room - used else ((9, 0, 0, len(value)), b'')
 
@@ -108,7 +106,7 @@ def due(call, items):
     if is_bad(call):
         return 15, [], b''
     fours, written = [], b''
-    for item in fours_of(call.items):
+    for item in replay.in_fours(call.items):
         four, more = four_of(items.answer(call.source, item), len(written), call.room)
         fours += four
         written += more

@@ -4,7 +4,8 @@
     tools/oracle/choose.py [SEED]
 
 Then tools/oracle/tables.py turns the rows into antt. How many rows each stratum has stands in STRATA. Of more texts than are needed
-a stratum keeps so many that at most 55 in a hundred are refused. See docs/VECTORS.md for the columns.
+a stratum keeps so many that at most 55 in a hundred are refused. Where a 6 breaks, which the Rust does not say, places.py does. See docs/VECTORS.md for
+the columns.
 """
 import os
 import random
@@ -12,6 +13,7 @@ import re
 import sys
 
 from oracle import ROOT, ask
+from places import placed
 from texts import Texts
 
 # question, kinds, rows, texts
@@ -88,7 +90,7 @@ def main():
             room = '.'
             if answer[0] == 'w':
                 room = rng.choice([0, 0, 1, 5, -1]) if written(answer) else rng.choice([0, 2])
-            rows.append((*request, room, answer))
+            rows.append((*request, room, placed(request, answer)))
         return kept
 
     for question, kinds, count, make in STRATA:

@@ -4,13 +4,15 @@
     tools/oracle/clarify.py
 
 The page is no part of this repository: VALDRABUS_CLARIFICATIONS, by default ../shared/docs/clarifications.md beside it. Between the parts of a value it has
-document 01's space; the rows have what request T-02 puts there.
+document 01's space; the rows have what request T-02 puts there. Where a 6 breaks neither the page nor the Rust says: the rows have request T-04's place, by
+places.py.
 """
 import os
 import re
 import sys
 
 from oracle import ROOT, ask
+from places import placed
 
 PAGE = os.environ.get('VALDRABUS_CLARIFICATIONS', os.path.join(ROOT, '..', 'shared', 'docs', 'clarifications.md'))
 ASKED = {'string': ('string', 4), 'charset': ('charset', 4), 'i64': ('i64', 1), 'decimal': ('decimal', 1), 'bits': ('bits', 12), 'money': ('money', 14),
@@ -129,13 +131,13 @@ def main():
             question, kind = ASKED[m[1]]
             kind, setting = int(m[2] or kind), int(bool(m[3]))
             start, end = 0, len(data)
-            answer = answer_of(row[3], question, kind, start, end, data)
+            answer = placed((question, kind, setting, start, end, data), answer_of(row[3], question, kind, start, end, data))
         room = '0' if answer[0] == 'w' else '.'
         rows.append([name, question, str(kind), str(setting), str(start), str(end), data.hex().upper() or '-', room, answer])
         if '(01)' not in row[3]:
             checked.append((rows[-1], (question, kind, setting, start, end, data)))
     for (row, request), told in zip(checked, ask([c[1] for c in checked])):
-        assert row[-1] == told, (row, told)
+        assert row[-1] == placed(request, told), (row, told)
 
     # F1 and C34 have no table
     family = ['-0x-8' + '0' * 31, '-0X-008' + '0' * 31, '-0o-2' + '0' * 42, '-0b-1' + '0' * 127, '-0x-8000_' + '0' * 28]

@@ -1,10 +1,10 @@
 #!/usr/bin/env python3
-"""Turns vectors/oracle.tsv, clarified.tsv, forms.tsv, parts.tsv and blocks.tsv into tables of antt, proved by one computation.
+"""Turns vectors/oracle.tsv, clarified.tsv, forms.tsv, parts.tsv, places.tsv and blocks.tsv into tables of antt, proved by one computation.
 
     tools/oracle/tables.py
 
-writes crates/meaning/proofs/Oracle1.antt and on, Clarified.antt, FormRows.antt, PartRows.antt, BlockRows.antt, Tables.antt that proves them, and Lib.antt with their
-names and those of the tables written by hand. The forms of the rows are those of crates/meaning/proofs/Rows.antt.
+writes crates/meaning/proofs/Oracle1.antt and on, Clarified.antt, FormRows.antt, PartRows.antt, PlaceRows.antt, BlockRows.antt, Tables.antt that proves them,
+and Lib.antt with their names and those of the tables written by hand. The forms of the rows are those of crates/meaning/proofs/Rows.antt.
 """
 import glob
 import os
@@ -30,7 +30,7 @@ QUESTION = {'plain': 'plain', 'decimal': 'decimal-text', 'bits': 'bit-text', 'te
 # the words that rows are made of
 WORDS = ('asks spans detached helps names prefixed spells forms prints block wrote needs refused tells declines string plain decimal-text bit-text temporal-text money-text '
          'source-text charset i64 bool null uescape-legal escape-valid unicode-valid embeds-nul is-ident borrows writes cramped plus minus unnamed says '
-         'refuses unfit').split()
+         'refuses breaks unfit').split()
 HELPER = {'uescape': 'uescape-legal', 'evalid': 'escape-valid', 'uvalid': 'unicode-valid', 'nul': 'embeds-nul', 'isident': 'is-ident'}
 
 
@@ -45,6 +45,15 @@ def truth(answer):
     return {'yes': 'true', 'no': 'false'}[answer]
 
 
+def refusal(room, number, *values):
+    """A refusal: a wrong kind; a 6 with its place, and the buffer's length, 3 where the row says none; any other by its number."""
+    if number == '1':
+        return f'(unfit {values[0]})'
+    if len(values) == 3:
+        return f'(breaks {3 if room == "." else room} {values[2]})'
+    return f'(refuses {number})'
+
+
 def told(source, room, answer):
     word, *values = answer.split(' ')
     if word == 'b':
@@ -56,7 +65,7 @@ def told(source, room, answer):
         value = int(values[0])
         return f'(minus {-value})' if value < 0 else f'(plus {value})'
     if word == 'r':
-        return f'(unfit {values[1]})' if values[0] == '1' else f'(refuses {values[0]})'
+        return refusal(room, *values)
     return 'unnamed' if word == 'n' else f'(says {truth(word)})'
 
 
@@ -223,8 +232,9 @@ def main():
     table('FormRows', 'values as E and U& literals, and these read back.', 'forms.tsv', list(form_rows()),
           ['use Rattle.meaning.specs.declared.Form.the-variants.{Escape, Unicode}'])
     table('PartRows', 'values in parts, and these and other texts read.', 'parts.tsv', list(part_rows()), sizes)
+    table('PlaceRows', 'where reading a string stops.', 'places.tsv', [row(*r[1:9]) for r in read('places.tsv')])
     table('BlockRows', 'blocks of string literals read in one call.', 'blocks.tsv', list(block_rows()))
-    modules += ['Clarified', 'FormRows', 'PartRows', 'BlockRows']
+    modules += ['Clarified', 'FormRows', 'PartRows', 'PlaceRows', 'BlockRows']
     proof_of(modules[1:])
     modules += ['Tables'] + BY_HAND
     with open(os.path.join(PROOFS, 'Lib.antt'), 'w') as f:

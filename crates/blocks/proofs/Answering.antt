@@ -25,6 +25,7 @@ use Rattle.meaning.specs.Codes.{kindOf, isKnown, settingsOf}
 use Rattle.meaning.specs.Blocks.{Asked, four, askedAs, itemAsked}
 use Rattle.laws.proofs.basics.Tests.{and-left, and-right}
 use Rattle.laws.proofs.walking.Short.{read-length}
+use Rattle.laws.proofs.places.Whole.{read-end}
 use Rattle.laws.proofs.questions.Unreached.{kindOf-code}
 use Rattle.laws.proofs.questions.Ranges.{Bounds, AnswerIn, read-inside, span-range}
 use Rattle.strings.specs.declared.reading.Checked.{Checked}
@@ -53,16 +54,17 @@ read-asks sp s used out after (written v) d k = go (leb (length v) (length out))
     go false e = rw (k .answer, e) (record { told = refl; took = refl; room = k .buffer })
 read-asks sp s used out after (refused p) d k = rw (k .answer) (record { told = refl; took = refl; room = k .buffer })
 
--- its numbers have 32 bits, since a value is no longer than its text
+-- its numbers have 32 bits, since a value is no longer than its text, and a place inside it
 in-block : (s used n : ℕ) (out : List ℕ) (a : Answer) (d : Read) → d ≡ readOf (length out) a → AnswerIn n a
-    → ((v : List ℕ) → a ≡ written v → length v + 2 ≤ n) → s + n ≤ 4294967295 → used + length out ≤ 4294967295 → InBlock s used d
-in-block s used n out (borrowed f u) d k i m h w = record { by = rw k (i .ordered, omega (arith, i .inside, h)) }
-in-block s used n out (written v) d k i m h w = go (leb (length v) (length out)) refl
+    → ((v : List ℕ) → a ≡ written v → length v + 2 ≤ n) → ((p : ℕ) → a ≡ refused p → p ≤ n) → s + n ≤ 4294967295 → used + length out ≤ 4294967295
+    → InBlock s used d
+in-block s used n out (borrowed f u) d k i m o h w = record { by = rw k (i .ordered, omega (arith, i .inside, h)) }
+in-block s used n out (written v) d k i m o h w = go (leb (length v) (length out)) refl
   where
     go : (x : Bool) → leb (length v) (length out) ≡ x → InBlock s used d
     go true e = record { by = rw (k, e) (omega (arith, leb-true (length v) (length out) e, w)) }
     go false e = record { by = rw (k, e) (omega (arith, m v refl, h)) }
-in-block s used n out (refused p) d k i m h w = record { by = rw k tt }
+in-block s used n out (refused p) d k i m o h w = record { by = rw k (omega (arith, o p refl, h)) }
 
 -- BY ITS CASE
 module _ {s used : ℕ} {q : Read} (i : InBlock s used q) where
@@ -105,8 +107,16 @@ module _ {s used : ℕ} {q : Read} (i : InBlock s used q) where
     pub told-written : (r : Told) → r ≡ toldOf 0 2 used n n → r ≡ readTold s used q
     told-written r h = h ∙ ap (readTold s used) (sym e)
 
-  pub told-refused : (p : ℕ) → q ≡ Read′.Refused p → (r : Told) → r ≡ toldOf 6 0 0 0 0 → r ≡ readTold s used q
-  told-refused p e r h = h ∙ ap (readTold s used) (sym e)
+  module _ (p : ℕ) (e : q ≡ Read′.Refused p) where
+    pub place-fits : p ≤ 4294967295
+    place-fits = let k = by (Read′.Refused p) e in omega (arith, k)
+
+    -- so that a start told for the place is refused for what it tells
+    pub text-fits-too : s ≤ 4294967295
+    text-fits-too = let k = by (Read′.Refused p) e in omega (arith, k)
+
+    pub told-refused : (r : Told) → r ≡ toldOf 6 0 p 0 0 → r ≡ readTold s used q
+    told-refused r h = h ∙ ap (readTold s used) (sym e)
 
   module _ (n : ℕ) (e : q ≡ Read′.NoRoom n) where
     pub needed-fits : n ≤ 4294967295
@@ -199,7 +209,7 @@ module _ (S : List ℕ) (used : ℕ) (out : List ℕ) (i : Item) where
               text-fits h w =
                   let n : i .start + length text ≤ 4294967295 =
                   omega (arith, length-take (i .end - i .start) (drop (i .start) S), length-drop (i .start) S, range .ordered, range .inside, w .fits) in
-                  in-block (i .start) used (length text) out (read σ text) a (reads .1 .answer) (read-inside σ text) (read-length σ text) n h
+                  in-block (i .start) used (length text) out (read σ text) a (reads .1 .answer) (read-inside σ text) (read-length σ text) (read-end σ text) n h
 
           -- A PLAIN TEXT IN ASCII is its body
           module _ (σ : Settings) (y : Bool) (p : y ≡ isPlainAscii σ text) (z : y ≡ true) where

@@ -20,14 +20,14 @@ toldOf number how start len took = record { four = four number how start len; to
 abbrev pub readTold : ℕ → ℕ → Read → Told
 readTold s used (Borrowed f u) = toldOf 0 1 (s + f) (u - f) 0
 readTold s used (Written n) = toldOf 0 2 used n n
-readTold s used (Refused p) = toldOf 6 0 0 0 0
+readTold s used (Refused p) = toldOf 6 0 p 0 0
 readTold s used (NoRoom n) = toldOf 9 0 0 n 0
 
 -- its numbers have 32 bits
 abbrev pub InBlockBy : ℕ → ℕ → Read → Type 0
 InBlockBy s used (Borrowed f u) = (f ≤ u) × (s + u ≤ 4294967295)
 InBlockBy s used (Written n) = used + n ≤ 4294967295
-InBlockBy s used (Refused p) = Unit {0}
+InBlockBy s used (Refused p) = s + p ≤ 4294967295
 InBlockBy s used (NoRoom n) = n ≤ 4294967295
 
 pub record InBlock (s used : ℕ) (q : Read) : Type 0 where

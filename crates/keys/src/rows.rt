@@ -6,6 +6,7 @@ use crate::said::say;
 use crate::said::say_line;
 use crate::said::say_number;
 use crate::shown::say_key;
+use crate::stops::say_stop;
 use leaves::puts::put_bytes;
 use meaning::Literal;
 use meaning::LiteralKind;
@@ -142,18 +143,29 @@ fn say_refusal(refusal: Refusal, line: &[u8]) {
         say(b" is no range of whole characters in the source");
     } else {
         say_number(b"refused: the text at 0..", line.len());
-        if number == 4 {
-            say(b" is not UTF-8");
-        } else {
-            say(b" is not a readable string");
-        }
+        say(b" is not UTF-8");
     }
     say_number(b" (number ", number as usize);
     say(b")\n");
 }
 
+// A row that is no readable string, with its text and the place where reading stops.
+fn say_unreadable(line: &[u8], place: usize) {
+    say_number(b"refused: the text at 0..", line.len());
+    say_number(
+        b" is not a readable string: reading stops at its byte ",
+        place,
+    );
+    say(b" (number 6)\n");
+    say_stop(line, place);
+}
+
 fn refused(refusal: Refusal, line: &[u8], state: State) -> State {
-    say_refusal(refusal, line);
+    if let Refusal::InvalidString { span: _, place } = refusal {
+        say_unreadable(line, place);
+    } else {
+        say_refusal(refusal, line);
+    }
     let mut after = state;
     after.refused = one_more(state.refused);
     after

@@ -95,3 +95,47 @@ pub(crate) fn say_key(key: &[u8]) {
         at = say_piece(key, at);
     }
 }
+
+// How many columns a character takes that is shown by its number: the digits and two marks.
+fn columns_by_number(len: usize) -> usize {
+    if len == 3 {
+        return 6;
+    }
+    4
+}
+
+// How many columns the piece at a place takes up to the next one, and where that is: a character by its number, or any byte; a later byte of a character takes none.
+struct Piece {
+    pub columns: usize,
+    pub end: usize,
+}
+
+fn piece_at(key: &[u8], at: usize) -> Piece
+    requires { ⌜ at < length (now key) ⌝ }
+    ensures { λ r. ⌜ (at < r .end) × (r .end ≤ length (now (key .entry))) ⌝ }
+{
+    let marked = marked_len(key, at);
+    if 0 < marked {
+        return Piece {
+            columns: columns_by_number(marked),
+            end: at + marked,
+        };
+    }
+    let first = key[at];
+    Piece {
+        columns: ((first < 0x80) | (0xBF < first)) as usize,
+        end: at + 1,
+    }
+}
+
+// How many columns a key takes, each character one.
+pub(crate) fn columns_of(key: &[u8]) -> usize {
+    let mut columns: usize = 0;
+    let mut at: usize = 0;
+    while at < key.len() {
+        let piece = piece_at(key, at);
+        columns = std::num::wrapping_add_usize(columns, piece.columns);
+        at = piece.end;
+    }
+    columns
+}

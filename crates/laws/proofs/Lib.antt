@@ -5,6 +5,7 @@ pub mod utf8
 pub mod walking
 pub mod cutting
 pub mod joining
+pub mod places
 pub mod writing
 pub mod questions
 pub mod tables

@@ -16,25 +16,27 @@ use Rattle.meaning.specs.declared.Form.{Form}
 use Rattle.meaning.specs.declared.LiteralKind.{LiteralKind}
 use Rattle.meaning.specs.declared.Span.{Span}
 use Rattle.meaning.specs.declared.Literal.{Literal}
-use Rattle.meaning.specs.declared.Refusal.the-variants.{NotUtf8}
+use Rattle.meaning.specs.declared.Refusal.the-variants.{NotUtf8, InvalidString}
 use Rattle.meaning.specs.declared.Text.{Text}
 use Rattle.meaning.specs.declared.Text.the-variants as Text
 use Rattle.meaning.specs.declared.Writing.the-variants as Writing
 use Rattle.meaning.specs.declared.Read.{Read}
 use Rattle.meaning.specs.declared.Item.{Item}
 use Rattle.meaning.specs.declared.Four.{Four}
-use Rattle.meaning.specs.Bytes.{_!_, part, within, isMark, quote, digits, digit, number, has}
+use Rattle.meaning.specs.Bytes.{_!_, part, within, isMark, quote, backslash, digits, digit, number, has, starts}
 use Rattle.meaning.specs.Chars.{Due, pushes, whole, utf8, isScalar, space}
-use Rattle.meaning.specs.Walk.{Step, Trace, walk, stops, plain, value}
-use Rattle.meaning.specs.Steps.{standardStep, checked, gap}
-use Rattle.meaning.specs.Cutting.{opening, segment, cut, complete, continues}
-use Rattle.meaning.specs.Reading.{Answer, written, read, means, meaning}
+use Rattle.meaning.specs.Walk.{Step, stop, Trace, walk, stops, plain, value}
+use Rattle.meaning.specs.Steps.{standardStep, escapeStep, unicodeStep, checked, gap, trim}
+use Rattle.meaning.specs.Cutting.{off, opening, segment, cut, complete, continues}
+use Rattle.meaning.specs.Spelling.{spelling}
+use Rattle.meaning.specs.Kinds.{token, noToken, temporalToken, temporal}
+use Rattle.meaning.specs.Reading.{Answer, written, refused, one, read, means, fails, meaning}
 use Rattle.meaning.specs.Numbers.{fits, printed}
 use Rattle.meaning.specs.Halves.{joinedHalves, negatedHigh, negatedLow, bitsOf, textOf}
 use Rattle.meaning.specs.Helpers.{uescapeLegal, escapeValid, unicodeValid}
 use Rattle.meaning.specs.Answers.{Outcome, Meets, IsPart, textNumber, truthNumber, nullnessNumber, kindCode, partShown, partPlace, shown}
 use Rattle.meaning.specs.Reads.{Reads}
-use Rattle.meaning.specs.Questions.{badSpan, isString, stringQuestion, decimalQuestion, bitsQuestion, temporalQuestion, i64Question, moneyQuestion}
+use Rattle.meaning.specs.Questions.{badSpan, isString, isTemporal, stringQuestion, decimalQuestion, bitsQuestion, temporalQuestion, i64Question, moneyQuestion}
 use Rattle.meaning.specs.Questions.{charsetQuestion, sourceQuestion, boolQuestion, nullQuestion, identifierQuestion}
 use Rattle.meaning.specs.Writer.{spells, between, partsFrom, partsOf, overLimit, partTooSmall, writtenText, writeQuestion}
 use Rattle.meaning.specs.Forms.{formOpening, formText, formQuestion}
@@ -105,6 +107,16 @@ use Rattle.laws.proofs.questions.BlockSplits as BlockSplits
 use Rattle.laws.proofs.questions.BlockSplits.{movedStarts}
 use Rattle.laws.proofs.questions.BlockReturns as BlockReturns
 use Rattle.laws.proofs.questions.BlockReturns.{BlockCall, roomFrom, Returned, LeavesOut, Splits}
+use Rattle.laws.proofs.places.Bodies as Bodies
+use Rattle.laws.proofs.places.Bodies.{StopsIn}
+use Rattle.laws.proofs.places.Alone.{PlaceIn}
+use Rattle.laws.proofs.places.Joined as PlaceJoined
+use Rattle.laws.proofs.places.Joined.{second}
+use Rattle.laws.proofs.places.Whole as PlaceWhole
+use Rattle.laws.proofs.places.Whole.{Refusing}
+use Rattle.laws.proofs.places.Temporal as PlaceTemporal
+use Rattle.laws.proofs.places.Told as PlaceTold
+use Rattle.laws.proofs.places.Told.{stopped-at, TemporalCall, Taken}
 use Rattle.laws.proofs.tables.Starred as Starred
 use Rattle.laws.proofs.tables.Controls as Controls
 use Rattle.laws.proofs.tables.Controls.{Program, Telling, WritesAt, ShutOut}
@@ -573,3 +585,118 @@ block-leaves = BlockCalls.block-leaves
 -- two results that its contract permits are equal
 pub blocks-unique : (o : BlockOutcome) (r r′ : ℕ) (a a′ d d′ : List ℕ) → Blocks o r a d → Blocks o r′ a′ d′ → SameBlock r r′ a a′ d d′
 blocks-unique = Determined.blocks-unique
+
+-- DOCUMENT 02, T-04
+-- "Refusal 6 from reading a string shall carry a place": the question tells the definition's, beside the span, and leaves the buffer as lent; and where it
+-- tells one, the text is refused there. `Answers.refusalValues`: the third value
+module _ (l : Literal) (S t : List ℕ) (σ : Settings) (out : List ℕ) (k : isString (l .kind) ≡ true) (h : Spans l S t) where
+  pub place-told : utf8 t ≡ true → (p : ℕ) → read σ t ≡ refused p → stringQuestion l S σ out ≡ stopped-at (l .span) p out
+  place-told = PlaceTold.place-told l S t σ out k h
+
+  pub told-place : (sp : Span) (p : ℕ) → stringQuestion l S σ out .answer ≡ Text.Refused (InvalidString sp p)
+      → (sp ≡ l .span) × (utf8 t ≡ true) × (read σ t ≡ refused p)
+  told-place = PlaceTold.told-place l S t σ out k h
+
+-- "counted from the text's start": inside the text, or 0 of the empty one; in UTF-8 text a character begins there
+pub place-inside : (σ : Settings) (t : List ℕ) (p : ℕ) → read σ t ≡ refused p → PlaceIn t p
+place-inside = PlaceWhole.read-inside
+
+pub place-begins : (σ : Settings) (t : List ℕ) (p : ℕ) → utf8 t ≡ true → read σ t ≡ refused p → within 0x80 0xBF (t ! p) ≡ false
+place-begins = PlaceWhole.read-begins
+
+-- "In a segment it is the lone quote, or the escape's first character [..], at which reading from the left stops; for E text that becomes bad UTF-8, the
+-- escape or raw character whose bytes broke it, or the body's end if a sequence is unfinished, whichever of all these comes first. A raw NUL or no spelling
+-- gives the segment's start." Left of it reading goes through, in whole units and, in E text, by bytes that UTF-8 text can begin with; there nothing goes on
+pub place-stops : (σ : Settings) (t : List ℕ) (p : ℕ) → one σ t ≡ refused p
+    → ((has 0 t ≡ true) × (p ≡ 0)) ⊎ ((has 0 t ≡ false) × StopsIn σ t (spelling t) p)
+place-stops = Bodies.alone-stops
+
+pub standard-stop : (bs : Bool) (q b : ℕ) (r : List ℕ) → standardStep bs q (b ∷ r) ≡ stop → b ≡ q
+standard-stop = Bodies.standard-stop
+
+pub escape-stop : (b : ℕ) (r : List ℕ) → escapeStep (b ∷ r) ≡ stop → (b ≡ backslash) ⊎ (b ≡ quote)
+escape-stop = Bodies.escape-stop
+
+pub unicode-stop : (e : List ℕ) (q b : ℕ) (r : List ℕ) → unicodeStep e q (b ∷ r) ≡ stop → (b ≡ q) ⊎ (starts e (b ∷ r) ≡ true)
+unicode-stop = Bodies.unicode-stop
+
+-- "In joined text the segment's start is added, and the first refused segment counts": the first k accepted and the next refused at q, whatever follows it
+pub joined-place : (σ : Settings) (s : List ℕ) (ps : List (Further σ)) (p : Further σ) (rest : List ℕ) (q : ℕ) → Whole σ s
+    → Cuts.Each (Segments.Accepted σ) (segments s ps) → meaning σ (p .text) ≡ fails q → isMark (rest ! 0) ≡ false
+    → isMark (second (ps ++ (p ∷ [])) rest ! 0) ≡ true
+    → read σ (strung s (ps ++ (p ∷ [])) rest) ≡ refused (length (strung s ps (p .gap)) + q)
+joined-place = PlaceJoined.joined-place
+
+pub first-place : (σ : Settings) (s rest : List ℕ) (q : ℕ) → Whole σ s → meaning σ s ≡ fails q → isMark (rest ! 0) ≡ false → isMark (trim rest ! 0) ≡ true
+    → read σ (s ++ rest) ≡ refused q
+first-place = PlaceJoined.first-place
+
+-- "a remainder that is no segment gives its own start"
+pub remainder-place : (σ : Settings) (s : List ℕ) (ps : List (Further σ)) (rest : List ℕ) → Whole σ s → Cuts.Each (Segments.Accepted σ) (segments s ps)
+    → isMark (rest ! 0) ≡ false → segment σ (trim rest) ≡ 0 → 0 < length (trim rest) → isMark (second ps rest ! 0) ≡ true
+    → read σ (strung s ps rest) ≡ refused (length (strung s ps []) + gap rest)
+remainder-place = PlaceJoined.remainder-place
+
+-- and back: a text that is refused is refused as one, or by a segment or a remainder, left of which the cut goes through and each segment is accepted
+pub read-stops : (σ : Settings) (t : List ℕ) (p : ℕ) → read σ t ≡ refused p
+    → ((continues σ t ≡ false) × (one σ t ≡ refused p)) ⊎ ((continues σ t ≡ true) × Refusing σ 0 t p)
+read-stops = PlaceWhole.read-stops
+
+-- "A temporal question adds its token's start, or gives 0 with no token"
+module _ (σ : Settings) (t : List ℕ) where
+  pub temporal-place : (f u q : ℕ) → temporalToken t ≡ token f u → read σ (part f u t) ≡ refused q → temporal σ t ≡ refused (f + q)
+  temporal-place = PlaceTemporal.temporal-place σ t
+
+  pub temporal-none : temporalToken t ≡ noToken → temporal σ t ≡ refused 0
+  temporal-none = PlaceTemporal.temporal-none σ t
+
+  pub temporal-inside : (p : ℕ) → temporal σ t ≡ refused p → PlaceIn t p
+  temporal-inside = PlaceTemporal.temporal-inside σ t
+
+  pub temporal-begins : (p : ℕ) → utf8 t ≡ true → temporal σ t ≡ refused p → within 0x80 0xBF (t ! p) ≡ false
+  temporal-begins = PlaceTemporal.temporal-begins σ t
+
+module _ (l : Literal) (S t out : List ℕ) (k : isTemporal (l .kind) ≡ true) (h : Spans l S t) where
+  pub temporal-place-told : utf8 t ≡ true → (p : ℕ) → temporal off t ≡ refused p → temporalQuestion l S out ≡ stopped-at (l .span) p out
+  temporal-place-told = PlaceTold.temporal-place-told l S t out k h
+
+  pub temporal-told-place : (sp : Span) (p : ℕ) → temporalQuestion l S out .answer ≡ Text.Refused (InvalidString sp p)
+      → (sp ≡ l .span) × (utf8 t ≡ true) × (temporal off t ≡ refused p)
+  temporal-told-place = PlaceTold.temporal-told-place l S t out k h
+
+-- the same of what calls return; of the C exports: `valdrabus`, `PlaceExports`
+pub place-calls : {σ : Settings} {t : List ℕ} (c : StringCall σ t) → utf8 t ≡ true → (p : ℕ) → read σ t ≡ refused p
+    → (c .result ≡ Text.Refused (InvalidString (c .literal .span) p)) × (c .after ≡ c .lent)
+place-calls = PlaceTold.place-calls
+
+pub calls-place : {σ : Settings} {t : List ℕ} (c : StringCall σ t) (sp : Span) (p : ℕ) → c .result ≡ Text.Refused (InvalidString sp p)
+    → (sp ≡ c .literal .span) × (utf8 t ≡ true) × (read σ t ≡ refused p)
+calls-place = PlaceTold.calls-place
+
+pub temporal-place-calls : {t : List ℕ} (c : TemporalCall t) → utf8 t ≡ true → (p : ℕ) → temporal off t ≡ refused p
+    → (c .result ≡ Text.Refused (InvalidString (c .literal .span) p)) × (c .after ≡ c .lent)
+temporal-place-calls = PlaceTold.temporal-place-calls
+
+pub temporal-calls-place : {t : List ℕ} (c : TemporalCall t) (sp : Span) (p : ℕ) → c .result ≡ Text.Refused (InvalidString sp p)
+    → (sp ≡ c .literal .span) × (utf8 t ≡ true) × (temporal off t ≡ refused p)
+temporal-calls-place = PlaceTold.temporal-calls-place
+
+-- calls on the first segments were answered (`Taken`), and the call on the next was refused at q
+pub joined-place-calls : (σ : Settings) (s : List ℕ) (ps : List (Further σ)) (p : Further σ) (rest : List ℕ) → Whole σ s → Cuts.Each (Taken σ) (segments s ps)
+    → (d : StringCall σ (p .text)) (sp : Span) (q : ℕ) → d .result ≡ Text.Refused (InvalidString sp q) → isMark (rest ! 0) ≡ false
+    → isMark (second (ps ++ (p ∷ [])) rest ! 0) ≡ true → (c : StringCall σ (strung s (ps ++ (p ∷ [])) rest))
+    → utf8 (strung s (ps ++ (p ∷ [])) rest) ≡ true
+    → (c .result ≡ Text.Refused (InvalidString (c .literal .span) (length (strung s ps (p .gap)) + q))) × (c .after ≡ c .lent)
+joined-place-calls = PlaceTold.joined-calls
+
+pub remainder-place-calls : (σ : Settings) (s : List ℕ) (ps : List (Further σ)) (rest : List ℕ) → Whole σ s → Cuts.Each (Taken σ) (segments s ps)
+    → isMark (rest ! 0) ≡ false → segment σ (trim rest) ≡ 0 → 0 < length (trim rest) → isMark (second ps rest ! 0) ≡ true
+    → (c : StringCall σ (strung s ps rest)) → utf8 (strung s ps rest) ≡ true
+    → (c .result ≡ Text.Refused (InvalidString (c .literal .span) (length (strung s ps []) + gap rest))) × (c .after ≡ c .lent)
+remainder-place-calls = PlaceTold.remainder-calls
+
+-- "T-03 puts the place in its start field": of an item of a block call that is answered
+pub block-place-calls : (a : List ℕ) (k g s e : ℕ) (b S : List ℕ) (f : length a % 4 ≡ 0) (c : BlockCall (a ++ (k ∷ (g ∷ (s ∷ (e ∷ b))))) S) → c .result ≡ 0
+    → isKnown k 0 g ≡ true → isString (literalOf k 0 s e .kind) ≡ true → (t : List ℕ) → Spans (literalOf k 0 s e) S t → utf8 t ≡ true
+    → (p : ℕ) → read (settingsOf g) t ≡ refused p → take 4 (drop (length a) (c .told)) ≡ 6 ∷ 0 ∷ p ∷ 0 ∷ []
+block-place-calls = PlaceTold.block-place-calls

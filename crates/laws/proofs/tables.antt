@@ -4,4 +4,5 @@ pub mod ControlsOfAll
 pub mod Witnesses
 pub mod BlockWitnesses
 pub mod BlockControls
+pub mod PlaceWitnesses
 pub mod Starred

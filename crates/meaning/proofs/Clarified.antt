@@ -4,12 +4,12 @@ use mathlib.Core.List.{List, [], _∷_}
 use Rattle.meaning.specs.declared.PartSize.the-variants.{Whole, AtMost}
 use Rattle.meaning.proofs.Rows.{Row, asks, spans, detached, helps, names, prefixed, spells, prints, wrote, needs, refused, string, decimal-text}
 use Rattle.meaning.proofs.Rows.{bit-text, temporal-text, money-text, source-text, charset, i64, bool, null, uescape-legal, escape-valid, unicode-valid}
-use Rattle.meaning.proofs.Rows.{embeds-nul, is-ident, borrows, writes, plus, minus, unnamed, says, refuses, unfit}
+use Rattle.meaning.proofs.Rows.{embeds-nul, is-ident, borrows, writes, plus, minus, unnamed, says, refuses, breaks, unfit}
 
 abbrev pub rows : List Row
 rows =
-    asks (string false) 4 "" " ''" "" (refuses 6) ∷
-    asks (string false) 4 "" "\n'a' 'b'" "" (refuses 6) ∷
+    asks (string false) 4 "" " ''" "" (breaks 3 0) ∷
+    asks (string false) 4 "" "\n'a' 'b'" "" (breaks 3 0) ∷
     asks bit-text 12 "" " B'0'" "" (refuses 7) ∷
     asks charset 4 "" " _a'x'" "" unnamed ∷
     asks i64 1 "" " 1" "" (refuses 5) ∷
@@ -21,93 +21,93 @@ rows =
     asks (string true) 4 "" "_a'\\'" "" (writes 0 "\\") ∷
     asks (string false) 4 "" "'\\'" "" (borrows 1 2 "\\") ∷
     asks (string false) 4 "" "''''" "" (writes 0 "'") ∷
-    asks (string false) 4 "" "'''" "" (refuses 6) ∷
-    asks (string false) 4 "" "'''''" "" (refuses 6) ∷
+    asks (string false) 4 "" "'''" "" (breaks 3 1) ∷
+    asks (string false) 4 "" "'''''" "" (breaks 3 3) ∷
     asks (string false) 4 "" "\"\"\"\"''" "" (writes 0 "\"") ∷
     asks (string false) 4 "" "'''' ''" "" (writes 0 "'") ∷
-    asks (string false) 4 "" "'" "" (refuses 6) ∷
-    asks (string false) 4 "" "\"" "" (refuses 6) ∷
-    asks (string false) 4 "" "E'" "" (refuses 6) ∷
-    asks (string false) 4 "" "N'" "" (refuses 6) ∷
-    asks (string false) 4 "" "_a'" "" (refuses 6) ∷
-    asks (string false) 4 "" "U&'" "" (refuses 6) ∷
-    asks (string false) 4 "" "U&" "" (refuses 6) ∷
-    asks (string false) 4 "" "_" "" (refuses 6) ∷
-    asks (string false) 4 "" "E" "" (refuses 6) ∷
-    asks (string false) 4 "" "$" "" (refuses 6) ∷
-    asks (string false) 4 "" "$$" "" (refuses 6) ∷
+    asks (string false) 4 "" "'" "" (breaks 3 0) ∷
+    asks (string false) 4 "" "\"" "" (breaks 3 0) ∷
+    asks (string false) 4 "" "E'" "" (breaks 3 0) ∷
+    asks (string false) 4 "" "N'" "" (breaks 3 0) ∷
+    asks (string false) 4 "" "_a'" "" (breaks 3 0) ∷
+    asks (string false) 4 "" "U&'" "" (breaks 3 0) ∷
+    asks (string false) 4 "" "U&" "" (breaks 3 0) ∷
+    asks (string false) 4 "" "_" "" (breaks 3 0) ∷
+    asks (string false) 4 "" "E" "" (breaks 3 0) ∷
+    asks (string false) 4 "" "$" "" (breaks 3 0) ∷
+    asks (string false) 4 "" "$$" "" (breaks 3 0) ∷
     asks (string false) 4 "" "''" "" (borrows 1 1 "") ∷
     asks (string false) 4 "" "E''" "" (borrows 2 2 "") ∷
     asks (string false) 4 "" "U&''" "" (borrows 3 3 "") ∷
     asks (string false) 4 "" "$$$$" "" (borrows 2 2 "") ∷
-    asks (string false) 4 "" "E'a" "" (refuses 6) ∷
-    asks (string false) 4 "" "N'a\"" "" (refuses 6) ∷
-    asks (string false) 4 "" "_a'b\"" "" (refuses 6) ∷
-    asks (string false) 4 "" "U&'a" "" (refuses 6) ∷
-    asks (string false) 4 "" "'a\"" "" (refuses 6) ∷
-    asks (string false) 4 "" "'\0'" "" (refuses 6) ∷
-    asks (string false) 4 "" "$$\0$$" "" (refuses 6) ∷
-    asks (string false) 4 "" "U&''UESCAPE'\0'" "" (refuses 6) ∷
-    asks (string false) 4 "" "'a'\0'b'" "" (refuses 6) ∷
-    asks (string false) 4 "" "'a' 'b'\0" "" (refuses 6) ∷
+    asks (string false) 4 "" "E'a" "" (breaks 3 0) ∷
+    asks (string false) 4 "" "N'a\"" "" (breaks 3 0) ∷
+    asks (string false) 4 "" "_a'b\"" "" (breaks 3 0) ∷
+    asks (string false) 4 "" "U&'a" "" (breaks 3 0) ∷
+    asks (string false) 4 "" "'a\"" "" (breaks 3 0) ∷
+    asks (string false) 4 "" "'\0'" "" (breaks 3 0) ∷
+    asks (string false) 4 "" "$$\0$$" "" (breaks 3 0) ∷
+    asks (string false) 4 "" "U&''UESCAPE'\0'" "" (breaks 3 0) ∷
+    asks (string false) 4 "" "'a'\0'b'" "" (breaks 3 0) ∷
+    asks (string false) 4 "" "'a' 'b'\0" "" (breaks 3 7) ∷
     asks temporal-text 8 "" "\0''" "" (borrows 2 2 "") ∷
     asks temporal-text 8 "" "''\0" "" (borrows 1 1 "") ∷
-    asks temporal-text 8 "" "'\0'" "" (refuses 6) ∷
+    asks temporal-text 8 "" "'\0'" "" (breaks 3 0) ∷
     asks money-text 14 "" "$\0" "" (borrows 1 2 "\0") ∷
     asks decimal-text 1 "" "\0" "" (borrows 0 1 "\0") ∷
     asks charset 4 "" "_a'\0" "" (borrows 1 2 "a") ∷
     names "U&\"\0\"" (borrows 3 4 "\0") ∷
     asks bit-text 12 "" "B'\0'" "" (refuses 7) ∷
-    asks (string false) 4 "" "E\"a\"" "" (refuses 6) ∷
-    asks (string false) 4 "" "N\"a\"" "" (refuses 6) ∷
-    asks (string false) 4 "" "U&\"a\"" "" (refuses 6) ∷
+    asks (string false) 4 "" "E\"a\"" "" (breaks 3 0) ∷
+    asks (string false) 4 "" "N\"a\"" "" (breaks 3 0) ∷
+    asks (string false) 4 "" "U&\"a\"" "" (breaks 3 0) ∷
     asks (string false) 4 "" "e'a'" "" (borrows 2 3 "a") ∷
     asks (string false) 4 "" "n'a'" "" (borrows 2 3 "a") ∷
     asks (string false) 4 "" "u&'a'" "" (borrows 3 4 "a") ∷
     asks (string false) 4 "" "_a'b'" "" (borrows 3 4 "b") ∷
     asks (string false) 4 "" "_a\"b\"" "" (borrows 3 4 "b") ∷
-    asks (string false) 4 "" "_a'b\"" "" (refuses 6) ∷
-    asks (string false) 4 "" "_a\"b'" "" (refuses 6) ∷
+    asks (string false) 4 "" "_a'b\"" "" (breaks 3 0) ∷
+    asks (string false) 4 "" "_a\"b'" "" (breaks 3 0) ∷
     asks (string false) 4 "" "_a\"b\"\"c\"" "" (writes 0 "b\"c") ∷
     asks (string false) 4 "" "_a'b\"c'" "" (borrows 3 6 "b\"c") ∷
     asks (string false) 4 "" "_a\"b'c\"" "" (borrows 3 6 "b'c") ∷
-    asks (string false) 4 "" "_'a'" "" (refuses 6) ∷
+    asks (string false) 4 "" "_'a'" "" (breaks 3 0) ∷
     asks (string false) 4 "" "__'a'" "" (borrows 3 4 "a") ∷
     asks (string false) 4 "" "_1'a'" "" (borrows 3 4 "a") ∷
-    asks (string false) 4 "" "_Ã©'a'" "" (refuses 6) ∷
-    asks (string false) 4 "" "B'0'" "" (refuses 6) ∷
-    asks (string false) 4 "" "'a' B'0'" "" (refuses 6) ∷
-    asks (string false) 4 "" "'a' 'b' B'0'" "" (refuses 6) ∷
+    asks (string false) 4 "" "_Ã©'a'" "" (breaks 3 0) ∷
+    asks (string false) 4 "" "B'0'" "" (breaks 3 0) ∷
+    asks (string false) 4 "" "'a' B'0'" "" (breaks 3 2) ∷
+    asks (string false) 4 "" "'a' 'b' B'0'" "" (breaks 3 8) ∷
     asks (string false) 4 "" "''\"\"" "" (writes 0 "") ∷
     asks (string false) 4 "" "'a'\"b\"" "" (writes 0 "ab") ∷
     asks (string false) 4 "" "\"a\"'b'" "" (writes 0 "ab") ∷
-    asks (string false) 4 "" "''\"" "" (refuses 6) ∷
-    asks (string false) 4 "" "'' '" "" (refuses 6) ∷
-    asks (string false) 4 "" "''E''" "" (refuses 6) ∷
+    asks (string false) 4 "" "''\"" "" (breaks 3 2) ∷
+    asks (string false) 4 "" "'' '" "" (breaks 3 3) ∷
+    asks (string false) 4 "" "''E''" "" (breaks 3 1) ∷
     asks (string false) 4 "" "''\"\"E''" "" (writes 0 "") ∷
     asks (string false) 4 "" "'a' \"b\" N'c' U&'\\0064' _x'e' E'\\x66'" "" (writes 0 "abcdef") ∷
-    asks (string false) 4 "" "'a' x" "" (refuses 6) ∷
-    asks (string false) 4 "" "'a' 'b' x" "" (refuses 6) ∷
+    asks (string false) 4 "" "'a' x" "" (breaks 3 0) ∷
+    asks (string false) 4 "" "'a' 'b' x" "" (breaks 3 8) ∷
     asks (string false) 4 "" "N'a' 'b'" "" (writes 0 "ab") ∷
     asks (string false) 4 "" "U&'\\0061' 'b'" "" (writes 0 "ab") ∷
     asks (string false) 4 "" "_x'a' 'b'" "" (writes 0 "ab") ∷
     asks (string false) 4 "" "E'a' 'b' " "" (writes 0 "ab") ∷
-    asks (string false) 4 "" "'a' UESCAPE '!'" "" (refuses 6) ∷
-    asks (string false) 4 "" "U&'!0061' UESCAPE '!' 'b'" "" (refuses 6) ∷
-    asks (string false) 4 "" "'x' 'y' U&'!0061' UESCAPE '!'" "" (refuses 6) ∷
-    asks (string false) 4 "" "$$a$$ 'b'" "" (refuses 6) ∷
-    asks (string false) 4 "" "'a' $$b$$" "" (refuses 6) ∷
-    asks (string false) 4 "" "'a' 'b' $$c$$" "" (refuses 6) ∷
-    asks (string true) 4 "" "'' '\\'" "" (refuses 6) ∷
-    asks (string true) 4 "" "'\\' ''" "" (refuses 6) ∷
-    asks (string true) 4 "" "'a\\' 'b'" "" (refuses 6) ∷
+    asks (string false) 4 "" "'a' UESCAPE '!'" "" (breaks 3 2) ∷
+    asks (string false) 4 "" "U&'!0061' UESCAPE '!' 'b'" "" (breaks 3 0) ∷
+    asks (string false) 4 "" "'x' 'y' U&'!0061' UESCAPE '!'" "" (breaks 3 18) ∷
+    asks (string false) 4 "" "$$a$$ 'b'" "" (breaks 3 0) ∷
+    asks (string false) 4 "" "'a' $$b$$" "" (breaks 3 0) ∷
+    asks (string false) 4 "" "'a' 'b' $$c$$" "" (breaks 3 8) ∷
+    asks (string true) 4 "" "'' '\\'" "" (breaks 3 3) ∷
+    asks (string true) 4 "" "'\\' ''" "" (breaks 3 4) ∷
+    asks (string true) 4 "" "'a\\' 'b'" "" (breaks 3 5) ∷
     asks (string false) 4 "" "'' '\\'" "" (writes 0 "\\") ∷
     asks (string false) 4 "" "E'\\'' 'b'" "" (writes 0 "'b") ∷
     asks (string true) 4 "" "E'\\'' 'b'" "" (writes 0 "'b") ∷
     asks (string false) 4 "" "'a' 'b' E'\\n'" "" (writes 0 "ab\n") ∷
     asks (string true) 4 "" "'a' 'b' E'\\n'" "" (writes 0 "ab\n") ∷
-    asks (string false) 4 "" "U&'a\\'' 'b'" "" (refuses 6) ∷
-    asks (string true) 4 "" "U&'a\\'' 'b'" "" (refuses 6) ∷
+    asks (string false) 4 "" "U&'a\\'' 'b'" "" (breaks 3 0) ∷
+    asks (string true) 4 "" "U&'a\\'' 'b'" "" (breaks 3 0) ∷
     asks (string false) 4 "" "U&'\\'UESCAPE'!'" "" (borrows 3 4 "\\") ∷
     asks (string true) 4 "" "U&'\\'UESCAPE'!'" "" (borrows 3 4 "\\") ∷
     asks (string false) 4 "" "'\\n' 'b'" "" (writes 0 "\\nb") ∷
@@ -137,29 +137,29 @@ rows =
     asks (string false) 4 "" "$$$$" "" (borrows 2 2 "") ∷
     asks (string false) 4 "" "'' ''" "" (writes 0 "") ∷
     asks (string false) 4 "" "U&'' " "" (borrows 3 3 "") ∷
-    asks (string false) 4 "" "'' " "" (refuses 6) ∷
+    asks (string false) 4 "" "'' " "" (breaks 3 0) ∷
     asks (string false) 4 "" "U&''UESCAPE'!'" "" (borrows 3 3 "") ∷
     asks (string false) 4 "" "U&'' UESCAPE '!'" "" (borrows 3 3 "") ∷
     asks (string false) 4 "" "U&''ã\u{80}\u{80}uEsCaPeÂ\u{85}'!'" "" (borrows 3 3 "") ∷
-    asks (string false) 4 "" "U&''UESCAPE'!' " "" (refuses 6) ∷
-    asks (string false) 4 "" "U&'' x" "" (refuses 6) ∷
-    asks (string false) 4 "" "U&''UESCAPE" "" (refuses 6) ∷
-    asks (string false) 4 "" "U&''UESCAPE!" "" (refuses 6) ∷
-    asks (string false) 4 "" "U&''UEÅ¿CAPE'!'" "" (refuses 6) ∷
-    asks (string false) 4 "" "U&''UESCAPÃ©'!'" "" (refuses 6) ∷
-    asks (string false) 4 "" "U&''ESCAPE'!'" "" (refuses 6) ∷
-    asks (string false) 4 "" "U&'' UESCAPE '!' 'b'" "" (refuses 6) ∷
+    asks (string false) 4 "" "U&''UESCAPE'!' " "" (breaks 3 0) ∷
+    asks (string false) 4 "" "U&'' x" "" (breaks 3 0) ∷
+    asks (string false) 4 "" "U&''UESCAPE" "" (breaks 3 0) ∷
+    asks (string false) 4 "" "U&''UESCAPE!" "" (breaks 3 0) ∷
+    asks (string false) 4 "" "U&''UEÅ¿CAPE'!'" "" (breaks 3 0) ∷
+    asks (string false) 4 "" "U&''UESCAPÃ©'!'" "" (breaks 3 0) ∷
+    asks (string false) 4 "" "U&''ESCAPE'!'" "" (breaks 3 0) ∷
+    asks (string false) 4 "" "U&'' UESCAPE '!' 'b'" "" (breaks 3 0) ∷
     names "U&\"\" " (borrows 3 3 "") ∷
     names "U&\"\"UESCAPE'!' " (refuses 6) ∷
     names "U&\"\"" (borrows 3 3 "") ∷
     asks (string false) 4 "" "U&''UESCAPE'\\'" "" (borrows 3 3 "") ∷
     asks (string true) 4 "" "U&''UESCAPE'\\'" "" (borrows 3 3 "") ∷
-    asks (string false) 4 "" "U&''UESCAPE'\\\\'" "" (refuses 6) ∷
-    asks (string true) 4 "" "U&''UESCAPE'\\\\'" "" (refuses 6) ∷
-    asks (string false) 4 "" "U&''UESCAPE''''" "" (refuses 6) ∷
-    asks (string true) 4 "" "U&''UESCAPE''''" "" (refuses 6) ∷
-    asks (string false) 4 "" "U&''UESCAPE\"!\"" "" (refuses 6) ∷
-    asks (string true) 4 "" "U&''UESCAPE\"!\"" "" (refuses 6) ∷
+    asks (string false) 4 "" "U&''UESCAPE'\\\\'" "" (breaks 3 0) ∷
+    asks (string true) 4 "" "U&''UESCAPE'\\\\'" "" (breaks 3 0) ∷
+    asks (string false) 4 "" "U&''UESCAPE''''" "" (breaks 3 0) ∷
+    asks (string true) 4 "" "U&''UESCAPE''''" "" (breaks 3 0) ∷
+    asks (string false) 4 "" "U&''UESCAPE\"!\"" "" (breaks 3 0) ∷
+    asks (string true) 4 "" "U&''UESCAPE\"!\"" "" (breaks 3 0) ∷
     names "U&\"\"UESCAPE'!'" (borrows 3 3 "") ∷
     names "U&\"\"UESCAPE\"!\"" (refuses 6) ∷
     helps uescape-legal "'!'" true ∷
@@ -179,7 +179,7 @@ rows =
     helps unicode-valid "U&'\00041'UESCAPE'\0'" true ∷
     helps unicode-valid "U&'\0004'UESCAPE'\0'" false ∷
     helps unicode-valid "U&'\0'" true ∷
-    asks (string false) 4 "" "U&'a'UESCAPE'\0'" "" (refuses 6) ∷
+    asks (string false) 4 "" "U&'a'UESCAPE'\0'" "" (breaks 3 0) ∷
     helps uescape-legal "'g'" true ∷
     helps uescape-legal "'a'" false ∷
     helps uescape-legal "'F'" false ∷
@@ -204,7 +204,7 @@ rows =
     asks (string false) 4 "" "E'\\X41'" "" (writes 0 "X41") ∷
     asks (string false) 4 "" "E'\\v'" "" (writes 0 "v") ∷
     asks (string false) 4 "" "E'\\8'" "" (writes 0 "8") ∷
-    asks (string false) 4 "" "E'\\08'" "" (refuses 6) ∷
+    asks (string false) 4 "" "E'\\08'" "" (breaks 3 2) ∷
     asks (string false) 4 "" "E'\\18'" "" (writes 0 "\u{1}8") ∷
     asks (string false) 4 "" "E'\\1234'" "" (writes 0 "S4") ∷
     asks (string false) 4 "" "E'\\401'" "" (writes 0 "\u{1}") ∷
@@ -212,24 +212,24 @@ rows =
     asks (string false) 4 "" "E'\\xg'" "" (writes 0 "xg") ∷
     asks (string false) 4 "" "E'\\x4g'" "" (writes 0 "\u{4}g") ∷
     asks (string false) 4 "" "E'\\x414'" "" (writes 0 "A4") ∷
-    asks (string false) 4 "" "E'\\x0'" "" (refuses 6) ∷
-    asks (string false) 4 "" "E'\\u41'" "" (refuses 6) ∷
+    asks (string false) 4 "" "E'\\x0'" "" (breaks 3 2) ∷
+    asks (string false) 4 "" "E'\\u41'" "" (breaks 3 2) ∷
     asks (string false) 4 "" "E'\\u0041'" "" (writes 0 "A") ∷
-    asks (string false) 4 "" "E'\\uD83D\\uDE00'" "" (refuses 6) ∷
+    asks (string false) 4 "" "E'\\uD83D\\uDE00'" "" (breaks 3 2) ∷
     asks (string false) 4 "" "E'\\U0001F600'" "" (writes 0 "ð\u{9f}\u{98}\u{80}") ∷
-    asks (string false) 4 "" "E'\\U00110000'" "" (refuses 6) ∷
-    asks (string false) 4 "" "E'\\u0000'" "" (refuses 6) ∷
-    asks (string false) 4 "" "E'\\'" "" (refuses 6) ∷
+    asks (string false) 4 "" "E'\\U00110000'" "" (breaks 3 2) ∷
+    asks (string false) 4 "" "E'\\u0000'" "" (breaks 3 2) ∷
+    asks (string false) 4 "" "E'\\'" "" (breaks 3 2) ∷
     asks (string false) 4 "" "E'\\\\'" "" (writes 0 "\\") ∷
     asks (string false) 4 "" "E'\\''" "" (writes 0 "'") ∷
-    asks (string false) 4 "" "E'\\'''" "" (refuses 6) ∷
+    asks (string false) 4 "" "E'\\'''" "" (breaks 3 4) ∷
     asks (string false) 4 "" "E'\\Ã©'" "" (writes 0 "Ã©") ∷
     asks (string false) 4 "" "E'\\xC3\\251'" "" (writes 0 "Ã©") ∷
-    asks (string false) 4 "" "E'\\xC3Ã©'" "" (refuses 6) ∷
-    asks (string false) 4 "" "E'\\xC3'" "" (refuses 6) ∷
-    asks (string false) 4 "" "E'\\xED\\xA0\\x80'" "" (refuses 6) ∷
-    asks (string false) 4 "" "E'\\xC0\\x80'" "" (refuses 6) ∷
-    asks (string false) 4 "" "E'\\xF4\\x90\\x80\\x80'" "" (refuses 6) ∷
+    asks (string false) 4 "" "E'\\xC3Ã©'" "" (breaks 3 6) ∷
+    asks (string false) 4 "" "E'\\xC3'" "" (breaks 3 6) ∷
+    asks (string false) 4 "" "E'\\xED\\xA0\\x80'" "" (breaks 3 6) ∷
+    asks (string false) 4 "" "E'\\xC0\\x80'" "" (breaks 3 2) ∷
+    asks (string false) 4 "" "E'\\xF4\\x90\\x80\\x80'" "" (breaks 3 6) ∷
     asks (string true) 4 "" "'\\z'" "" (writes 0 "z") ∷
     asks (string true) 4 "" "'\\Z'" "" (writes 0 "\u{1a}") ∷
     asks (string true) 4 "" "'\\N'" "" (writes 0 "N") ∷
@@ -241,7 +241,7 @@ rows =
     asks (string true) 4 "" "'\\\"'" "" (writes 0 "\"") ∷
     asks (string true) 4 "" "\"\\'\"" "" (writes 0 "'") ∷
     asks (string true) 4 "" "'\\\\'" "" (writes 0 "\\") ∷
-    asks (string true) 4 "" "'\\'''" "" (refuses 6) ∷
+    asks (string true) 4 "" "'\\'''" "" (breaks 3 3) ∷
     asks (string true) 4 "" "'\\''''" "" (writes 0 "''") ∷
     asks (string true) 4 "" "'a\\'" "" (writes 0 "a\\") ∷
     asks (string true) 4 "" "'a\\\\'" "" (writes 0 "a\\") ∷
@@ -249,31 +249,31 @@ rows =
     asks (string true) 4 "" "N'\\n'" "" (writes 0 "\n") ∷
     asks (string true) 4 "" "_a'\\n'" "" (writes 0 "\n") ∷
     asks (string true) 4 "" "_a\"\\n\"" "" (writes 0 "\n") ∷
-    asks (string true) 4 "" "E'\\0'" "" (refuses 6) ∷
+    asks (string true) 4 "" "E'\\0'" "" (breaks 3 2) ∷
     asks (string true) 4 "" "E'\\%'" "" (writes 0 "%") ∷
-    asks (string true) 4 "" "U&'\\n'" "" (refuses 6) ∷
+    asks (string true) 4 "" "U&'\\n'" "" (breaks 3 3) ∷
     asks (string true) 4 "" "$$\\n$$" "" (borrows 2 4 "\\n") ∷
     asks (string false) 4 "" "U&'\\+000041'" "" (writes 0 "A") ∷
-    asks (string false) 4 "" "U&'\\+00041'" "" (refuses 6) ∷
-    asks (string false) 4 "" "U&'\\+0041'" "" (refuses 6) ∷
+    asks (string false) 4 "" "U&'\\+00041'" "" (breaks 3 3) ∷
+    asks (string false) 4 "" "U&'\\+0041'" "" (breaks 3 3) ∷
     asks (string false) 4 "" "U&'\\D83D\\DE00'" "" (writes 0 "ð\u{9f}\u{98}\u{80}") ∷
-    asks (string false) 4 "" "U&'\\D83D'" "" (refuses 6) ∷
-    asks (string false) 4 "" "U&'\\DE00'" "" (refuses 6) ∷
-    asks (string false) 4 "" "U&'\\D83D\\+00DE00'" "" (refuses 6) ∷
-    asks (string false) 4 "" "U&'\\+00D83D\\DE00'" "" (refuses 6) ∷
-    asks (string false) 4 "" "U&'\\D83D \\DE00'" "" (refuses 6) ∷
-    asks (string false) 4 "" "U&'\\D83D\\\\'" "" (refuses 6) ∷
-    asks (string false) 4 "" "U&'\\D83DDE00'" "" (refuses 6) ∷
+    asks (string false) 4 "" "U&'\\D83D'" "" (breaks 3 3) ∷
+    asks (string false) 4 "" "U&'\\DE00'" "" (breaks 3 3) ∷
+    asks (string false) 4 "" "U&'\\D83D\\+00DE00'" "" (breaks 3 3) ∷
+    asks (string false) 4 "" "U&'\\+00D83D\\DE00'" "" (breaks 3 3) ∷
+    asks (string false) 4 "" "U&'\\D83D \\DE00'" "" (breaks 3 3) ∷
+    asks (string false) 4 "" "U&'\\D83D\\\\'" "" (breaks 3 3) ∷
+    asks (string false) 4 "" "U&'\\D83DDE00'" "" (breaks 3 3) ∷
     asks (string false) 4 "" "U&'\\0041\\\\'" "" (writes 0 "A\\") ∷
     asks (string false) 4 "" "U&'\\00411'" "" (writes 0 "A1") ∷
-    asks (string false) 4 "" "U&'\\004'" "" (refuses 6) ∷
-    asks (string false) 4 "" "U&'\\004g'" "" (refuses 6) ∷
-    asks (string false) 4 "" "U&'\\0000'" "" (refuses 6) ∷
-    asks (string false) 4 "" "U&'\\+000000'" "" (refuses 6) ∷
-    asks (string false) 4 "" "U&'\\+110000'" "" (refuses 6) ∷
+    asks (string false) 4 "" "U&'\\004'" "" (breaks 3 3) ∷
+    asks (string false) 4 "" "U&'\\004g'" "" (breaks 3 3) ∷
+    asks (string false) 4 "" "U&'\\0000'" "" (breaks 3 3) ∷
+    asks (string false) 4 "" "U&'\\+000000'" "" (breaks 3 3) ∷
+    asks (string false) 4 "" "U&'\\+110000'" "" (breaks 3 3) ∷
     asks (string false) 4 "" "U&'\\FFFF'" "" (writes 0 "ï¿¿") ∷
-    asks (string false) 4 "" "U&'\\'" "" (refuses 6) ∷
-    asks (string false) 4 "" "U&'\\x'" "" (refuses 6) ∷
+    asks (string false) 4 "" "U&'\\'" "" (breaks 3 3) ∷
+    asks (string false) 4 "" "U&'\\x'" "" (breaks 3 3) ∷
     asks (string false) 4 "" "U&'a\"b'" "" (borrows 3 6 "a\"b") ∷
     asks (string false) 4 "" "U&'a''b'" "" (writes 0 "a'b") ∷
     names "U&\"a'b\"" (borrows 3 6 "a'b") ∷
@@ -287,19 +287,19 @@ rows =
     names "U&'a'" (refuses 6) ∷
     names "U&\"\\\"" (refuses 6) ∷
     asks (string false) 4 "" "$$$$" "" (borrows 2 2 "") ∷
-    asks (string false) 4 "" "$$$" "" (refuses 6) ∷
+    asks (string false) 4 "" "$$$" "" (breaks 3 0) ∷
     asks (string false) 4 "" "$$$$$" "" (borrows 2 3 "$") ∷
     asks (string false) 4 "" "$a$$a$" "" (borrows 3 3 "") ∷
-    asks (string false) 4 "" "$a$a$" "" (refuses 6) ∷
+    asks (string false) 4 "" "$a$a$" "" (breaks 3 0) ∷
     asks (string false) 4 "" "$a$b$a$c$a$" "" (borrows 3 8 "b$a$c") ∷
-    asks (string false) 4 "" "$A$x$a$" "" (refuses 6) ∷
-    asks (string false) 4 "" "$1$x$1$" "" (refuses 6) ∷
+    asks (string false) 4 "" "$A$x$a$" "" (breaks 3 0) ∷
+    asks (string false) 4 "" "$1$x$1$" "" (breaks 3 0) ∷
     asks (string false) 4 "" "$a1$x$a1$" "" (borrows 4 5 "x") ∷
     asks (string false) 4 "" "$_$x$_$" "" (borrows 3 4 "x") ∷
     asks (string false) 4 "" "$Ã©$x$Ã©$" "" (borrows 4 5 "x") ∷
     asks (string false) 4 "" "$ã\u{80}\u{80}$x$ã\u{80}\u{80}$" "" (borrows 5 6 "x") ∷
-    asks (string false) 4 "" "$a b$x$a b$" "" (refuses 6) ∷
-    asks (string false) 4 "" "$$a$$ " "" (refuses 6) ∷
+    asks (string false) 4 "" "$a b$x$a b$" "" (breaks 3 0) ∷
+    asks (string false) 4 "" "$$a$$ " "" (breaks 3 0) ∷
     asks (string false) 4 "" "$$'$$" "" (borrows 2 3 "'") ∷
     asks (string false) 4 "" "$$\\$$" "" (borrows 2 3 "\\") ∷
     asks (string false) 4 "" "'a'\u{b}'b'" "" (writes 0 "ab") ∷
@@ -311,10 +311,10 @@ rows =
     asks (string false) 4 "" "'a'â\u{80}¯'b'" "" (writes 0 "ab") ∷
     asks (string false) 4 "" "'a'â\u{81}\u{9f}'b'" "" (writes 0 "ab") ∷
     asks (string false) 4 "" "'a'ã\u{80}\u{80}'b'" "" (writes 0 "ab") ∷
-    asks (string false) 4 "" "'a'\u{1c}'b'" "" (refuses 6) ∷
-    asks (string false) 4 "" "'a'á\u{a0}\u{8e}'b'" "" (refuses 6) ∷
-    asks (string false) 4 "" "'a'â\u{80}\u{8b}'b'" "" (refuses 6) ∷
-    asks (string false) 4 "" "'a'ï»¿'b'" "" (refuses 6) ∷
+    asks (string false) 4 "" "'a'\u{1c}'b'" "" (breaks 3 2) ∷
+    asks (string false) 4 "" "'a'á\u{a0}\u{8e}'b'" "" (breaks 3 2) ∷
+    asks (string false) 4 "" "'a'â\u{80}\u{8b}'b'" "" (breaks 3 2) ∷
+    asks (string false) 4 "" "'a'ï»¿'b'" "" (breaks 3 2) ∷
     asks i64 1 "" "0x1F" "" (plus 31) ∷
     asks i64 1 "" "0X1f" "" (plus 31) ∷
     asks i64 1 "" "0O17" "" (plus 15) ∷
@@ -471,33 +471,33 @@ rows =
     asks temporal-text 8 "" "(E'\\n'" "" (writes 0 "\n") ∷
     asks temporal-text 8 "" "'a' 'b'" "" (writes 0 "ab") ∷
     asks temporal-text 8 "" "DATE 'a'\n'b' DAY" "" (writes 0 "ab") ∷
-    asks temporal-text 8 "" "'a' DAY 'b'" "" (refuses 6) ∷
-    asks temporal-text 8 "" "'a' DAY '" "" (refuses 6) ∷
-    asks temporal-text 8 "" "'" "" (refuses 6) ∷
-    asks temporal-text 8 "" "E'" "" (refuses 6) ∷
+    asks temporal-text 8 "" "'a' DAY 'b'" "" (breaks 3 2) ∷
+    asks temporal-text 8 "" "'a' DAY '" "" (breaks 3 2) ∷
+    asks temporal-text 8 "" "'" "" (breaks 3 0) ∷
+    asks temporal-text 8 "" "E'" "" (breaks 3 0) ∷
     asks temporal-text 8 "" "''" "" (borrows 1 1 "") ∷
-    asks temporal-text 8 "" "\"a\"" "" (refuses 6) ∷
-    asks temporal-text 8 "" "$'a'" "" (refuses 6) ∷
-    asks temporal-text 8 "" "$1$'a'" "" (refuses 6) ∷
+    asks temporal-text 8 "" "\"a\"" "" (breaks 3 0) ∷
+    asks temporal-text 8 "" "$'a'" "" (breaks 3 0) ∷
+    asks temporal-text 8 "" "$1$'a'" "" (breaks 3 0) ∷
     asks temporal-text 8 "" "$$a$$b$$" "" (borrows 2 3 "a") ∷
     asks temporal-text 8 "" "$$a$$ 'b'" "" (borrows 2 3 "a") ∷
     asks temporal-text 8 "" "x$a$'$a$y" "" (borrows 4 5 "'") ∷
-    asks temporal-text 8 "" "$a$x" "" (refuses 6) ∷
+    asks temporal-text 8 "" "$a$x" "" (breaks 3 0) ∷
     asks temporal-text 8 "" "'$$'" "" (borrows 1 3 "$$") ∷
     asks temporal-text 8 "" "U&'\\0041'" "" (borrows 3 8 "\\0041") ∷
     asks temporal-text 8 "" "N'a'" "" (borrows 2 3 "a") ∷
     asks temporal-text 8 "" "_x'a'" "" (borrows 3 4 "a") ∷
     asks temporal-text 8 "" "B'0'" "" (borrows 2 3 "0") ∷
-    asks temporal-text 8 "" "'a'\"b'" "" (refuses 6) ∷
+    asks temporal-text 8 "" "'a'\"b'" "" (breaks 3 3) ∷
     asks temporal-text 8 "" "Ã©'a'Ã©" "" (borrows 3 4 "a") ∷
     asks temporal-text 8 "" "DATE $$a$$ " "" (borrows 7 8 "a") ∷
-    asks temporal-text 8 "" "" "" (refuses 6) ∷
+    asks temporal-text 8 "" "" "" (breaks 3 0) ∷
     asks temporal-text 8 "" "'\\n'" "" (borrows 1 3 "\\n") ∷
     asks temporal-text 9 "" "'x'" "" (borrows 1 2 "x") ∷
     asks temporal-text 10 "" "'x'" "" (borrows 1 2 "x") ∷
     asks temporal-text 11 "" "'x'" "" (borrows 1 2 "x") ∷
-    asks (string false) 4 "" "" "" (refuses 6) ∷
-    asks temporal-text 8 "" "" "" (refuses 6) ∷
+    asks (string false) 4 "" "" "" (breaks 3 0) ∷
+    asks temporal-text 8 "" "" "" (breaks 3 0) ∷
     asks bit-text 12 "" "" "" (refuses 7) ∷
     asks money-text 14 "" "" "" (refuses 8) ∷
     asks i64 1 "" "" "" (refuses 5) ∷
@@ -537,7 +537,7 @@ rows =
     helps unicode-valid "u&'\\D800'" false ∷
     helps unicode-valid "U&'\0'" true ∷
     asks (string false) 4 "" "E'' ''" "" (writes 0 "") ∷
-    asks (string false) 4 "" "U&'\\00' 'b'" "" (refuses 6) ∷
+    asks (string false) 4 "" "U&'\\00' 'b'" "" (breaks 3 3) ∷
     helps is-ident "U&\"" true ∷
     helps is-ident "u&\"x" true ∷
     helps is-ident "U&'a'" false ∷

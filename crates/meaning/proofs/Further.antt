@@ -21,8 +21,8 @@ use Rattle.meaning.specs.Questions.{sourceQuestion, moneyQuestion, chars
 use Rattle.meaning.specs.Writer.{spell, writtenText, overLimit, unwritableNul, writeQuestion}
 use Rattle.meaning.specs.Records.{line, goodRecord, recordLine, output}
 use Rattle.meaning.proofs.Rows.{Row, asks, spans, helps, names, prefixed, spells, prints, string, decimal-text, bit-text, temporal-text, source-text}
-use Rattle.meaning.proofs.Rows.{charset, i64, uescape-legal, escape-valid, unicode-valid, embeds-nul, is-ident, borrows, writes, plus, refuses, wrote}
-use Rattle.meaning.proofs.Rows.{needs, refused, all}
+use Rattle.meaning.proofs.Rows.{charset, i64, uescape-legal, escape-valid, unicode-valid, embeds-nul, is-ident, borrows, writes, plus, refuses, breaks}
+use Rattle.meaning.proofs.Rows.{wrote, needs, refused, all}
 
 -- [01 Examples] without a star
 abbrev pub examples : List Row
@@ -30,7 +30,7 @@ examples =
     asks temporal-text 8 "" "DATE $$a$$b$$" "" (borrows 7 8 "a") ∷
     asks bit-text 12 "" "B'01' " "" (writes 0 "01") ∷
     helps escape-valid "E'a\0'" true ∷
-    asks (string false) 4 "" "E'a\0'" "" (refuses 6) ∷ []
+    asks (string false) 4 "" "E'a\0'" "" (breaks 3 0) ∷ []
 
 -- [PostgreSQL manual 4.1.2] constants, and identifiers of 4.1.1
 abbrev pub postgres : List Row
@@ -181,8 +181,8 @@ abbrev pub escapes : List Row
 escapes =
     asks (string false) 4 "" "E'\\U0010FFFF'" "" (writes 1 "ô\u{8f}¿¿") ∷
     asks (string false) 4 "" "E'\\uD7FF'" "" (writes 0 "í\u{9f}¿") ∷
-    asks (string false) 4 "" "E'\\uD800'" "" (refuses 6) ∷
-    asks (string false) 4 "" "E'\\uDFFF'" "" (refuses 6) ∷
+    asks (string false) 4 "" "E'\\uD800'" "" (breaks 3 2) ∷
+    asks (string false) 4 "" "E'\\uDFFF'" "" (breaks 3 2) ∷
     asks (string false) 4 "" "E'\\uE000'" "" (writes 1 "î\u{80}\u{80}") ∷
     asks (string false) 4 "" "E'\\u007F'" "" (writes 0 "\u{7f}") ∷
     asks (string false) 4 "" "E'\\u0080'" "" (writes 1 "Â\u{80}") ∷
@@ -194,16 +194,16 @@ escapes =
     asks (string false) 4 "" "E'\\U00040000'" "" (writes 1 "ñ\u{80}\u{80}\u{80}") ∷
     asks (string false) 4 "" "E'\\xF1\\x80\\x80\\x80'" "" (writes 0 "ñ\u{80}\u{80}\u{80}") ∷
     asks (string false) 4 "" "E'\\xF3\\xBF\\xBF\\xBF'" "" (writes 1 "ó¿¿¿") ∷
-    asks (string false) 4 "" "E'\\xF5\\x80\\x80\\x80'" "" (refuses 6) ∷
-    asks (string false) 4 "" "E'\\xC1\\xBF'" "" (refuses 6) ∷
-    asks (string false) 4 "" "E'\\xE0\\x9F\\xBF'" "" (refuses 6) ∷
-    asks (string false) 4 "" "E'\\xF0\\x8F\\xBF\\xBF'" "" (refuses 6) ∷
+    asks (string false) 4 "" "E'\\xF5\\x80\\x80\\x80'" "" (breaks 3 2) ∷
+    asks (string false) 4 "" "E'\\xC1\\xBF'" "" (breaks 3 2) ∷
+    asks (string false) 4 "" "E'\\xE0\\x9F\\xBF'" "" (breaks 3 6) ∷
+    asks (string false) 4 "" "E'\\xF0\\x8F\\xBF\\xBF'" "" (breaks 3 6) ∷
     asks (string false) 4 "" "U&'\\+10FFFF'" "" (writes 0 "ô\u{8f}¿¿") ∷
     asks (string false) 4 "" "U&'\\+00FFFF'" "" (writes 1 "ï¿¿") ∷
     asks (string false) 4 "" "U&'\\+010000'" "" (writes 0 "ð\u{90}\u{80}\u{80}") ∷
     asks (string false) 4 "" "U&'\\D800\\DC00'" "" (writes 1 "ð\u{90}\u{80}\u{80}") ∷
     asks (string false) 4 "" "U&'\\DBFF\\DFFF'" "" (writes 0 "ô\u{8f}¿¿") ∷
-    asks (string false) 4 "" "U&'\\DBFF\\DBFF'" "" (refuses 6) ∷
+    asks (string false) 4 "" "U&'\\DBFF\\DBFF'" "" (breaks 3 3) ∷
     asks (string false) 4 "" "U&'\\D7FF'" "" (writes 0 "í\u{9f}¿") ∷
     asks (string false) 4 "" "U&'\\E000'" "" (writes 1 "î\u{80}\u{80}") ∷
     asks (string false) 4 "" "U&'\\+00E000'" "" (writes 0 "î\u{80}\u{80}") ∷ []

@@ -7,6 +7,7 @@ pub mod Oracle5
 pub mod Clarified
 pub mod FormRows
 pub mod PartRows
+pub mod PlaceRows
 pub mod BlockRows
 pub mod Tables
 pub mod BlockLimits

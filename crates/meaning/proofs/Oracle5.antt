@@ -3,7 +3,7 @@ use mathlib.Core.Bool.{true, false}
 use mathlib.Core.List.{List, [], _∷_}
 use Rattle.meaning.proofs.Rows.{Row, asks, spans, helps, names, prefixed, string, decimal-text, bit-text, temporal-text, money-text, source-text}
 use Rattle.meaning.proofs.Rows.{charset, i64, bool, null, uescape-legal, escape-valid, unicode-valid, embeds-nul, is-ident, borrows, writes, cramped}
-use Rattle.meaning.proofs.Rows.{unnamed, says, refuses, unfit}
+use Rattle.meaning.proofs.Rows.{unnamed, says, refuses, breaks, unfit}
 
 abbrev pub rows : List Row
 rows =
@@ -508,7 +508,7 @@ rows =
     spans charset 4 7 10 "aÃ©'b'ð\u{9f}\u{98}\u{80}" (refuses 3) ∷
     spans charset 4 2 3 "ã\u{80}\u{80}" (refuses 3) ∷
     spans source-text 4 8 4 "aÃ©'b'ð\u{9f}\u{98}\u{80}" (refuses 3) ∷
-    asks (string false) 4 "aÃ©" "'b" "'ð\u{9f}\u{98}\u{80}" (refuses 6) ∷
+    asks (string false) 4 "aÃ©" "'b" "'ð\u{9f}\u{98}\u{80}" (breaks 3 0) ∷
     spans (string false) 4 2 4 "aÃ©'b'ð\u{9f}\u{98}\u{80}" (refuses 3) ∷
     spans source-text 4 11 5 "aÃ©'b'ð\u{9f}\u{98}\u{80}" (refuses 3) ∷
     spans source-text 4 8 9 "aÃ©'b'ð\u{9f}\u{98}\u{80}" (refuses 3) ∷
@@ -516,13 +516,13 @@ rows =
     spans source-text 4 9 3 "aÃ©'b'ð\u{9f}\u{98}\u{80}" (refuses 3) ∷
     spans charset 4 2 3 "Ã©" (refuses 3) ∷
     spans charset 4 0 3 "Ã©" (refuses 3) ∷
-    asks (string false) 4 "a" "Ã©'" "b'ð\u{9f}\u{98}\u{80}" (refuses 6) ∷
+    asks (string false) 4 "a" "Ã©'" "b'ð\u{9f}\u{98}\u{80}" (breaks 3 0) ∷
     spans source-text 4 4 7 "aÃ©'b'ð\u{9f}\u{98}\u{80}" (refuses 3) ∷
     asks source-text 4 "" "a" "Ã©'b'ð\u{9f}\u{98}\u{80}" (borrows 0 1 "a") ∷
     asks source-text 4 "aÃ©'b'" "ð\u{9f}\u{98}\u{80}" "" (borrows 6 10 "ð\u{9f}\u{98}\u{80}") ∷
     spans charset 4 1 3 "Ã©" (refuses 3) ∷
     spans source-text 4 1 8 "aÃ©'b'ð\u{9f}\u{98}\u{80}" (refuses 3) ∷
-    asks (string false) 4 "" "a" "" (refuses 6) ∷
+    asks (string false) 4 "" "a" "" (breaks 3 0) ∷
     asks charset 4 "'a'" "" "" unnamed ∷
     spans charset 4 7 6 "aÃ©'b'ð\u{9f}\u{98}\u{80}" (refuses 3) ∷
     spans source-text 4 2 9 "aÃ©'b'ð\u{9f}\u{98}\u{80}" (refuses 3) ∷

@@ -2,7 +2,7 @@
 use mathlib.Core.Bool.{true, false}
 use mathlib.Core.List.{List, [], _∷_}
 use Rattle.meaning.specs.declared.PartSize.the-variants.{Whole, AtMost}
-use Rattle.meaning.proofs.Rows.{Row, asks, spells, wrote, needs, refused, string, borrows, writes, refuses}
+use Rattle.meaning.proofs.Rows.{Row, asks, spells, wrote, needs, refused, string, borrows, writes, breaks}
 
 abbrev pub rows : List Row
 rows =
@@ -43,8 +43,8 @@ rows =
     asks (string false) 4 "" "'a'\n'b'\n'c'" "" (writes 0 "abc") ∷
     asks (string false) 4 "" "'a'\n\n'b'" "" (writes 0 "ab") ∷
     asks (string false) 4 "" "'a'\n'b'\n" "" (writes 0 "ab") ∷
-    asks (string false) 4 "" "'a'\n" "" (refuses 6) ∷
-    asks (string false) 4 "" "'a'\nE'b'" "" (refuses 6) ∷
+    asks (string false) 4 "" "'a'\n" "" (breaks 3 0) ∷
+    asks (string false) 4 "" "'a'\nE'b'" "" (breaks 3 2) ∷
     asks (string false) 4 "" "'a'\n'b'\nE'\\n'" "" (writes 0 "ab\n") ∷
     asks (string false) 4 "" "E'a'\n'\\n'" "" (writes 0 "a\\n") ∷
     asks (string false) 4 "" "'a\n'\n'\nb'" "" (writes 0 "a\n\nb") ∷

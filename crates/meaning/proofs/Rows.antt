@@ -50,7 +50,8 @@ pub data Helper : Type 0 where
 
 -- WHAT IS ANSWERED. A part of the source, from .. to .., and its bytes; bytes that are written, with some bytes of room left over;
 -- the same bytes, where the room is one byte short; an integer, and its negative; no charset name; yes or no; a refusal by its number,
--- which gives back the span; a wrong kind, where the question expects another family
+-- which gives back the span; refusal 6 with some bytes of room, which gives back the span and a place of the text; a wrong kind, where
+-- the question expects another family
 pub data Told : Type 0 where
   borrows : ℕ → ℕ → String → Told
   writes : ℕ → String → Told
@@ -59,6 +60,7 @@ pub data Told : Type 0 where
   unnamed : Told
   says : Bool → Told
   refuses : ℕ → Told
+  breaks : ℕ → ℕ → Told
   unfit : ℕ → Told
 
 -- what a row compares: the number and the values, the bytes shown, and the buffer behind the call
@@ -71,7 +73,7 @@ pub record Seen : Type 0 where
 abbrev pub fill : ℕ → List ℕ
 fill n = replicate n 0xA5
 
--- the room that a row lends: what its answer needs and some bytes more, or one byte too few; three bytes where nothing is written
+-- the room that a row lends: what its answer needs and some bytes more, or one byte too few; where nothing is written three bytes, or as many as it says
 abbrev pub lent : Told → List ℕ
 lent (borrows f u t) = fill 3
 lent (writes n t) = fill (length (ascii t) + n)
@@ -81,6 +83,7 @@ lent (minus n) = fill 3
 lent unnamed = fill 3
 lent (says b) = fill 3
 lent (refuses n) = fill 3
+lent (breaks n p) = fill n
 lent (unfit e) = fill 3
 
 abbrev pub yes-no : Bool → ℕ
@@ -97,6 +100,7 @@ due l (minus n) = record { values = 0 ∷ 1 ∷ n ∷ []; bytes = []; buffer = f
 due l unnamed = record { values = 0 ∷ []; bytes = []; buffer = fill 3 }
 due l (says b) = record { values = 0 ∷ yes-no b ∷ []; bytes = []; buffer = fill 3 }
 due l (refuses n) = record { values = n ∷ l .span .start ∷ l .span .end ∷ []; bytes = []; buffer = fill 3 }
+due l (breaks n p) = record { values = 6 ∷ l .span .start ∷ l .span .end ∷ p ∷ []; bytes = []; buffer = fill n }
 due l (unfit e) = record { values = 1 ∷ e ∷ kindCode (l .kind) ∷ payload (l .kind); bytes = []; buffer = fill 3 }
 
 -- what is seen of each kind of answer
@@ -162,6 +166,7 @@ identifierDue (minus n) = valuesSeen [] []
 identifierDue unnamed = valuesSeen [] []
 identifierDue (says b) = valuesSeen [] []
 identifierDue (refuses n) = record { values = n ∷ []; bytes = []; buffer = fill 3 }
+identifierDue (breaks n p) = valuesSeen [] []
 identifierDue (unfit e) = valuesSeen [] []
 
 abbrev pub identifierShown : List ℕ → List ℕ → Identifier → List ℕ

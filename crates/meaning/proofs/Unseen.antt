@@ -1,4 +1,4 @@
--- What the definitions say and no question shows: which texts cut completely; the place that a refusal keeps inside; the numbers and values of
+-- What the definitions say and no question shows: which texts cut completely; where a temporal text breaks with the setting on; the numbers and values of
 -- answers that no row reaches; the view of a range that does not fit; where a view stands; where each range of white space ends; the bytes that an
 -- argument of UESCAPE gives. Assumes nothing.
 use mathlib.Core.Bool.{Bool, true, false, _&&_}
@@ -50,9 +50,8 @@ use Rattle.meaning.proofs.Rows.{equal, signAndSize}
 pub data Fact : Type 0 where
   -- at a setting a text cuts completely, or it does not
   cuts : Bool → String → Bool → Fact
-  -- at a setting a string's text, and a temporal text, is refused at a place
-  breaks : Bool → String → ℕ → Fact
-  breaks-inside : Bool → String → ℕ → Fact
+  -- with the setting on a temporal text is refused at a place
+  breaks-on : String → ℕ → Fact
   -- a number is a white-space character, or it is none
   blank : ℕ → Bool → Fact
   -- a quoted argument of UESCAPE gives the bytes of an escape character; no bytes: it is no legal argument
@@ -79,8 +78,7 @@ set false = off
 
 abbrev pub holds : Fact → Bool
 holds (cuts b t x) = equal (complete (set b) (ascii t)) x
-holds (breaks b t p) = refusedAt p (read (set b) (ascii t))
-holds (breaks-inside b t p) = refusedAt p (temporal (set b) (ascii t))
+holds (breaks-on t p) = refusedAt p (temporal on (ascii t))
 holds (blank c x) = equal (isSpace c) x
 holds (argues a e) = same (argument (ascii a)) (ascii e)
 holds (kind k vs) = same (kindCode k ∷ payload k) vs
@@ -105,17 +103,9 @@ cutting =
     cuts false "U&'\\'" true ∷ cuts true "U&'\\'" false ∷ cuts false "'\\'" true ∷ cuts true "'\\'" false ∷ cuts true "'\\''" true ∷
     cuts false "E'\\''" true ∷ cuts true "e'\\'' 'b'" true ∷ cuts false "e'\\'' 'b'" true ∷ cuts false "'a'ã\u{80}\u{80}'b'" true ∷ []
 
--- A refusal's place, from the text's start: the lone mark; an escape's first byte; what breaks UTF-8, or the body's end where a sequence breaks off; the
--- start for a raw NUL or no spelling; in joined text behind what stands before; in a temporal text behind what stands before the token
+-- [01 Numbers and the other kinds, Temporal] "setting off": so no question shows what a setting would do, and a definition that is given one must read by it
 abbrev pub places : List Fact
-places =
-    breaks false "" 0 ∷ breaks false "x" 0 ∷ breaks false "'a\0'" 0 ∷ breaks false "'a'b'" 2 ∷ breaks true "'\\'''" 3 ∷ breaks false "\"ab\"c\"" 3 ∷
-    breaks false "E'a\\u41'" 3 ∷ breaks false "E'ab\\" 0 ∷ breaks false "E'ab\\'" 4 ∷ breaks false "E'a\\400b'" 3 ∷ breaks false "E'\\xC3'" 6 ∷
-    breaks false "E'ab\\xC3z'" 8 ∷ breaks false "E'\\xC3\\n'" 6 ∷ breaks false "E'a'b\\400'" 3 ∷ breaks false "U&'a\\D83D\\0041'" 4 ∷
-    breaks false "U&'a''\\x'" 6 ∷ breaks false "U&'a!004'UESCAPE'!'" 4 ∷ breaks false "$$a$" 0 ∷
-    breaks false "'a' 'b' E'\\400'" 10 ∷ breaks false "'a' 'b' x" 8 ∷ breaks false "'a'  'b" 5 ∷ breaks false "'a' 'b' B'0'" 8 ∷ breaks false "E'\\0' 'b' x" 2 ∷
-    breaks-inside false "DATE" 0 ∷ breaks-inside false "DATE E'\\400'" 7 ∷ breaks-inside false "DATE 'a' 'b" 9 ∷ breaks-inside false "$a" 0 ∷
-    breaks-inside true "DATE '\\'''" 8 ∷ []
+places = breaks-on "DATE '\\'''" 8 ∷ breaks-on "DATE '' '\\'" 8 ∷ breaks-on "DATE 'a\\' 'b'" 10 ∷ []
 
 -- [01 Cutting] "9-D, 20, 85, A0, 1680, 2000-200A, 2028-2029, 202F, 205F, 3000": each end, and its neighbours
 abbrev pub blanks : List Fact
@@ -159,7 +149,7 @@ here = record { start = 7; end = 5 }
 
 abbrev pub refusals : List Refusal
 refusals =
-    WrongKind Expected.Money Kind.Null ∷ MissingSource here ∷ InvalidSourceRange here ∷ NotUtf8 here ∷ InvalidInteger here ∷ InvalidString here ∷
+    WrongKind Expected.Money Kind.Null ∷ MissingSource here ∷ InvalidSourceRange here ∷ NotUtf8 here ∷ InvalidInteger here ∷ InvalidString here 4 ∷
     InvalidBitString here ∷ InvalidMoney here ∷ NoRoom 3 ∷ []
 
 abbrev pub numbers : List Fact
@@ -167,10 +157,11 @@ numbers =
     gives (map fieldCode fields) (1 ∷ 2 ∷ 3 ∷ 4 ∷ 5 ∷ 6 ∷ 7 ∷ 8 ∷ 9 ∷ 10 ∷ 11 ∷ 12 ∷ 13 ∷ 14 ∷ 15 ∷ 16 ∷ 17 ∷ 18 ∷ 19 ∷ 20 ∷ 21 ∷ 22 ∷ 23 ∷ 24 ∷ []) ∷
     gives (map refusalNumber refusals) (1 ∷ 2 ∷ 3 ∷ 4 ∷ 5 ∷ 6 ∷ 7 ∷ 8 ∷ 9 ∷ []) ∷
     gives (refusalValues (WrongKind Expected.Money (Kind.Time Zone.WithTimeZone))) (8 ∷ 9 ∷ 1 ∷ []) ∷ gives (refusalValues (MissingSource here)) (7 ∷ 5 ∷ []) ∷
-    gives (refusalValues (NoRoom 3)) (3 ∷ []) ∷
+    gives (refusalValues (NoRoom 3)) (3 ∷ []) ∷ gives (refusalValues (InvalidString here 4)) (7 ∷ 5 ∷ 4 ∷ []) ∷
+    gives (refusalValues (InvalidBitString here)) (7 ∷ 5 ∷ []) ∷
     gives
     (numbersOf (map refusedFour refusals))
-    (1 ∷ 0 ∷ 0 ∷ 0 ∷ 2 ∷ 0 ∷ 0 ∷ 0 ∷ 3 ∷ 0 ∷ 0 ∷ 0 ∷ 4 ∷ 0 ∷ 0 ∷ 0 ∷ 5 ∷ 0 ∷ 0 ∷ 0 ∷ 6 ∷ 0 ∷ 0 ∷ 0 ∷ 7 ∷ 0 ∷ 0 ∷ 0 ∷ 8 ∷ 0 ∷ 0 ∷ 0 ∷ 9 ∷ 0 ∷ 0 ∷ 3 ∷ []) ∷
+    (1 ∷ 0 ∷ 0 ∷ 0 ∷ 2 ∷ 0 ∷ 0 ∷ 0 ∷ 3 ∷ 0 ∷ 0 ∷ 0 ∷ 4 ∷ 0 ∷ 0 ∷ 0 ∷ 5 ∷ 0 ∷ 0 ∷ 0 ∷ 6 ∷ 0 ∷ 4 ∷ 0 ∷ 7 ∷ 0 ∷ 0 ∷ 0 ∷ 8 ∷ 0 ∷ 0 ∷ 0 ∷ 9 ∷ 0 ∷ 0 ∷ 3 ∷ []) ∷
     gives (map (λ r. textNumber (Text′.Refused r)) refusals) (map refusalNumber refusals) ∷
     gives (map (λ r. rangeNumber (Range′.Refused r)) refusals) (map refusalNumber refusals) ∷
     gives (map (λ r. charsetNumber (Charset′.Refused r)) refusals) (map refusalNumber refusals) ∷

@@ -129,14 +129,14 @@ payload Kind.Money = []
 abbrev pub spanValues : Span → List ℕ
 spanValues s = s .start ∷ s .end ∷ []
 
--- REFUSALS 1 to 9: the number, and what it returns
+-- REFUSALS 1 to 9: the number, and what it returns. [02 T-04] "6 gains the place"
 abbrev pub refusalNumber : Refusal → ℕ
 refusalNumber (WrongKind e k) = 1
 refusalNumber (MissingSource s) = 2
 refusalNumber (InvalidSourceRange s) = 3
 refusalNumber (NotUtf8 s) = 4
 refusalNumber (InvalidInteger s) = 5
-refusalNumber (InvalidString s) = 6
+refusalNumber (InvalidString s p) = 6
 refusalNumber (InvalidBitString s) = 7
 refusalNumber (InvalidMoney s) = 8
 refusalNumber (NoRoom n) = 9
@@ -147,7 +147,7 @@ refusalValues (MissingSource s) = spanValues s
 refusalValues (InvalidSourceRange s) = spanValues s
 refusalValues (NotUtf8 s) = spanValues s
 refusalValues (InvalidInteger s) = spanValues s
-refusalValues (InvalidString s) = spanValues s
+refusalValues (InvalidString s p) = s .start ∷ s .end ∷ p ∷ []
 refusalValues (InvalidBitString s) = spanValues s
 refusalValues (InvalidMoney s) = spanValues s
 refusalValues (NoRoom n) = n ∷ []

@@ -33,14 +33,15 @@ numbersOf (f ∷ fs) = f .number ∷ (f .how ∷ (f .start ∷ (f .len ∷ numbe
 abbrev pub four : ℕ → ℕ → ℕ → ℕ → Four
 four number how start len = record { number = number; how = how; start = start; len = len }
 
--- "on 9 the length is the length needed, and where nothing else is said a field is zero". (No item is refused by 2, 5, 7 or 8)
+-- "on 9 the length is the length needed, and where nothing else is said a field is zero". [02 T-04] "T-03 puts the place in its start field". (No item is
+-- refused by 2, 5, 7 or 8)
 abbrev pub refusedFour : Refusal → Four
 refusedFour (WrongKind e k) = four 1 0 0 0
 refusedFour (MissingSource s) = four 2 0 0 0
 refusedFour (InvalidSourceRange s) = four 3 0 0 0
 refusedFour (NotUtf8 s) = four 4 0 0 0
 refusedFour (InvalidInteger s) = four 5 0 0 0
-refusedFour (InvalidString s) = four 6 0 0 0
+refusedFour (InvalidString s p) = four 6 0 p 0
 refusedFour (InvalidBitString s) = four 7 0 0 0
 refusedFour (InvalidMoney s) = four 8 0 0 0
 refusedFour (NoRoom n) = four 9 0 0 n

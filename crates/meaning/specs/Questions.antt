@@ -84,11 +84,12 @@ isMoney k = eqb (kindCode k) 14
 abbrev pub bitBase : LiteralKind → ℕ
 bitBase k = if eqb (kindCode k) 12 then 2 else if eqb (kindCode k) 13 then 16 else 0
 
--- TEXTS. A reading of the text in a span that begins at s, for a buffer: `bad` is why a refused one is refused
-abbrev pub toldAs : Refusal → ℕ → List ℕ → Answer → Outcome Text
-toldAs bad s out a = outcomeBy (λ f u. Text′.Borrowed (s + f) (s + u)) Text′.Written (λ n. Text′.Refused (NoRoom n)) (λ p. Text′.Refused bad) out a
+-- TEXTS. A reading of the text in a span that begins at s, for a buffer: `bad` is why one that is refused at a place is refused. [02 T-04] "Refusal 6 from
+-- reading a string shall carry a place, counted from the text's start": so from the span's start, and not from the source's
+abbrev pub toldAs : (ℕ → Refusal) → ℕ → List ℕ → Answer → Outcome Text
+toldAs bad s out a = outcomeBy (λ f u. Text′.Borrowed (s + f) (s + u)) Text′.Written (λ n. Text′.Refused (NoRoom n)) (λ p. Text′.Refused (bad p)) out a
 
-abbrev pub told : (List ℕ → Answer) → (Span → Refusal) → Literal → List ℕ → Tested → Outcome Text
+abbrev pub told : (List ℕ → Answer) → (Span → ℕ → Refusal) → Literal → List ℕ → Tested → Outcome Text
 told f bad l out (passes t) = toldAs (bad (l .span)) (l .span .start) out (f t)
 told f bad l out (barred r) = record { answer = Text′.Refused r; buffer = out }
 
@@ -99,13 +100,14 @@ stringQuestion l source σ out = told (read σ) InvalidString l out (tested (isS
 abbrev pub plainQuestion : Literal → List ℕ → List ℕ → Outcome Text
 plainQuestion l source out = stringQuestion l source off out
 
+-- 5 and 7 carry no place
 unfoldable pub decimalQuestion : Literal → List ℕ → List ℕ → Outcome Text
-decimalQuestion l source out = told decimalOf InvalidInteger l out (tested (isNumber (l .kind)) Expected.DecimalText l source)
+decimalQuestion l source out = told decimalOf (λ s p. InvalidInteger s) l out (tested (isNumber (l .kind)) Expected.DecimalText l source)
 
 -- bits and temporal texts are read with the setting off
 unfoldable pub bitsQuestion : Literal → List ℕ → List ℕ → Outcome Text
 bitsQuestion l source out =
-    told (bits off (bitBase (l .kind))) InvalidBitString l out (tested (ltb 0 (bitBase (l .kind))) Expected.BitString l source)
+    told (bits off (bitBase (l .kind))) (λ s p. InvalidBitString s) l out (tested (ltb 0 (bitBase (l .kind))) Expected.BitString l source)
 
 unfoldable pub temporalQuestion : Literal → List ℕ → List ℕ → Outcome Text
 temporalQuestion l source out = told (temporal off) InvalidString l out (tested (isTemporal (l .kind)) Expected.Temporal l source)
@@ -121,7 +123,7 @@ ranged f bad l (passes t) = rangeAs (bad (l .span)) (l .span .start) (f t)
 ranged f bad l (barred r) = Range′.Refused r
 
 unfoldable pub sourceQuestion : Literal → List ℕ → Range
-sourceQuestion l source = ranged (λ t. borrowed 0 (length t)) InvalidString l (sourceText l source)
+sourceQuestion l source = ranged (λ t. borrowed 0 (length t)) NotUtf8 l (sourceText l source)
 
 unfoldable pub moneyQuestion : Literal → List ℕ → Range
 moneyQuestion l source = ranged money InvalidMoney l (tested (isMoney (l .kind)) Expected.Money l source)

@@ -100,14 +100,14 @@ pub struct Literal {
     pub span: Span,
 }
 
-// Why a question on a literal is refused: numbers 1 to 9.
+// Why a question on a literal is refused: numbers 1 to 9. [02 T-04] 6 carries the place where reading stops, counted from the text's start.
 pub enum Refusal {
     WrongKind(LiteralExpected, LiteralKind),
     MissingSource(Span),
     InvalidSourceRange(Span),
     NotUtf8(Span),
     InvalidInteger(Span),
-    InvalidString(Span),
+    InvalidString { span: Span, place: usize },
     InvalidBitString(Span),
     InvalidMoney(Span),
     NoRoom { needed: usize },
@@ -202,7 +202,7 @@ pub struct Item {
 }
 
 // What is told of an item: 0 or the refusal's number; how its text is answered (0 not, 1 borrowed, 2 written); where the text begins, in the source or in the
-// buffer; and how long it is.
+// buffer, or the place of a 6, in the text; and how long it is.
 pub struct Four {
     pub number: u32,
     pub how: u32,

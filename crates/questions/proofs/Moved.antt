@@ -28,7 +28,7 @@ use Rattle.laws.proofs.questions.Ranges.{AnswerIn}
 use Rattle.admitting.specs.declared.tests.Tested.{Tested}
 use Rattle.admitting.specs.declared.tests.Tested.the-variants.{Passes, Barred}
 use Rattle.admitting.specs.Tests.{Tests}
-use Rattle.questions.specs.Told.{toldBy, rangeBy, InText}
+use Rattle.questions.specs.Told.{placeOf, toldBy, rangeBy, InText}
 use Rattle.questions.proofs.Spanned.{span-barred, span-passes, span-start, span-inside, span-length}
 
 -- A BORROWED RANGE lies in its text
@@ -53,6 +53,20 @@ module _ {s : ℕ} {q : Read} (i : InText s q) (f u : ℕ) (b : q ≡ Read′.Bo
 
   pub last-fits : Fits w64 (s + u)
   last-fits = record { fits = i .last f u b }
+
+-- WHERE A READING STOPS
+module _ (q : Read) where
+  pub place-borrowed : (f u : ℕ) → q ≡ Read′.Borrowed f u → 0 ≡ placeOf q
+  place-borrowed f u e = ap placeOf (sym e)
+
+  pub place-written : (n : ℕ) → q ≡ Read′.Written n → 0 ≡ placeOf q
+  place-written n e = ap placeOf (sym e)
+
+  pub place-refused : (p : ℕ) → q ≡ Read′.Refused p → p ≡ placeOf q
+  place-refused p e = ap placeOf (sym e)
+
+  pub place-short : (n : ℕ) → q ≡ Read′.NoRoom n → 0 ≡ placeOf q
+  place-short n e = ap placeOf (sym e)
 
 -- AS A TEXT, AS A RANGE
 module _ (bad : Refusal) (s : ℕ) (q : Read) where
@@ -80,17 +94,24 @@ module _ (bad : Refusal) (s : ℕ) (q : Read) where
   pub range-short : (n : ℕ) → q ≡ Read′.NoRoom n → Range′.Refused bad ≡ rangeBy bad s q
   range-short n e = ap (rangeBy bad s) (sym e)
 
-told-as : (bad : Refusal) (s : ℕ) (out : List ℕ) (a : Answer) → toldBy bad s (readOf (length out) a) ≡ toldAs bad s out a .answer
+-- a string, with its place
+pub string-told : (sp : Span) (s p : ℕ) (q : Read) → p ≡ placeOf q → (a : Text) → a ≡ toldBy (Refusal′.InvalidString sp p) s q
+    → a ≡ toldBy (Refusal′.InvalidString sp (placeOf q)) s q
+string-told sp s p q w a e = e ∙ ap (λ (n : ℕ). toldBy (Refusal′.InvalidString sp n) s q) w
+
+told-as : (bad : ℕ → Refusal) (s : ℕ) (out : List ℕ) (a : Answer)
+    → toldBy (bad (placeOf (readOf (length out) a))) s (readOf (length out) a) ≡ toldAs bad s out a .answer
 told-as bad s out (borrowed f u) = refl
 told-as bad s out (written v) = go (leb (length v) (length out))
   where
-    go : (x : Bool) → toldBy bad s (if x then Read′.Written (length v) else Read′.NoRoom (length v))
+    go : (x : Bool)
+        → (let q : Read = if x then Read′.Written (length v) else Read′.NoRoom (length v) in toldBy (bad (placeOf q)) s q)
         ≡ (if x then Text′.Written (length v) else Text′.Refused (Refusal′.NoRoom (length v)))
     go true = refl
     go false = refl
 told-as bad s out (refused p) = refl
 
-told-buffer : (bad : Refusal) (s : ℕ) (out : List ℕ) (a : Answer) → bufferOf out a ≡ toldAs bad s out a .buffer
+told-buffer : (bad : ℕ → Refusal) (s : ℕ) (out : List ℕ) (a : Answer) → bufferOf out a ≡ toldAs bad s out a .buffer
 told-buffer bad s out (borrowed f u) = refl
 told-buffer bad s out (written v) = refl
 told-buffer bad s out (refused p) = refl
@@ -105,30 +126,38 @@ range-as bad s m (written v) = go (leb (length v) m)
 range-as bad s m (refused p) = refl
 
 -- A READER f of the text that the tests pass
-module _ (f : List ℕ → Answer) (bad : Span → Refusal) {l : Literal} {S : List ℕ} {r : Tested} {x : Definition.Tested} (v : Tests l S r x) where
-  abbrev b : Refusal
-  b = bad (l .span)
+module _ (f : List ℕ → Answer) {l : Literal} {S : List ℕ} {r : Tested} {x : Definition.Tested} (v : Tests l S r x) where
+  -- no sum wraps
+  pub fits-text : (s e : ℕ) → r ≡ Passes s e → ((t : List ℕ) → AnswerIn (length t) (f t)) → length S < 2 ^ 64 → (m : ℕ) (d : Read)
+      → d ≡ readOf m (f (part s e S)) → InText s d
+  fits-text s e q i h m d k =
+      in-text s (length (part s e S)) m (f (part s e S)) d k (i (part s e S)) (omega (arith, span-length v s e q, span-inside v s e q))
 
-  pub told-barred : (out : List ℕ) (w : Refusal) → r ≡ Barred w → Meets (told f bad l out x) (Text′.Refused w) out
-  told-barred out w q = rw (span-barred v w q) (record { answer = refl; buffer = refl })
+  -- as a text, with the place where a refused reading stops
+  module _ (bad : Span → ℕ → Refusal) where
+    pub told-barred : (out : List ℕ) (w : Refusal) → r ≡ Barred w → Meets (told f bad l out x) (Text′.Refused w) out
+    told-barred out w q = rw (span-barred v w q) (record { answer = refl; buffer = refl })
 
-  pub ranged-barred : (w : Refusal) → r ≡ Barred w → Range′.Refused w ≡ ranged f bad l x
-  ranged-barred w q = rw (span-barred v w q)
-
-  module _ (s e : ℕ) (q : r ≡ Passes s e) where
-    -- no sum wraps
-    pub fits-text : ((t : List ℕ) → AnswerIn (length t) (f t)) → length S < 2 ^ 64 → (m : ℕ) (d : Read) → d ≡ readOf m (f (part s e S)) → InText s d
-    fits-text i h m d k =
-        in-text s (length (part s e S)) m (f (part s e S)) d k (i (part s e S)) (omega (arith, span-length v s e q, span-inside v s e q))
-
-    pub told-meets : (out after : List ℕ) (d : Read) → Reads (f (part s e S)) out d after → (a : Text) → a ≡ toldBy (bad (l .span)) s d
-        → Meets (told f bad l out x) a after
-    told-meets out after d k a ea = rw (span-passes v s e q) (record {
-      answer = ea ∙ ap (λ (n : ℕ). toldBy b n d) (span-start v s e q) ∙ ap (toldBy b (l .span .start)) (k .answer)
-          ∙ told-as b (l .span .start) out (f (part s e S));
+    pub told-meets : (s e : ℕ) → r ≡ Passes s e → (out after : List ℕ) (d : Read) → Reads (f (part s e S)) out d after → (a : Text)
+        → a ≡ toldBy (bad (l .span) (placeOf d)) s d → Meets (told f bad l out x) a after
+    told-meets s e q out after d k a ea = rw (span-passes v s e q) (record {
+      answer = ea ∙ ap (λ (n : ℕ). toldBy (b (placeOf d)) n d) (span-start v s e q)
+          ∙ ap (λ (r : Read). toldBy (b (placeOf r)) (l .span .start) r) (k .answer) ∙ told-as b (l .span .start) out (f (part s e S));
       buffer = k .buffer ∙ told-buffer b (l .span .start) out (f (part s e S));
     })
+      where
+        b : ℕ → Refusal
+        b = bad (l .span)
 
-    pub ranged-is : (m : ℕ) (d : Read) → d ≡ readOf m (f (part s e S)) → (a : Range) → a ≡ rangeBy (bad (l .span)) s d → a ≡ ranged f bad l x
-    ranged-is m d k a ea = rw (span-passes v s e q)
+  -- as a range
+  module _ (bad : Span → Refusal) where
+    pub ranged-barred : (w : Refusal) → r ≡ Barred w → Range′.Refused w ≡ ranged f bad l x
+    ranged-barred w q = rw (span-barred v w q)
+
+    pub ranged-is : (s e : ℕ) → r ≡ Passes s e → (m : ℕ) (d : Read) → d ≡ readOf m (f (part s e S)) → (a : Range) → a ≡ rangeBy (bad (l .span)) s d
+        → a ≡ ranged f bad l x
+    ranged-is s e q m d k a ea = rw (span-passes v s e q)
         (ea ∙ ap (λ (n : ℕ). rangeBy b n d) (span-start v s e q) ∙ ap (rangeBy b (l .span .start)) k ∙ range-as b (l .span .start) m (f (part s e S)))
+      where
+        b : Refusal
+        b = bad (l .span)

@@ -10,7 +10,7 @@ use Rattle.meaning.specs.declared.Literal.{Literal}
 use Rattle.meaning.specs.declared.LiteralExpected.the-variants as Expected
 use Rattle.meaning.specs.declared.Read.{Read}
 use Rattle.meaning.specs.declared.Refusal.{Refusal}
-use Rattle.meaning.specs.declared.Refusal.the-variants.{InvalidString, InvalidMoney}
+use Rattle.meaning.specs.declared.Refusal.the-variants.{NotUtf8, InvalidMoney}
 use Rattle.meaning.specs.declared.Range.{Range}
 use Rattle.meaning.specs.declared.Range.the-variants as Range′
 use Rattle.meaning.specs.declared.Charset.the-variants as Charset′
@@ -38,16 +38,16 @@ module _ {l : Literal} {S : List ℕ} {r : Tested} (v : Tests l S r (sourceText 
   source-found s e q =
       let z : s + 0 ≡ s = omega arith in
       ap (Range′.Found s) (sym (span-length v s e q)) ∙ ap (λ (n : ℕ). Range′.Found n (s + length (part s e S))) (sym z)
-      ∙ ranged-is (λ t. borrowed 0 (length t)) InvalidString v s e q 0 (readOf 0 (borrowed 0 (length (part s e S)))) refl _ refl
+      ∙ ranged-is (λ t. borrowed 0 (length t)) v NotUtf8 s e q 0 (readOf 0 (borrowed 0 (length (part s e S)))) refl _ refl
 
   pub source-barred : (w : Refusal) → r ≡ Barred w → Range′.Refused w ≡ sourceQuestion l S
   unfolding sourceQuestion
-  source-barred w q = ranged-barred (λ t. borrowed 0 (length t)) InvalidString v w q
+  source-barred w q = ranged-barred (λ t. borrowed 0 (length t)) v NotUtf8 w q
 
 -- NO SUM WRAPS
 module _ {l : Literal} {S : List ℕ} {r : Tested} {x : Definition.Tested} (v : Tests l S r x) (s e : ℕ) (q : r ≡ Passes s e) (h : length S < 2 ^ 64) where
   pub money-fits : (d : Read) → d ≡ readOf 0 (money (part s e S)) → InText s d
-  money-fits d k = fits-text money InvalidMoney v s e q money-inside h 0 d k
+  money-fits d k = fits-text money v s e q money-inside h 0 d k
 
   pub charset-fits : (n : ℕ) → n ≡ charsetEnd (part s e S) → s + n < 2 ^ 64
   charset-fits n k = omega (arith, charset-inside (part s e S), span-length v s e q, span-inside v s e q)
@@ -65,11 +65,11 @@ module _ {l : Literal} {S : List ℕ} {r : Tested} {code : ℕ} (c : code ≡ ki
     pub money-told : (s e : ℕ) → r ≡ Passes s e → (d : Read) → d ≡ readOf 0 (money (part s e S)) → (a : Range)
         → a ≡ rangeBy (InvalidMoney (l .span)) s d → a ≡ moneyQuestion l S
     unfolding moneyQuestion
-    money-told s e q d k a o = rw (← c) (ranged-is money InvalidMoney v s e q 0 d k a o)
+    money-told s e q d k a o = rw (← c) (ranged-is money v InvalidMoney s e q 0 d k a o)
 
     pub money-barred : (w : Refusal) → r ≡ Barred w → Range′.Refused w ≡ moneyQuestion l S
     unfolding moneyQuestion
-    money-barred w q = rw (← c) (ranged-barred money InvalidMoney v w q)
+    money-barred w q = rw (← c) (ranged-barred money v InvalidMoney w q)
 
   module _ (v : Tests l S r (tested (eqb code 4) Expected.String l S)) where
     pub charset-barred : (w : Refusal) → r ≡ Barred w → Charset′.Refused w ≡ charsetQuestion l S

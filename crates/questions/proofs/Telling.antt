@@ -38,7 +38,7 @@ use Rattle.strings.specs.Plain.{isPlainAscii}
 use Rattle.strings.specs.Driving.{ChecksBy, Checks}
 use Rattle.strings.proofs.AsciiRows.{ascii-utf8}
 use Rattle.strings.proofs.Fits.{ascii-long, ascii-reads}
-use Rattle.questions.specs.Told.{toldBy, InText, bitBaseBy}
+use Rattle.questions.specs.Told.{placeOf, toldBy, InText, bitBaseBy}
 use Rattle.questions.proofs.Moved.{fits-text, told-meets, told-barred}
 use Rattle.bits.proofs.Inside.{bits-inside}
 use Rattle.questions.proofs.Inside.{decimal-inside, temporal-inside}
@@ -47,58 +47,58 @@ use Rattle.questions.proofs.Inside.{decimal-inside, temporal-inside}
 module _ {l : Literal} {S : List ℕ} {r : Tested} {x : Definition.Tested} (v : Tests l S r x) (s e : ℕ) (q : r ≡ Passes s e) (h : length S < 2 ^ 64)
     {out after : List ℕ} {d : Read} where
   pub string-fits : (σ : Settings) → Reads (read σ (part s e S)) out d after → InText s d
-  string-fits σ k = fits-text (read σ) InvalidString v s e q (read-inside σ) h (length out) d (k .answer)
+  string-fits σ k = fits-text (read σ) v s e q (read-inside σ) h (length out) d (k .answer)
 
   pub decimal-fits : Reads (decimalOf (part s e S)) out d after → InText s d
-  decimal-fits k = fits-text decimalOf InvalidInteger v s e q decimal-inside h (length out) d (k .answer)
+  decimal-fits k = fits-text decimalOf v s e q decimal-inside h (length out) d (k .answer)
 
   pub bits-fits : (σ : Settings) (β : ℕ) → Reads (bits σ β (part s e S)) out d after → InText s d
-  bits-fits σ β k = fits-text (bits σ β) InvalidBitString v s e q (bits-inside σ β) h (length out) d (k .answer)
+  bits-fits σ β k = fits-text (bits σ β) v s e q (bits-inside σ β) h (length out) d (k .answer)
 
   pub temporal-fits : (σ : Settings) → Reads (temporal σ (part s e S)) out d after → InText s d
-  temporal-fits σ k = fits-text (temporal σ) InvalidString v s e q (temporal-inside σ) h (length out) d (k .answer)
+  temporal-fits σ k = fits-text (temporal σ) v s e q (temporal-inside σ) h (length out) d (k .answer)
 
 -- WHAT IS TOLD, by the code of the kind
 module _ {l : Literal} {S : List ℕ} {r : Tested} {code : ℕ} (c : code ≡ kindCode (l .kind)) where
   module _ (σ : Settings) (v : Tests l S r (tested (eqb code 4) Expected.String l S)) where
     pub string-told : (s e : ℕ) → r ≡ Passes s e → (out after : List ℕ) (d : Read) → Reads (read σ (part s e S)) out d after → (a : Text)
-        → a ≡ toldBy (InvalidString (l .span)) s d → Meets (stringQuestion l S σ out) a after
+        → a ≡ toldBy (InvalidString (l .span) (placeOf d)) s d → Meets (stringQuestion l S σ out) a after
     unfolding stringQuestion
-    string-told s e q out after d k a o = rw (← c) (told-meets (read σ) InvalidString v s e q out after d k a o)
+    string-told s e q out after d k a o = rw (← c) (told-meets (read σ) v InvalidString s e q out after d k a o)
 
     pub string-barred : (out : List ℕ) (w : Refusal) → r ≡ Barred w → Meets (stringQuestion l S σ out) (Refused w) out
     unfolding stringQuestion
-    string-barred out w q = rw (← c) (told-barred (read σ) InvalidString v out w q)
+    string-barred out w q = rw (← c) (told-barred (read σ) v InvalidString out w q)
 
   module _ (v : Tests l S r (tested (leb code 3) Expected.DecimalText l S)) where
     pub decimal-told : (s e : ℕ) → r ≡ Passes s e → (out after : List ℕ) (d : Read) → Reads (decimalOf (part s e S)) out d after → (a : Text)
         → a ≡ toldBy (InvalidInteger (l .span)) s d → Meets (decimalQuestion l S out) a after
     unfolding decimalQuestion
-    decimal-told s e q out after d k a o = rw (← c) (told-meets decimalOf InvalidInteger v s e q out after d k a o)
+    decimal-told s e q out after d k a o = rw (← c) (told-meets decimalOf v (λ s p. InvalidInteger s) s e q out after d k a o)
 
     pub decimal-barred : (out : List ℕ) (w : Refusal) → r ≡ Barred w → Meets (decimalQuestion l S out) (Refused w) out
     unfolding decimalQuestion
-    decimal-barred out w q = rw (← c) (told-barred decimalOf InvalidInteger v out w q)
+    decimal-barred out w q = rw (← c) (told-barred decimalOf v (λ s p. InvalidInteger s) out w q)
 
   module _ (β : ℕ) (b : β ≡ bitBaseBy code) (v : Tests l S r (tested (ltb 0 β) Expected.BitString l S)) where
     pub bits-told : (s e : ℕ) → r ≡ Passes s e → (out after : List ℕ) (d : Read) → Reads (bits off β (part s e S)) out d after → (a : Text)
         → a ≡ toldBy (InvalidBitString (l .span)) s d → Meets (bitsQuestion l S out) a after
     unfolding bitsQuestion
-    bits-told s e q out after d k a o = rw (← c, ← b) (told-meets (bits off β) InvalidBitString v s e q out after d k a o)
+    bits-told s e q out after d k a o = rw (← c, ← b) (told-meets (bits off β) v (λ s p. InvalidBitString s) s e q out after d k a o)
 
     pub bits-barred : (out : List ℕ) (w : Refusal) → r ≡ Barred w → Meets (bitsQuestion l S out) (Refused w) out
     unfolding bitsQuestion
-    bits-barred out w q = rw (← c, ← b) (told-barred (bits off β) InvalidBitString v out w q)
+    bits-barred out w q = rw (← c, ← b) (told-barred (bits off β) v (λ s p. InvalidBitString s) out w q)
 
   module _ (v : Tests l S r (tested (leb 8 code && leb code 11) Expected.Temporal l S)) where
     pub temporal-told : (s e : ℕ) → r ≡ Passes s e → (out after : List ℕ) (d : Read) → Reads (temporal off (part s e S)) out d after → (a : Text)
-        → a ≡ toldBy (InvalidString (l .span)) s d → Meets (temporalQuestion l S out) a after
+        → a ≡ toldBy (InvalidString (l .span) (placeOf d)) s d → Meets (temporalQuestion l S out) a after
     unfolding temporalQuestion
-    temporal-told s e q out after d k a o = rw (← c) (told-meets (temporal off) InvalidString v s e q out after d k a o)
+    temporal-told s e q out after d k a o = rw (← c) (told-meets (temporal off) v InvalidString s e q out after d k a o)
 
     pub temporal-barred : (out : List ℕ) (w : Refusal) → r ≡ Barred w → Meets (temporalQuestion l S out) (Refused w) out
     unfolding temporalQuestion
-    temporal-barred out w q = rw (← c) (told-barred (temporal off) InvalidString v out w q)
+    temporal-barred out w q = rw (← c) (told-barred (temporal off) v InvalidString out w q)
 
 -- THE STRING'S TEXT is tested to be UTF-8 by who reads it
 module _ {l : Literal} {S : List ℕ} {r : Tested} {code : ℕ} (c : code ≡ kindCode (l .kind)) (σ : Settings)
@@ -113,7 +113,7 @@ module _ {l : Literal} {S : List ℕ} {r : Tested} {code : ℕ} (c : code ≡ ki
         string-fits (passed-too l S r g s e q (y .0)) s e refl h σ (y .1)
 
     pub checked-told : (k : Checked) → Checks u (read σ (part s e S)) out k after → (d : Read) → k ≡ Checked′.Text d → (a : Text)
-        → a ≡ toldBy (InvalidString (l .span)) s d → Meets (stringQuestion l S σ out) a after
+        → a ≡ toldBy (InvalidString (l .span) (placeOf d)) s d → Meets (stringQuestion l S σ out) a after
     checked-told k x d ec a o =
         let y = subst (λ (z : Checked). ChecksBy u (read σ (part s e S)) out z after) ec (x .by) in
         string-told c σ (passed-too l S r g s e q (y .0)) s e refl out after d (y .1) a o

@@ -19,6 +19,13 @@ toldBy bad s (Written n) = Text′.Written n
 toldBy bad s (Refused p) = Text′.Refused bad
 toldBy bad s (NoRoom n) = Text′.Refused (Refusal′.NoRoom n)
 
+-- the place where a reading stops; 0 where it goes through
+abbrev pub placeOf : Read → ℕ
+placeOf (Borrowed f u) = 0
+placeOf (Written n) = 0
+placeOf (Refused p) = p
+placeOf (NoRoom n) = 0
+
 -- as a range. (No reading that is asked for one is written)
 abbrev pub rangeBy : Refusal → ℕ → Read → Range
 rangeBy bad s (Borrowed f u) = Range′.Found (s + f) (s + u)

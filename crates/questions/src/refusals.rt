@@ -14,7 +14,7 @@ pub fn refusal_number(refusal: Refusal) -> u32
         Refusal::InvalidSourceRange(_) => 3,
         Refusal::NotUtf8(_) => 4,
         Refusal::InvalidInteger(_) => 5,
-        Refusal::InvalidString(_) => 6,
+        Refusal::InvalidString { span: _, place: _ } => 6,
         Refusal::InvalidBitString(_) => 7,
         Refusal::InvalidMoney(_) => 8,
         Refusal::NoRoom { needed: _ } => 9,

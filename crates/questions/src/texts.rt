@@ -11,14 +11,29 @@ use meaning::LiteralExpected;
 use meaning::Read;
 use meaning::Refusal;
 use meaning::Settings;
+use meaning::Span;
 use meaning::Text;
 use strings::plain::is_plain_ascii;
 use strings::reading::Checked;
 use strings::reading::read_string;
 ghost use mathlib.Core.Path.{_≡_};
+ghost use Rattle.meaning.specs.declared.Refusal.the-variants.{InvalidString};
 ghost use Rattle.meaning.specs.Answers.{Meets};
 ghost use Rattle.meaning.specs.Questions.{stringQuestion, plainQuestion, decimalQuestion, bitsQuestion, temporalQuestion};
-ghost use Rattle.questions.specs.Told.{InText, toldBy, bitBaseBy};
+ghost use Rattle.questions.specs.Told.{InText, placeOf, toldBy, bitBaseBy};
+
+// The place where a reading stops; 0 where it goes through.
+// Rules out: no place told; the length that is needed told for it (must-fail: place_left_out, length_for_place).
+fn place_of(read: Read) -> usize
+    ensures { λ r. ⌜ r ≡ placeOf read ⌝ }
+{
+    match read {
+        Read::Borrowed { from: _, until: _ } => 0,
+        Read::Written { len: _ } => 0,
+        Read::Refused { place } => place,
+        Read::NoRoom { needed: _ } => 0,
+    }
+}
 
 // A reading of the text at a place of the source, told of the source; `bad` is why a refused one is refused.
 fn text_of(read: Read, start: usize, bad: Refusal) -> Text
@@ -34,6 +49,16 @@ fn text_of(read: Read, start: usize, bad: Refusal) -> Text
         Read::Refused { place: _ } => Text::Refused(bad),
         Read::NoRoom { needed } => Text::Refused(Refusal::NoRoom { needed }),
     }
+}
+
+// The same of a string, which is refused with the place where its reading stops.
+// Rules out: the text's start told for the place; 7 for 6 (must-fail: start_for_place, seven_for_six).
+fn string_of(read: Read, start: usize, span: Span) -> Text
+    requires { ⌜ InText start read ⌝ }
+    ensures { λ r. ⌜ r ≡ toldBy (InvalidString span (placeOf read)) start read ⌝ }
+{
+    let place = place_of(read);
+    text_of(read, start, Refusal::InvalidString { span, place })
 }
 
 // What a string literal means at a setting.
@@ -54,7 +79,7 @@ pub fn as_str_in(literal: Literal, source: &[u8], settings: Settings, out: &mut 
                 };
             }
             match read_string(text, settings, out) {
-                Checked::Text(read) => text_of(read, start, Refusal::InvalidString(span)),
+                Checked::Text(read) => string_of(read, start, span),
                 Checked::NotUtf8 => Text::Refused(Refusal::NotUtf8(span)),
             }
         }
@@ -71,7 +96,7 @@ pub fn as_str(literal: Literal, source: &[u8], out: &mut [u8]) -> Text
 }
 
 // A number's decimal text.
-// Rules out: 6 for 5; integers alone asked (must-fail: one_for_another, some_left_out).
+// Rules out: 8 for 5; integers alone asked (must-fail: one_for_another, some_left_out).
 pub fn as_decimal_text(literal: Literal, source: &[u8], out: &mut [u8]) -> Text
     ensures { λ r. ⌜ Meets (decimalQuestion literal (now (source .entry)) (now (out .entry))) r (now (out .exit)) ⌝ }
 {
@@ -101,7 +126,7 @@ fn bit_base(code: u32) -> u8
 }
 
 // A bit string's digits, its text cut with the setting off.
-// Rules out: 6 for 7; hex digits asked of every bit string (must-fail: one_for_another, another_kind_asked).
+// Rules out: 8 for 7; hex digits asked of every bit string (must-fail: one_for_another, another_kind_asked).
 pub fn as_bit_text(literal: Literal, source: &[u8], out: &mut [u8]) -> Text
     ensures { λ r. ⌜ Meets (bitsQuestion literal (now (source .entry)) (now (out .entry))) r (now (out .exit)) ⌝ }
 {
@@ -136,7 +161,7 @@ pub fn as_temporal_text(literal: Literal, source: &[u8], out: &mut [u8]) -> Text
     match test(right, LiteralExpected::Temporal, literal, source) {
         Tested::Passes { start, end } => {
             let read = read_temporal(&source[start..end], Settings { backslash: false }, out);
-            text_of(read, start, Refusal::InvalidString(span))
+            string_of(read, start, span)
         }
         Tested::Barred(refusal) => Text::Refused(refusal),
     }

@@ -14,7 +14,7 @@ ghost use mathlib.Core.Path.{_≡_};
 ghost use Rattle.meaning.specs.Questions.{i64Question, boolQuestion, nullQuestion, isNull};
 
 // The value of an integer literal.
-// Rules out: 6 for 5; a decimal's text read (must-fail: one_for_another, another_kind_asked).
+// Rules out: 7 for 5; a decimal's text read (must-fail: one_for_another, another_kind_asked).
 pub fn as_i64(literal: Literal, source: &[u8]) -> Integer
     ensures { λ r. ⌜ r ≡ i64Question literal (now (source .entry)) ⌝ }
 {

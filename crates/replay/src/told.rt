@@ -1,4 +1,4 @@
-// What any answer tells: its number, a letter for its case, and two values.
+// What any answer tells: its number, a letter for its case, two values, and the place of a 6, 0 where there is none.
 use admitting::kinds::kind_code;
 use meaning::Charset;
 use meaning::Identifier;
@@ -18,6 +18,7 @@ pub(crate) struct Told {
     pub letter: u8,
     pub first: usize,
     pub second: usize,
+    pub place: usize,
 }
 
 // The letters: b borrowed, w written, i an integer, n no name, y a yes or no, p a prefix, r refused, c a call on a block.
@@ -43,6 +44,7 @@ pub(crate) fn answered(letter: u8, first: usize, second: usize) -> Told {
         letter,
         first,
         second,
+        place: 0,
     }
 }
 
@@ -52,6 +54,7 @@ pub(crate) fn refused(number: u32, first: usize, second: usize) -> Told {
         letter: REFUSED,
         first,
         second,
+        place: 0,
     }
 }
 
@@ -62,6 +65,7 @@ pub(crate) fn called(number: u32, place: usize, found: u32) -> Told {
         letter: CALLED,
         first: place,
         second: found as usize,
+        place: 0,
     }
 }
 
@@ -91,6 +95,17 @@ fn refused_span(number: u32, span: Span) -> Told {
     refused(number, span.start as usize, span.end as usize)
 }
 
+// 6 gives back the span and the place in the text.
+fn refused_at(number: u32, span: Span, place: usize) -> Told {
+    Told {
+        number,
+        letter: REFUSED,
+        first: span.start as usize,
+        second: span.end as usize,
+        place,
+    }
+}
+
 fn refusal_told(refusal: Refusal) -> Told {
     let number = refusal_number(refusal);
     match refusal {
@@ -103,7 +118,7 @@ fn refusal_told(refusal: Refusal) -> Told {
         Refusal::InvalidSourceRange(span) => refused_span(number, span),
         Refusal::NotUtf8(span) => refused_span(number, span),
         Refusal::InvalidInteger(span) => refused_span(number, span),
-        Refusal::InvalidString(span) => refused_span(number, span),
+        Refusal::InvalidString { span, place } => refused_at(number, span, place),
         Refusal::InvalidBitString(span) => refused_span(number, span),
         Refusal::InvalidMoney(span) => refused_span(number, span),
         Refusal::NoRoom { needed } => refused(number, needed, 0),
@@ -215,9 +230,11 @@ pub(crate) fn is_same(told: Told, due: Told) -> bool {
         & (told.letter == due.letter)
         & (told.first == due.first)
         & (told.second == due.second)
+        & (told.place == due.place)
 }
 
-// An answer's places moved: a borrowed range, or the span of a refusal. Lengths and kinds stay.
+// An answer's places in the source moved: a borrowed range, or the span of a refusal. Lengths and kinds stay, and so does the place of a 6, which counts from
+// the text's start.
 pub(crate) fn moved(told: Told, by: u8) -> Told {
     if (told.letter == BORROWED) | ((2 <= told.number) & (told.number <= 8)) {
         return Told {
@@ -225,6 +242,7 @@ pub(crate) fn moved(told: Told, by: u8) -> Told {
             letter: told.letter,
             first: std::num::wrapping_add_usize(told.first, by as usize),
             second: std::num::wrapping_add_usize(told.second, by as usize),
+            place: told.place,
         };
     }
     told

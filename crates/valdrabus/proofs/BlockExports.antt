@@ -18,15 +18,16 @@ use Rattle.meaning.specs.Codes.{isKnown, literalOf, settingsOf}
 use Rattle.meaning.specs.Blocks.{four, fourOf, takes, numbersOf}
 use Rattle.laws.proofs.questions.BlockReturns.{BlockCall, roomFrom, Returned, block-calls}
 use Rattle.valdrabus.specs.declared.told.Told.{Told}
-use Rattle.valdrabus.specs.Numbers.{fourTold, textTold, Tells}
+use Rattle.valdrabus.specs.Numbers.{fiveTold, textTold, TellsPlace}
 use Rattle.valdrabus.specs.Calls.{outcomeTold, stringCall}
 
--- the four of a single call's numbers, for a text that is written from place b on: a range becomes a start and a length, and of a refusal 9 alone keeps a number
+-- the four of a single call's numbers, for a text that is written from place b on: a range becomes a start and a length; of refusals 9 keeps its
+-- length, and 6 its place
 abbrev pub fourBy : ℕ → Told → Four
 fourBy b t =
     if eqb (t .number) 0 then four 0 (t .how) (if eqb (t .how) 2 then b else t .first) (t .second - t .first)
     else if eqb (t .number) 9 then four 9 0 0 (t .second)
-    else four (t .number) 0 0 0
+    else four (t .number) 0 (t .place) 0
 
 four-by : (b : ℕ) (r : Text) → fourOf b r ≡ fourBy b (textTold r)
 four-by b (Text′.Borrowed f u) = refl
@@ -36,7 +37,7 @@ four-by b (Text′.Refused (Refusal′.MissingSource s)) = refl
 four-by b (Text′.Refused (Refusal′.InvalidSourceRange s)) = refl
 four-by b (Text′.Refused (Refusal′.NotUtf8 s)) = refl
 four-by b (Text′.Refused (Refusal′.InvalidInteger s)) = refl
-four-by b (Text′.Refused (Refusal′.InvalidString s)) = refl
+four-by b (Text′.Refused (Refusal′.InvalidString s p)) = refl
 four-by b (Text′.Refused (Refusal′.InvalidBitString s)) = refl
 four-by b (Text′.Refused (Refusal′.InvalidMoney s)) = refl
 four-by b (Text′.Refused (Refusal′.NoRoom n)) = refl
@@ -53,7 +54,7 @@ takes-by (Text′.Refused (Refusal′.MissingSource s)) = refl
 takes-by (Text′.Refused (Refusal′.InvalidSourceRange s)) = refl
 takes-by (Text′.Refused (Refusal′.NotUtf8 s)) = refl
 takes-by (Text′.Refused (Refusal′.InvalidInteger s)) = refl
-takes-by (Text′.Refused (Refusal′.InvalidString s)) = refl
+takes-by (Text′.Refused (Refusal′.InvalidString s p)) = refl
 takes-by (Text′.Refused (Refusal′.InvalidBitString s)) = refl
 takes-by (Text′.Refused (Refusal′.InvalidMoney s)) = refl
 takes-by (Text′.Refused (Refusal′.NoRoom n)) = refl
@@ -64,22 +65,24 @@ pub record Gives {items S : List ℕ} (c : BlockCall items S) (n : ℕ) (t : Tol
   pub bytes : part (roomFrom c n) (roomFrom c n + wrote t) (c .after) ≡ take (wrote t) after
 
 module _ (a : List ℕ) (k g s e : ℕ) (b S : List ℕ) (f : length a % 4 ≡ 0) (c : BlockCall (a ++ (k ∷ (g ∷ (s ∷ (e ∷ b))))) S) (z : c .result ≡ 0)
-    (known : isKnown k 0 g ≡ true) (n how first second : ℕ) (after : List ℕ)
-    (single : Tells (stringCall k 0 s e S g (drop (roomFrom c (length a)) (c .lent))) n how first second after) where
+    (known : isKnown k 0 g ≡ true) (n how first second place : ℕ) (after : List ℕ)
+    (single : TellsPlace (stringCall k 0 s e S g (drop (roomFrom c (length a)) (c .lent))) n how first second place after) where
   abbrev asked : Outcome Text
   asked = stringQuestion (literalOf k 0 s e) S (settingsOf g) (drop (roomFrom c (length a)) (c .lent))
 
-  tells : Tells (outcomeTold textTold asked) n how first second after
+  single-is : TellsPlace (outcomeTold textTold asked) n how first second place after
   unfolding stringCall
-  tells = rw known at single
+  single-is = rw known at single
 
-  numbers : fourTold n how first second ≡ textTold (asked .answer)
-  numbers = rw (tells .says .result, tells .says .way, tells .says .one, tells .says .two)
+  numbers : fiveTold n how first second place ≡ textTold (asked .answer)
+  numbers =
+      let x = single-is .tells .says in
+      rw (x .result, x .way, x .one, x .two, single-is .stop)
 
-  pub block-exports : Gives c (length a) (fourTold n how first second) after
+  pub block-exports : Gives c (length a) (fiveTold n how first second place) after
   block-exports =
       let r : Returned c (length a) (asked .answer) after =
-      block-calls a k g s e b S f c z known (asked .answer) after (record { answer = refl; buffer = tells .buffer }) in
+      block-calls a k g s e b S f c z known (asked .answer) after (record { answer = refl; buffer = single-is .tells .buffer }) in
       record {
         told =
             r .told

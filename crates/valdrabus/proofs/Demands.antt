@@ -32,13 +32,13 @@ use Rattle.laws.proofs.writing.FormRoundTrip.{form-answers, form-written-accept
 use Rattle.laws.proofs.questions.Calls as Calls′
 use Rattle.laws.proofs.questions.Calls.{StringCall, WriterCall, FormCall, PartWritten, calls-chain, joining-calls, round-trip-calls, form-calls, parts-calls}
 use Rattle.meaning.specs.Codes.{literalOf, settingsOf}
-use Rattle.valdrabus.specs.Numbers.{textTold, writingTold, Tells}
+use Rattle.valdrabus.specs.Numbers.{textTold, writingTold, Tells, TellsPlace}
 use Rattle.valdrabus.specs.Calls.{outcomeTold, stringCall, writeCall, formCall, Lengths}
 use Rattle.valdrabus.specs.Views as Views′
 use Rattle.valdrabus.specs.Views.{viewed, viewCall, viewBytes}
 use Rattle.valdrabus.proofs.Numbering.{text-number}
 use Rattle.valdrabus.proofs.Viewing.{view-shows}
-use Rattle.valdrabus.proofs.Determined.{says-unique, tells-buffer}
+use Rattle.valdrabus.proofs.Determined.{place-unique}
 
 -- A CALL of valdrabus_as_str_in on the text t, at the setting of number σ: the kind is 4, a String, and the mark 0, for not synthetic
 pub record StringExport (σ : ℕ) (t : List ℕ) : Type 0 where
@@ -52,8 +52,9 @@ pub record StringExport (σ : ℕ) (t : List ℕ) : Type 0 where
   pub how : ℕ
   pub first : ℕ
   pub second : ℕ
+  pub place : ℕ
   pub after : List ℕ
-  pub contract : Tells (stringCall 4 0 start end source σ lent) result how first second after
+  pub contract : TellsPlace (stringCall 4 0 start end source σ lent) result how first second place after
 
 -- it was answered, and the view of its numbers stands for v
 pub record Shows {σ : ℕ} {t : List ℕ} (c : StringExport σ t) (v : List ℕ) : Type 0 where
@@ -71,9 +72,12 @@ module _ {σ : ℕ} {t : List ℕ} (c : StringExport σ t) where
   abbrev pub asked : Outcome Text
   asked = stringQuestion (literalOf 4 0 (c .start) (c .end)) (c .source) (settingsOf σ) (c .lent)
 
-  pub tells-asked : Tells (outcomeTold textTold asked) (c .result) (c .how) (c .first) (c .second) (c .after)
+  pub tells-all : TellsPlace (outcomeTold textTold asked) (c .result) (c .how) (c .first) (c .second) (c .place) (c .after)
   unfolding stringCall
-  tells-asked = rw (le-leb σ 1 (c .known)) at (c .contract)
+  tells-all = rw (le-leb σ 1 (c .known)) at (c .contract)
+
+  pub tells-asked : Tells (outcomeTold textTold asked) (c .result) (c .how) (c .first) (c .second) (c .after)
+  tells-asked = tells-all .tells
 
   -- it is a call of the string question on that text, or on one that equals it
   abbrev pub string-call : (t′ : List ℕ) → t ≡ t′ → StringCall (settingsOf σ) t′
@@ -270,8 +274,7 @@ module _ (k y s e : ℕ) (S S′ : List ℕ) (a : Agree (literalOf k y s e) S S�
   unfolding stringCall
   stringCall-same = rw (stringQuestion-same (literalOf k y s e) S S′ a (settingsOf σ) out)
 
-  pub agreement-exports : (r r′ h h′ f f′ u u′ : ℕ) (d d′ : List ℕ) → Tells (stringCall k y s e S σ out) r h f u d
-      → Tells (stringCall k y s e S′ σ out) r′ h′ f′ u′ d′ → ((r ≡ r′) × (h ≡ h′) × (f ≡ f′) × (u ≡ u′)) × (d ≡ d′)
-  agreement-exports r r′ h h′ f f′ u u′ d d′ m m′ =
-      let n : Tells (stringCall k y s e S′ σ out) r h f u d = rw stringCall-same at m in
-      (says-unique (n .says) (m′ .says), tells-buffer n m′)
+  pub agreement-exports : (r r′ h h′ f f′ u u′ p p′ : ℕ) (d d′ : List ℕ) → TellsPlace (stringCall k y s e S σ out) r h f u p d
+      → TellsPlace (stringCall k y s e S′ σ out) r′ h′ f′ u′ p′ d′ → ((r ≡ r′) × (h ≡ h′) × (f ≡ f′) × (u ≡ u′)) × (p ≡ p′) × (d ≡ d′)
+  agreement-exports r r′ h h′ f f′ u u′ p p′ d d′ m m′ =
+      let n : TellsPlace (stringCall k y s e S′ σ out) r h f u p d = rw stringCall-same at m in place-unique n m′

@@ -8,7 +8,7 @@ use Rattle.meaning.specs.Answers.{Outcome}
 use Rattle.valdrabus.specs.declared.told.Told.{Told}
 use Rattle.valdrabus.specs.declared.counted.Counted.{Counted}
 use Rattle.valdrabus.specs.declared.views.View.{View}
-use Rattle.valdrabus.specs.Numbers.{Says, Tells}
+use Rattle.valdrabus.specs.Numbers.{Says, Tells, TellsPlace}
 use Rattle.valdrabus.specs.Calls.{Counts, Bare, Lengths, Splits}
 use Rattle.valdrabus.specs.Views.{Shows}
 
@@ -31,6 +31,10 @@ module _ {r r′ f f′ s s′ : ℕ} where
 module _ {r r′ : ℕ} {out out′ : List ℕ} {o : Outcome Told} where
   pub tells-buffer : {h h′ f f′ s s′ : ℕ} → Tells o r h f s out → Tells o r′ h′ f′ s′ out′ → out ≡ out′
   tells-buffer a b = same (a .buffer) (b .buffer)
+
+  pub place-unique : {h h′ f f′ s s′ p p′ : ℕ} → TellsPlace o r h f s p out → TellsPlace o r′ h′ f′ s′ p′ out′
+      → ((r ≡ r′) × (h ≡ h′) × (f ≡ f′) × (s ≡ s′)) × (p ≡ p′) × (out ≡ out′)
+  place-unique a b = (says-unique (a .tells .says) (b .tells .says), same (a .stop) (b .stop), tells-buffer (a .tells) (b .tells))
 
   pub lengths-unique : {n n′ : ℕ} → Lengths o r n out → Lengths o r′ n′ out′ → (r ≡ r′) × (n ≡ n′) × (out ≡ out′)
   lengths-unique a b = (same (a .result) (b .result), same (a .long) (b .long), same (a .buffer) (b .buffer))

@@ -1,5 +1,5 @@
 -- The numbers lent out are those that were told. Assumes nothing.
-use mathlib.Core.Path.{_≡_, ap, _∙_}
+use mathlib.Core.Path.{_≡_, refl, ap, _∙_}
 use mathlib.Core.List.{List}
 use Prim.Native.Nat.{ℕ}
 use mir.Syntax.{w64}
@@ -15,7 +15,7 @@ use Rattle.meaning.specs.Forms.{formQuestion}
 use Rattle.valdrabus.specs.declared.told.Told.{Told}
 use Rattle.valdrabus.specs.declared.counted.Counted.{Counted}
 use Rattle.valdrabus.specs.declared.views.View.{View}
-use Rattle.valdrabus.specs.Numbers.{identifierTold, writingTold, Says, Tells}
+use Rattle.valdrabus.specs.Numbers.{identifierTold, writingTold, Says, Tells, SaysPlace, TellsPlace}
 use Rattle.valdrabus.specs.Calls.{outcomeTold, identifierCall, formCall, Counts, Bare, Lengths, Splits}
 use Rattle.valdrabus.specs.Views.{Shows}
 
@@ -32,6 +32,15 @@ module _ (t : Told) where
     unfolding identifierCall
     identifier-tells text out after a m p =
         record { says = says-of (identifierTold (identifierQuestion text out .answer)) (p ∙ ap identifierTold (m .answer)); buffer = m .buffer }
+
+  -- with the place
+  pub place-says : (r how first second : ℕ) → Says t r how first second → SaysPlace t r how first second (t .place)
+  place-says r how first second w = record { says = w; stop = refl }
+
+  pub place-tells : (r how first second place : ℕ) → SaysPlace t r how first second place → (o : Outcome Told) (after : List ℕ) → Meets o t after
+      → TellsPlace o r how first second place after
+  place-tells r how first second place w o after m =
+      record { tells = tells-of r how first second (w .says) o after m; stop = w .stop ∙ ap (λ (x : Told). x .place) (m .answer) }
 
   pub bare-of : (t′ : Told) → t ≡ t′ → Bare t′ (t .number) (t .first) (t .second)
   bare-of t′ p = record { result = ap (λ (x : Told). x .number) p; one = ap (λ (x : Told). x .first) p; two = ap (λ (x : Told). x .second) p }

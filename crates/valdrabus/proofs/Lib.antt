@@ -7,5 +7,7 @@ mod Viewing
 mod Determined
 mod Demands
 mod BlockExports
+mod PlaceExports
 mod Witnesses
 mod BlockWitnesses
+mod PlaceWitnesses

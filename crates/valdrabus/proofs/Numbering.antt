@@ -37,7 +37,7 @@ refusal-number (MissingSource s) = refl
 refusal-number (InvalidSourceRange s) = refl
 refusal-number (NotUtf8 s) = refl
 refusal-number (InvalidInteger s) = refl
-refusal-number (InvalidString s) = refl
+refusal-number (InvalidString s p) = refl
 refusal-number (InvalidBitString s) = refl
 refusal-number (InvalidMoney s) = refl
 refusal-number (NoRoom n) = refl
@@ -83,12 +83,15 @@ writing-number Writing′.NotUtf8 = refl
 writing-number Writing′.HoldsNul = refl
 writing-number (Writing′.NoRoom n) = refl
 
--- VALUES: first and second, or second alone where one is given. The actual kind's own data stay with the caller
+-- VALUES: first and second, or second alone where one is given; and a 6's place. The actual kind's own data stay with the caller
 abbrev both : Told → List ℕ
 both t = t .first ∷ t .second ∷ []
 
 abbrev last : Told → List ℕ
 last t = t .second ∷ []
+
+abbrev all : Told → List ℕ
+all t = t .first ∷ t .second ∷ t .place ∷ []
 
 -- what the caller has of the kind that it gave
 abbrev kept : Refusal → List ℕ
@@ -97,7 +100,7 @@ kept (MissingSource s) = []
 kept (InvalidSourceRange s) = []
 kept (NotUtf8 s) = []
 kept (InvalidInteger s) = []
-kept (InvalidString s) = []
+kept (InvalidString s p) = []
 kept (InvalidBitString s) = []
 kept (InvalidMoney s) = []
 kept (NoRoom n) = []
@@ -109,7 +112,7 @@ valuesTold (MissingSource s) = both (refusalTold (MissingSource s))
 valuesTold (InvalidSourceRange s) = both (refusalTold (InvalidSourceRange s))
 valuesTold (NotUtf8 s) = both (refusalTold (NotUtf8 s))
 valuesTold (InvalidInteger s) = both (refusalTold (InvalidInteger s))
-valuesTold (InvalidString s) = both (refusalTold (InvalidString s))
+valuesTold (InvalidString s p) = all (refusalTold (InvalidString s p))
 valuesTold (InvalidBitString s) = both (refusalTold (InvalidBitString s))
 valuesTold (InvalidMoney s) = both (refusalTold (InvalidMoney s))
 
@@ -119,7 +122,7 @@ refusal-values (MissingSource s) = refl
 refusal-values (InvalidSourceRange s) = refl
 refusal-values (NotUtf8 s) = refl
 refusal-values (InvalidInteger s) = refl
-refusal-values (InvalidString s) = refl
+refusal-values (InvalidString s p) = refl
 refusal-values (InvalidBitString s) = refl
 refusal-values (InvalidMoney s) = refl
 refusal-values (NoRoom n) = refl

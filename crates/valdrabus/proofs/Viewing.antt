@@ -51,7 +51,7 @@ module _ (S out : List ℕ) where
   refused (Refusal′.InvalidSourceRange s) = refl
   refused (Refusal′.NotUtf8 s) = refl
   refused (Refusal′.InvalidInteger s) = refl
-  refused (Refusal′.InvalidString s) = refl
+  refused (Refusal′.InvalidString s p) = refl
   refused (Refusal′.InvalidBitString s) = refl
   refused (Refusal′.InvalidMoney s) = refl
   refused (Refusal′.NoRoom n) = refl

@@ -21,14 +21,14 @@ use Rattle.laws.proofs.questions.Asked.{Spans}
 use Rattle.laws.proofs.joining.Parts.{Part, Next}
 use Rattle.laws.proofs.tables.Witnesses.{next}
 use Rattle.meaning.specs.Codes.{literalOf}
-use Rattle.valdrabus.specs.Numbers.{Tells}
+use Rattle.valdrabus.specs.Numbers.{TellsPlace}
 use Rattle.valdrabus.specs.Calls.{stringCall, writeCall, formCall, Lengths}
 use Rattle.valdrabus.specs.Views.{viewCall}
 use Rattle.valdrabus.proofs.Demands.{StringExport, Shows, WriterExport, FormExport, joining-exports, round-trip-exports, form-exports, parts-exports}
 
 -- a call on a span of a source, and one of the writer, each answered with 0
 abbrev pub call-in : {σ s e h f u : ℕ} {S t after : List ℕ} (lent : List ℕ) → σ ≤ 1 → Spans (literalOf 4 0 s e) S t
-    → Tells (stringCall 4 0 s e S σ lent) 0 h f u after → StringExport σ t
+    → TellsPlace (stringCall 4 0 s e S σ lent) 0 h f u 0 after → StringExport σ t
 call-in {σ} {s} {e} {h} {f} {u} {S} {t} {after} lent k i m =
     record {
       start = s;
@@ -41,6 +41,7 @@ call-in {σ} {s} {e} {h} {f} {u} {S} {t} {after} lent k i m =
       how = h;
       first = f;
       second = u;
+      place = 0;
       after = after;
       contract = m;
     }
@@ -54,14 +55,14 @@ abbrev pub two : List ℕ
 two = ascii "'a' 'b'"
 
 -- each segment is borrowed (1), all of it is written (2), two bytes
-pub two-told : Tells (stringCall 4 0 0 3 two 0 []) 0 1 1 2 [] × Tells (stringCall 4 0 4 7 two 0 []) 0 1 5 6 []
-    × Tells (stringCall 4 0 0 7 two 0 (1 ∷ 2 ∷ 3 ∷ [])) 0 2 0 2 (97 ∷ 98 ∷ 3 ∷ [])
+pub two-told : TellsPlace (stringCall 4 0 0 3 two 0 []) 0 1 1 2 0 [] × TellsPlace (stringCall 4 0 4 7 two 0 []) 0 1 5 6 0 []
+    × TellsPlace (stringCall 4 0 0 7 two 0 (1 ∷ 2 ∷ 3 ∷ [])) 0 2 0 2 0 (97 ∷ 98 ∷ 3 ∷ [])
 unfolding stringCall stringQuestion tested sourceText badSpan cutsCharacter within utf8 lead read continues segment isMark segmentStep cut isSpace one
     spelling encloses answer doubled named filled
 two-told = (
-  record { says = record { result = refl; way = refl; one = refl; two = refl }; buffer = refl },
-  record { says = record { result = refl; way = refl; one = refl; two = refl }; buffer = refl },
-  record { says = record { result = refl; way = refl; one = refl; two = refl }; buffer = refl },
+  record { tells = record { says = record { result = refl; way = refl; one = refl; two = refl }; buffer = refl }; stop = refl },
+  record { tells = record { says = record { result = refl; way = refl; one = refl; two = refl }; buffer = refl }; stop = refl },
+  record { tells = record { says = record { result = refl; way = refl; one = refl; two = refl }; buffer = refl }; stop = refl },
 )
 
 pub two-spans : Spans (literalOf 4 0 0 3) two (ascii "'a'") × Spans (literalOf 4 0 4 7) two (ascii "'b'") × Spans (literalOf 4 0 0 7) two two
@@ -104,15 +105,15 @@ rest-written = writer-in (ascii ".....") (omega arith) (written-told .2)
 abbrev pub chained : List ℕ
 chained = ascii "'ab'\n'''c'"
 
-pub back-told : Tells (stringCall 4 0 0 6 (ascii "'a''b'.") 1 (ascii "...")) 0 2 0 3 (ascii "a'b")
-    × Tells (stringCall 4 0 0 4 (ascii "'ab'") 1 []) 0 1 1 3 []
-    × Tells (stringCall 4 0 0 10 chained 1 (ascii "....")) 0 2 0 4 (ascii "ab'c")
+pub back-told : TellsPlace (stringCall 4 0 0 6 (ascii "'a''b'.") 1 (ascii "...")) 0 2 0 3 0 (ascii "a'b")
+    × TellsPlace (stringCall 4 0 0 4 (ascii "'ab'") 1 []) 0 1 1 3 0 []
+    × TellsPlace (stringCall 4 0 0 10 chained 1 (ascii "....")) 0 2 0 4 0 (ascii "ab'c")
 unfolding stringCall stringQuestion tested sourceText badSpan cutsCharacter within utf8 lead read continues segment isMark segmentStep cut isSpace one
     spelling encloses answer doubled named filled
 back-told = (
-  record { says = record { result = refl; way = refl; one = refl; two = refl }; buffer = refl },
-  record { says = record { result = refl; way = refl; one = refl; two = refl }; buffer = refl },
-  record { says = record { result = refl; way = refl; one = refl; two = refl }; buffer = refl },
+  record { tells = record { says = record { result = refl; way = refl; one = refl; two = refl }; buffer = refl }; stop = refl },
+  record { tells = record { says = record { result = refl; way = refl; one = refl; two = refl }; buffer = refl }; stop = refl },
+  record { tells = record { says = record { result = refl; way = refl; one = refl; two = refl }; buffer = refl }; stop = refl },
 )
 
 pub back-spans : Spans (literalOf 4 0 0 6) (ascii "'a''b'.") (ascii "'a''b'") × Spans (literalOf 4 0 0 4) (ascii "'ab'") (ascii "'ab'")
@@ -146,13 +147,13 @@ pub forms-told : Lengths (formCall Escape lined (ascii ".......")) 0 6 (ascii "E
 unfolding formCall formQuestion overLimit utf8 lead within formText escapeForm isDoubled unicodeFigures figure filled
 forms-told = (record { result = refl; long = refl; buffer = refl }, record { result = refl; long = refl; buffer = refl })
 
-pub forms-back-told : Tells (stringCall 4 0 0 6 (ascii "E'a\\n'.") 1 (ascii "..")) 0 2 0 2 lined
-    × Tells (stringCall 4 0 0 10 (ascii "U&'a\\000A'") 0 (ascii "..")) 0 2 0 2 lined
+pub forms-back-told : TellsPlace (stringCall 4 0 0 6 (ascii "E'a\\n'.") 1 (ascii "..")) 0 2 0 2 0 lined
+    × TellsPlace (stringCall 4 0 0 10 (ascii "U&'a\\000A'") 0 (ascii "..")) 0 2 0 2 0 lined
 unfolding stringCall stringQuestion tested sourceText badSpan cutsCharacter within utf8 lead read continues segment isMark segmentStep cut isSpace one
     spelling encloses isUnicode unicodeSpelling uescaped scalarBy mayEscape isScalar more encode digit answer doubled named filled
 forms-back-told = (
-  record { says = record { result = refl; way = refl; one = refl; two = refl }; buffer = refl },
-  record { says = record { result = refl; way = refl; one = refl; two = refl }; buffer = refl },
+  record { tells = record { says = record { result = refl; way = refl; one = refl; two = refl }; buffer = refl }; stop = refl },
+  record { tells = record { says = record { result = refl; way = refl; one = refl; two = refl }; buffer = refl }; stop = refl },
 )
 
 pub forms-spans : Spans (literalOf 4 0 0 6) (ascii "E'a\\n'.") (ascii "E'a\\n'") × Spans (literalOf 4 0 0 10) (ascii "U&'a\\000A'") (ascii "U&'a\\000A'")

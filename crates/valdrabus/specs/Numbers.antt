@@ -1,5 +1,5 @@
--- An answer in four numbers: 0 or the refusal's number; how a text is answered (0 not, 1 borrowed, 2 written); two numbers more. Where nothing is said a
--- number is 0. Assumes nothing.
+-- An answer in five numbers: 0 or the refusal's number; how a text is answered (0 not, 1 borrowed, 2 written); two numbers more; and the place of a 6. Where
+-- nothing is said a number is 0. Assumes nothing.
 use mathlib.Core.Path.{_≡_}
 use mathlib.Core.Bool.{true, false}
 use mathlib.Core.List.{List}
@@ -25,8 +25,11 @@ use Rattle.meaning.specs.declared.Writing.the-variants as Writing′
 use Rattle.meaning.specs.Answers.{Outcome, expectedCode, kindCode}
 use Rattle.valdrabus.specs.declared.told.Told.{Told}
 
+abbrev pub fiveTold : ℕ → ℕ → ℕ → ℕ → ℕ → Told
+fiveTold number how first second place = record { number = number; how = how; first = first; second = second; place = place }
+
 abbrev pub fourTold : ℕ → ℕ → ℕ → ℕ → Told
-fourTold number how first second = record { number = number; how = how; first = first; second = second }
+fourTold number how first second = fiveTold number how first second 0
 
 abbrev pub numberTold : ℕ → Told
 numberTold n = fourTold n 0 0 0
@@ -44,6 +47,10 @@ roomTold n = fourTold 9 0 0 n
 abbrev pub spanTold : ℕ → Span → Told
 spanTold n s = fourTold n 0 (s .start) (s .end)
 
+-- [02 T-04] "6 gains the place"
+abbrev pub placeTold : Span → ℕ → Told
+placeTold s p = fiveTold 6 0 (s .start) (s .end) p
+
 -- REFUSALS 1 to 9, and what each returns
 abbrev pub refusalTold : Refusal → Told
 refusalTold (WrongKind e k) = fourTold 1 0 (expectedCode e) (kindCode k)
@@ -51,7 +58,7 @@ refusalTold (MissingSource s) = spanTold 2 s
 refusalTold (InvalidSourceRange s) = spanTold 3 s
 refusalTold (NotUtf8 s) = spanTold 4 s
 refusalTold (InvalidInteger s) = spanTold 5 s
-refusalTold (InvalidString s) = spanTold 6 s
+refusalTold (InvalidString s p) = placeTold s p
 refusalTold (InvalidBitString s) = spanTold 7 s
 refusalTold (InvalidMoney s) = spanTold 8 s
 refusalTold (NoRoom n) = roomTold n
@@ -107,3 +114,12 @@ pub record Says (t : Told) (r how first second : ℕ) : Type 0 where
 pub record Tells (o : Outcome Told) (r how first second : ℕ) (after : List ℕ) : Type 0 where
   pub says : Says (o .answer) r how first second
   pub buffer : after ≡ o .buffer
+
+-- [02 T-04] and where the place is lent too: "0 where nothing else is said, as for the others"
+pub record SaysPlace (t : Told) (r how first second place : ℕ) : Type 0 where
+  pub says : Says t r how first second
+  pub stop : place ≡ t .place
+
+pub record TellsPlace (o : Outcome Told) (r how first second place : ℕ) (after : List ℕ) : Type 0 where
+  pub tells : Tells o r how first second after
+  pub stop : place ≡ o .answer .place

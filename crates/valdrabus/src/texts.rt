@@ -2,6 +2,7 @@
 use crate::told::Told;
 use crate::told::number_told;
 use crate::told::tell;
+use crate::told::tell_place;
 use crate::told::text_told;
 use admitting::literals::is_known;
 use admitting::literals::literal_of;
@@ -11,7 +12,7 @@ use questions::texts::as_decimal_text;
 use questions::texts::as_str_in;
 use questions::texts::as_temporal_text;
 ghost use Rattle.meaning.specs.Answers.{Meets};
-ghost use Rattle.valdrabus.specs.Numbers.{Tells};
+ghost use Rattle.valdrabus.specs.Numbers.{Tells, TellsPlace};
 ghost use Rattle.valdrabus.specs.Calls.{stringCall, decimalCall, bitsCall, temporalCall};
 
 fn string_called(
@@ -46,12 +47,13 @@ pub extern "C" fn valdrabus_as_str_in(
     how: &mut u32,
     first: &mut usize,
     second: &mut usize,
+    place: &mut usize,
 ) -> u32
-    ensures { λ r. ⌜ Tells (stringCall kind synthetic start end (now (source .entry)) setting (now (out .entry))) r
-        (now (how .exit)) (now (first .exit)) (now (second .exit)) (now (out .exit)) ⌝ }
+    ensures { λ r. ⌜ TellsPlace (stringCall kind synthetic start end (now (source .entry)) setting (now (out .entry))) r
+        (now (how .exit)) (now (first .exit)) (now (second .exit)) (now (place .exit)) (now (out .exit)) ⌝ }
 {
     let told = string_called(kind, synthetic, start, end, source, setting, out);
-    tell(told, how, first, second)
+    tell_place(told, how, first, second, place)
 }
 
 fn decimal_called(
@@ -160,10 +162,11 @@ pub extern "C" fn valdrabus_as_temporal_text(
     how: &mut u32,
     first: &mut usize,
     second: &mut usize,
+    place: &mut usize,
 ) -> u32
-    ensures { λ r. ⌜ Tells (temporalCall kind synthetic start end (now (source .entry)) (now (out .entry))) r
-        (now (how .exit)) (now (first .exit)) (now (second .exit)) (now (out .exit)) ⌝ }
+    ensures { λ r. ⌜ TellsPlace (temporalCall kind synthetic start end (now (source .entry)) (now (out .entry))) r
+        (now (how .exit)) (now (first .exit)) (now (second .exit)) (now (place .exit)) (now (out .exit)) ⌝ }
 {
     let told = temporal_called(kind, synthetic, start, end, source, out);
-    tell(told, how, first, second)
+    tell_place(told, how, first, second, place)
 }

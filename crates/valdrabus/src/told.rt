@@ -1,4 +1,5 @@
-// An answer in four numbers: 0 or the refusal's number; how a text is answered; and two numbers more, a range, a span, or what a refusal returns.
+// An answer in five numbers: 0 or the refusal's number; how a text is answered; two numbers more, a range, a span, or what a refusal returns; and the place
+// where the reading of a string stops.
 use admitting::kinds::kind_code;
 use meaning::Charset;
 use meaning::Identifier;
@@ -12,7 +13,7 @@ use meaning::Truth;
 use meaning::Writing;
 ghost use mathlib.Core.Path.{_≡_};
 ghost use Rattle.meaning.specs.Answers.{expectedCode};
-ghost use Rattle.valdrabus.specs.Numbers.{numberTold, borrowedTold, writtenTold, roomTold, spanTold, refusalTold, Says};
+ghost use Rattle.valdrabus.specs.Numbers.{numberTold, borrowedTold, writtenTold, roomTold, spanTold, placeTold, refusalTold, Says, SaysPlace};
 ghost use Rattle.valdrabus.specs.Numbers.{textTold, rangeTold, charsetTold, truthTold, nullnessTold, identifierTold, writingTold};
 
 pub(crate) struct Told {
@@ -20,6 +21,7 @@ pub(crate) struct Told {
     pub how: u32,
     pub first: usize,
     pub second: usize,
+    pub place: usize,
 }
 
 // The families of kinds, in the order of `LiteralExpected`, from 1.
@@ -47,6 +49,7 @@ pub(crate) fn number_told(number: u32) -> Told
         how: 0,
         first: 0,
         second: 0,
+        place: 0,
     }
 }
 
@@ -61,6 +64,22 @@ fn span_told(number: u32, span: Span) -> Told
         how: 0,
         first,
         second,
+        place: 0,
+    }
+}
+
+// A string that is not readable: the literal's span, and where reading stops.
+fn place_told(span: Span, place: usize) -> Told
+    ensures { λ r. ⌜ r ≡ placeTold span place ⌝ }
+{
+    let first = span.start as usize;
+    let second = span.end as usize;
+    Told {
+        number: 6,
+        how: 0,
+        first,
+        second,
+        place,
     }
 }
 
@@ -73,6 +92,7 @@ fn borrowed_told(first: usize, second: usize) -> Told
         how: 1,
         first,
         second,
+        place: 0,
     }
 }
 
@@ -85,6 +105,7 @@ fn written_told(second: usize) -> Told
         how: 2,
         first: 0,
         second,
+        place: 0,
     }
 }
 
@@ -97,6 +118,7 @@ fn room_told(second: usize) -> Told
         how: 0,
         first: 0,
         second,
+        place: 0,
     }
 }
 
@@ -112,13 +134,14 @@ pub(crate) fn refusal_told(refusal: Refusal) -> Told
                 how: 0,
                 first,
                 second,
+                place: 0,
             }
         }
         Refusal::MissingSource(span) => span_told(2, span),
         Refusal::InvalidSourceRange(span) => span_told(3, span),
         Refusal::NotUtf8(span) => span_told(4, span),
         Refusal::InvalidInteger(span) => span_told(5, span),
-        Refusal::InvalidString(span) => span_told(6, span),
+        Refusal::InvalidString { span, place } => place_told(span, place),
         Refusal::InvalidBitString(span) => span_told(7, span),
         Refusal::InvalidMoney(span) => span_told(8, span),
         Refusal::NoRoom { needed } => room_told(needed),
@@ -164,6 +187,7 @@ pub(crate) fn truth_told(answer: Truth) -> Told
             how: value as u32,
             first: 0,
             second: 0,
+            place: 0,
         },
         Truth::Refused(refusal) => refusal_told(refusal),
     }
@@ -211,4 +235,18 @@ pub(crate) fn tell(told: Told, how: &mut u32, first: &mut usize, second: &mut us
     *first = told.first;
     *second = told.second;
     told.number
+}
+
+// The same, the place too.
+pub(crate) fn tell_place(
+    told: Told,
+    how: &mut u32,
+    first: &mut usize,
+    second: &mut usize,
+    place: &mut usize,
+) -> u32
+    ensures { λ r. ⌜ SaysPlace told r (now (how .exit)) (now (first .exit)) (now (second .exit)) (now (place .exit)) ⌝ }
+{
+    *place = told.place;
+    tell(told, how, first, second)
 }

@@ -52,6 +52,7 @@ impl Ready {
     fn read(&mut self, side: Side, question: Question) -> u64 {
         match (side, question) {
             (Side::Ours, Question::I64) => self.ours_i64(),
+            (Side::Ours, Question::Refused) => self.ours_refused(),
             (Side::Ours, question) => self.ours_text(question),
             (Side::Rust, question) => self.rust(question),
             (Side::RustStr, question) => self.rust_str(question),
@@ -59,17 +60,18 @@ impl Ready {
     }
 
     fn ours_text(&mut self, question: Question) -> u64 {
-        let (mut how, mut first, mut second) = (0, 0, 0);
+        let (mut how, mut first, mut second, mut place) = (0, 0, 0, 0);
         let (source, kind) = (self.case.source.as_bytes(), question.kind());
         let (from, long, to, room) = (source.as_ptr(), source.len(), self.out.as_mut_ptr(), self.out.len());
         let mut sum = 0;
         for &Place { start, end, setting } in black_box(&self.case.places) {
             let (how_to, first_to, second_to) = (&raw mut how, &raw mut first, &raw mut second);
+            let place_to = &raw mut place;
             // SAFETY: source and buffer are valid for their lengths; the numbers are ours alone.
             let number = unsafe {
                 if question == Question::Str {
                     sys::valdrabus_as_str_in(
-                        kind, 0, start, end, from, long, setting, to, room, how_to, first_to, second_to,
+                        kind, 0, start, end, from, long, setting, to, room, how_to, first_to, second_to, place_to,
                     )
                 } else {
                     sys::valdrabus_as_decimal_text(
@@ -80,6 +82,28 @@ impl Ready {
             assert!(number == 0, "refused by {number}");
             let shown = if how == 1 { &source[first..second] } else { &self.out[..second] };
             sum += digest(black_box(shown));
+        }
+        sum
+    }
+
+    /// Every string has to be refused; its place, which the Rust does not tell, is looked at.
+    fn ours_refused(&mut self) -> u64 {
+        let (mut how, mut first, mut second, mut place) = (0, 0, 0, 0);
+        let (source, kind) = (self.case.source.as_bytes(), Question::Refused.kind());
+        let (from, long, to, room) = (source.as_ptr(), source.len(), self.out.as_mut_ptr(), self.out.len());
+        let mut sum = 0;
+        for &Place { start, end, setting } in black_box(&self.case.places) {
+            let (how_to, first_to, second_to) = (&raw mut how, &raw mut first, &raw mut second);
+            let place_to = &raw mut place;
+            // SAFETY: source and buffer are valid for their lengths; the numbers are ours alone.
+            let number = unsafe {
+                sys::valdrabus_as_str_in(
+                    kind, 0, start, end, from, long, setting, to, room, how_to, first_to, second_to, place_to,
+                )
+            };
+            assert!(number == 6, "not refused by 6: {number}");
+            black_box(place);
+            sum += u64::from(black_box(number));
         }
         sum
     }
@@ -150,9 +174,14 @@ impl Timed for Ready {
 
 #[inline]
 fn answer(literal: &Literal, source: &str, question: Question, setting: u32) -> u64 {
+    let syntax = StringLiteralSyntax { backslash_escapes: setting == 1 };
     let text = match question {
         Question::I64 => return black_box(literal.as_i64(source).expect("an integer")) as u64,
-        Question::Str => literal.as_str_in(source, StringLiteralSyntax { backslash_escapes: setting == 1 }),
+        Question::Refused => {
+            let error = literal.as_str_in(source, syntax).expect_err("a refusal");
+            return codes::refusal(black_box(&error)).0.into();
+        }
+        Question::Str => literal.as_str_in(source, syntax),
         Question::Decimal => literal.as_decimal_text(source),
     };
     digest(black_box(text.expect("a text").as_bytes()))

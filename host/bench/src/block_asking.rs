@@ -91,14 +91,16 @@ impl ReadyBlocks {
 /// Single calls on the items of a block, each with the room that those before it left.
 #[inline]
 fn one_by_one(items: &[Four], source: &[u8], mut left: &mut [u8]) -> u64 {
-    let (mut how, mut first, mut second) = (0, 0, 0);
+    let (mut how, mut first, mut second, mut place) = (0, 0, 0, 0);
     let mut sum = 0;
     for &[kind, setting, start, end] in items {
-        let (how_to, first_to, second_to) = (&raw mut how, &raw mut first, &raw mut second);
+        let (how_to, first_to, second_to, place_to) = (&raw mut how, &raw mut first, &raw mut second, &raw mut place);
         let (from, long, to, room) = (source.as_ptr(), source.len(), left.as_mut_ptr(), left.len());
         // SAFETY: source and buffer are valid for their lengths; the numbers are ours alone.
         let number = unsafe {
-            sys::valdrabus_as_str_in(kind, 0, start, end, from, long, setting, to, room, how_to, first_to, second_to)
+            sys::valdrabus_as_str_in(
+                kind, 0, start, end, from, long, setting, to, room, how_to, first_to, second_to, place_to,
+            )
         };
         sum += seen(number, how, first, second, source, left);
         if how == WRITTEN {

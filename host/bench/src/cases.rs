@@ -8,6 +8,8 @@ use valdrabus::{Kind, Literal, Settings};
 #[derive(Clone, Copy, PartialEq, Debug)]
 pub enum Question {
     Str,
+    /// A string that cannot be read.
+    Refused,
     Decimal,
     I64,
 }
@@ -16,7 +18,7 @@ impl Question {
     /// The code of the literals' kind.
     pub fn kind(self) -> u32 {
         match self {
-            Question::Str => 4,
+            Question::Str | Question::Refused => 4,
             Question::Decimal | Question::I64 => 1,
         }
     }
@@ -116,6 +118,7 @@ impl Case {
 const LONG: usize = 65_536;
 const NUMBERS: usize = 1000;
 const SHORT_VALUES: usize = 1000;
+const REFUSED: usize = 1000;
 
 const PLAIN: [&str; 9] = ["a", "b", "c", "x", "y", "z", " ", "0", "-"];
 const WIDE: [&str; 9] = ["é", "ß", "ł", "€", "日", "本", "😀", "a", " "];
@@ -169,6 +172,7 @@ fn read() -> Vec<Case> {
         string("MySQL escapes, 64 KiB", 1, long("'", &BACKSLASHES)),
         string("U& escapes, 64 KiB", 0, long("U&'", &UNICODE)),
         string("name joined from 100 parts", 0, joined(100)),
+        refused("refused strings"),
         Case::numbers("radix decimals", Question::Decimal, radix_decimal),
         Case::numbers("i64, any length", Question::I64, signed),
         Case::numbers("i64, hex", Question::I64, |rng| format!("0x{:x}", rng.next() >> (1 + rng.below(62)))),
@@ -180,6 +184,14 @@ fn read() -> Vec<Case> {
         }),
     );
     cases
+}
+
+/// Names with a quote that is not doubled, some 20 bytes before it and as many behind: reading stops halfway.
+fn refused(name: &str) -> Case {
+    let mut rng = Rng::new(20);
+    let mut half = || filled("", 20, &mut rng, &PLAIN);
+    let mut row = |_| format!("'{}'s{}'", half(), half());
+    Case::of(name, Task::Read(Question::Refused), 0, (0..REFUSED).map(&mut row))
 }
 
 /// Long bodies with one short escape in so many bytes.

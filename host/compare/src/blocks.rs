@@ -14,7 +14,8 @@ const BYTES: usize = 65_536;
 pub struct Gathered {
     source: Vec<u8>,
     items: Vec<Asked>,
-    said: Vec<Said>,
+    /// Each with the place that goes with it.
+    said: Vec<(Said, usize)>,
 }
 
 /// What a block is to give: a four for each item, and the bytes at the buffer's start.
@@ -25,9 +26,9 @@ struct Due {
 
 impl Comparing {
     /// Takes a string question with the answer that is due into the next block, which is asked when it is full.
-    pub fn gather(&mut self, asked: &Asked, source: &[u8], said: &Said) -> Outcome {
+    pub fn gather(&mut self, asked: &Asked, source: &[u8], said: &Said, place: usize) -> Outcome {
         if asked.question == Question::Str && asked.synthetic == 0 {
-            self.gathered.add(asked, source, said);
+            self.gathered.add(asked, source, said, place);
         }
         if self.gathered.items.len() == ITEMS || self.gathered.source.len() >= BYTES { self.block() } else { Ok(()) }
     }
@@ -49,7 +50,7 @@ impl Comparing {
             return Err(self.block_difference(gathered, room, &due, number, &told));
         }
         let mut left = room;
-        for (said, four) in gathered.said.iter().zip(&told) {
+        for ((said, _), four) in gathered.said.iter().zip(&told) {
             self.tally.count(Row::Block, outcome(said, left));
             left -= taken(four);
         }
@@ -81,13 +82,13 @@ impl Comparing {
 
 impl Gathered {
     /// A span that leaves its source could fit the common one, so it is left out, unless it is not looked at. A blank behind each source keeps the next one's first byte from its literal.
-    fn add(&mut self, asked: &Asked, source: &[u8], said: &Said) {
+    fn add(&mut self, asked: &Asked, source: &[u8], said: &Said, place: usize) {
         let by = self.source.len();
         let moved = |place: u32| u32::try_from(place as usize + by).ok();
         let (Some(start), Some(end)) = (moved(asked.start), moved(asked.end)) else { return };
         if asked.end as usize <= source.len() || matches!(said, Said::Refused(1 | 10, ..)) {
             self.items.push(Asked { start, end, ..*asked });
-            self.said.push(said.clone().moved(by));
+            self.said.push((said.clone().moved(by), place));
             self.source.extend_from_slice(source);
             self.source.push(b' ');
         }
@@ -96,7 +97,7 @@ impl Gathered {
     /// "Each item gets the answer of a single call with the room still left."
     fn due(&self, room: usize) -> Due {
         let mut due = Due { fours: Vec::new(), written: Vec::new() };
-        for said in &self.said {
+        for (said, place) in &self.said {
             let used = due.written.len();
             due.fours.push(match said {
                 Said::Borrowed(first, second) => [0, BORROWED, *first as u32, (second - first) as u32],
@@ -105,7 +106,7 @@ impl Gathered {
                     [0, WRITTEN, used as u32, text.len() as u32]
                 }
                 Said::Written(text) => [NO_ROOM, 0, 0, text.len() as u32],
-                Said::Refused(number, ..) => [*number, 0, 0, 0],
+                Said::Refused(number, ..) => [*number, 0, *place as u32, 0],
                 other => unreachable!("a string is a text or refused, not {other:?}"),
             });
         }

@@ -1,8 +1,9 @@
 //! One question asked of both, with each of several buffers.
 
 use crate::blocks::Gathered;
+use crate::frames::PADDING;
 use crate::lent::Lent;
-use crate::question::{Asked, BORROWED, Question, Said, Told, WRITTEN, due};
+use crate::question::{Asked, BORROWED, Question, Said, Told, UNREADABLE, WRITTEN, due};
 use crate::rng::Rng;
 use crate::tally::{Row, Tally, outcome};
 use crate::{ours, rules, rust};
@@ -54,17 +55,39 @@ impl Comparing {
             Judge::LeftOut => self.tally.left_out += 1,
         }
         if !asked.question.lends() {
-            return self.ask_with(asked, source, &said, 0);
+            return self.ask_with(asked, source, &said, 0, 0);
         }
+        let place = self.place(asked, source, &said)?;
         let long = self.rng.within(1, 40);
         let (rooms, count) = rooms(&said, long);
-        rooms[..count].iter().try_for_each(|&room| self.ask_with(asked, source, &said, room))?;
-        self.gather(asked, source, &said)
+        rooms[..count].iter().try_for_each(|&room| self.ask_with(asked, source, &said, place, room))?;
+        self.gather(asked, source, &said, place)
     }
 
-    fn ask_with(&mut self, asked: &Asked, source: &[u8], said: &Said, room: usize) -> Outcome {
+    /// The place that is due with an answer: 0, or of a 6 what ours says, once it is held. Every buffer and the block have to give the same.
+    fn place(&mut self, asked: &Asked, source: &[u8], said: &Said) -> Result<usize, Box<Difference>> {
+        if !asked.question.is_placed() || !matches!(said, Said::Refused(UNREADABLE, ..)) {
+            return Ok(0);
+        }
+        let Told { returned: UNREADABLE, place, .. } = ours::told(asked, source, &mut []) else {
+            // The numbers differ, which is told behind this.
+            return Ok(0);
+        };
+        let text = from_utf8(asked.text(source)).expect("a text that is not UTF-8 is 4");
+        let elsewhere = [("", ""), self.rng.one(&PADDING)].map(|padding| place_within(asked, text, padding));
+        let held = match self.tally.places.hold(asked, text, place) {
+            Ok(()) if elsewhere != [place; 2] => Err("the place is another where other bytes stand around the text"),
+            held => held,
+        };
+        held.map(|()| place).map_err(|why| {
+            let told = format!("place {place}; alone and with other bytes around {elsewhere:?}");
+            self.difference(why.into(), asked, source, 0, String::new(), told)
+        })
+    }
+
+    fn ask_with(&mut self, asked: &Asked, source: &[u8], said: &Said, place: usize, room: usize) -> Outcome {
         let told = ours::told(asked, source, self.lent.out(room));
-        let due = due(asked.question, said, room);
+        let due = Told { place, ..due(asked.question, said, room) };
         if told != due {
             return Err(self.difference(
                 "numbers".into(),
@@ -170,6 +193,13 @@ fn of_broken(asked: &Asked, source: &[u8]) -> (Said, Judge) {
     let alone = Asked { start: 0, end: asked.end - asked.start, ..*asked };
     let text = from_utf8(asked.text(source)).expect("UTF-8");
     (rust::said(&alone, text).moved(asked.start as usize), Judge::RustAlone)
+}
+
+/// The place that ours tells of the text with these bytes around it.
+fn place_within(asked: &Asked, text: &str, (before, behind): (&str, &str)) -> usize {
+    let source = [before, text, behind].concat();
+    let (start, end) = (before.len() as u32, (before.len() + text.len()) as u32);
+    ours::told(&Asked { start, end, ..*asked }, source.as_bytes(), &mut []).place
 }
 
 /// Buffers empty, one short, exact and long where there is something to write; elsewhere empty and long.

@@ -156,7 +156,7 @@ const FRAMES: [Frame; 19] = [
 ];
 
 /// What stands on both sides, in turn: a literal's meaning is its own text's.
-const PADDING: [(&str, &str); 7] =
+pub const PADDING: [(&str, &str); 7] =
     [("", ""), ("'", "'"), ("é", "é"), ("E", " 'x'"), ("$$", "$$"), ("\\", "\\"), ("0x", "_1")];
 
 /// A source that is built again and again: a literal with something on both sides.

@@ -7,6 +7,7 @@ mod edges;
 mod frames;
 mod lent;
 mod ours;
+mod places;
 mod question;
 mod random;
 mod report;

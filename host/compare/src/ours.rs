@@ -11,12 +11,13 @@ struct Numbers {
     how: u32,
     first: usize,
     second: usize,
+    place: usize,
     value: i64,
 }
 
 impl Numbers {
     fn stale() -> Numbers {
-        Numbers { how: STALE as u32, first: STALE, second: STALE, value: STALE as i64 }
+        Numbers { how: STALE as u32, first: STALE, second: STALE, place: STALE, value: STALE as i64 }
     }
 }
 
@@ -36,14 +37,15 @@ fn text(asked: &Asked, source: &[u8], out: &mut [u8]) -> Told {
     let Asked { kind, synthetic, start, end, setting, .. } = *asked;
     let (from, long, to, room) = (source.as_ptr(), source.len(), out.as_mut_ptr(), out.len());
     let (how, first, second) = (&raw mut lent.how, &raw mut lent.first, &raw mut lent.second);
+    let at = &raw mut lent.place;
     // SAFETY: both slices are valid for their lengths, and what is written through is ours alone.
     let returned = unsafe {
         match asked.question {
-            Question::Str => {
-                sys::valdrabus_as_str_in(kind, synthetic, start, end, from, long, setting, to, room, how, first, second)
-            }
+            Question::Str => sys::valdrabus_as_str_in(
+                kind, synthetic, start, end, from, long, setting, to, room, how, first, second, at,
+            ),
             Question::Plain => {
-                sys::valdrabus_as_str_in(kind, synthetic, start, end, from, long, 0, to, room, how, first, second)
+                sys::valdrabus_as_str_in(kind, synthetic, start, end, from, long, 0, to, room, how, first, second, at)
             }
             Question::Decimal => {
                 sys::valdrabus_as_decimal_text(kind, synthetic, start, end, from, long, to, room, how, first, second)
@@ -51,13 +53,14 @@ fn text(asked: &Asked, source: &[u8], out: &mut [u8]) -> Told {
             Question::Bits => {
                 sys::valdrabus_as_bit_text(kind, synthetic, start, end, from, long, to, room, how, first, second)
             }
-            Question::Temporal => {
-                sys::valdrabus_as_temporal_text(kind, synthetic, start, end, from, long, to, room, how, first, second)
-            }
+            Question::Temporal => sys::valdrabus_as_temporal_text(
+                kind, synthetic, start, end, from, long, to, room, how, first, second, at,
+            ),
             _ => sys::valdrabus_materialize_unicode_ident(from, long, to, room, how, first, second),
         }
     };
-    Told { returned, how: lent.how, first: lent.first, second: lent.second, value: 0 }
+    let place = if asked.question.is_placed() { lent.place } else { 0 };
+    Told { returned, how: lent.how, first: lent.first, second: lent.second, place, value: 0 }
 }
 
 fn part(asked: &Asked, source: &[u8]) -> Told {
@@ -71,7 +74,7 @@ fn part(asked: &Asked, source: &[u8]) -> Told {
     let (how, first, second) = (&raw mut lent.how, &raw mut lent.first, &raw mut lent.second);
     // SAFETY: as above.
     let returned = unsafe { ask(kind, synthetic, start, end, source.as_ptr(), source.len(), how, first, second) };
-    Told { returned, how: lent.how, first: lent.first, second: lent.second, value: 0 }
+    Told { returned, how: lent.how, first: lent.first, second: lent.second, ..Told::default() }
 }
 
 fn value(asked: &Asked, source: &[u8]) -> Told {
@@ -103,7 +106,7 @@ fn value(asked: &Asked, source: &[u8]) -> Told {
             }
         }
     };
-    Told { returned, how: 0, first: lent.first, second: lent.second, value: lent.value }
+    Told { returned, first: lent.first, second: lent.second, value: lent.value, ..Told::default() }
 }
 
 fn test(asked: &Asked, bare: &[u8]) -> Told {

@@ -64,6 +64,11 @@ impl Question {
         matches!(self, Str | Plain | Decimal | Bits | Temporal | Ident)
     }
 
+    /// Whether a 6 has a place.
+    pub fn is_placed(self) -> bool {
+        matches!(self, Str | Plain | Temporal)
+    }
+
     /// Whether a setting is given.
     pub fn is_set(self) -> bool {
         self == Str
@@ -144,14 +149,16 @@ pub struct Told {
     pub how: u32,
     pub first: usize,
     pub second: usize,
+    pub place: usize,
     pub value: i64,
 }
 
 pub const BORROWED: u32 = 1;
 pub const WRITTEN: u32 = 2;
+pub const UNREADABLE: u32 = 6;
 pub const NO_ROOM: u32 = 9;
 
-/// What a call with so much room is to give, by an answer.
+/// What a call with so much room is to give, by an answer. No answer knows a place: that of a 6 is held on its own.
 pub fn due(question: Question, said: &Said, room: usize) -> Told {
     let none = Told::default();
     match *said {

@@ -2,6 +2,7 @@
 
 use crate::comparing::{Comparing, Outcome};
 use crate::rng::Rng;
+use crate::tally::Tally;
 use crate::texts::Texts;
 use crate::{edges, frames, random, report, sweep};
 use std::process::ExitCode;
@@ -25,18 +26,8 @@ pub fn main() -> ExitCode {
     let outcome = parts(&mut comparing, &arguments);
     println!();
     comparing.tally.print();
-    let tally = &comparing.tally;
-    println!(
-        "\n{} texts; answers due by the Rust {}, of them in a source that is not UTF-8 {},",
-        tally.texts,
-        tally.rust + tally.alone,
-        tally.alone
-    );
-    println!("by document 01 {}; left out of equality, where ours is 5, {}", tally.rules, tally.left_out);
-    for unseen in tally.unseen() {
-        println!("not seen: {unseen}");
-    }
-    let (all, seconds) = (tally.comparisons(), began.elapsed().as_secs());
+    counts(&comparing.tally);
+    let (all, seconds) = (comparing.tally.comparisons(), began.elapsed().as_secs());
     match outcome {
         Ok(()) => {
             println!("compared with the Rust original: {all} comparisons in {seconds} s, 0 different");
@@ -51,6 +42,28 @@ pub fn main() -> ExitCode {
             }
             ExitCode::FAILURE
         }
+    }
+}
+
+/// Who said what is due, how places were held, and what was not seen.
+fn counts(tally: &Tally) {
+    println!(
+        "\n{} texts; answers due by the Rust {}, of them in a source that is not UTF-8 {},",
+        tally.texts,
+        tally.rust + tally.alone,
+        tally.alone
+    );
+    println!("by document 01 {}; left out of equality, where ours is 5, {}", tally.rules, tally.left_out);
+    let places = &tally.places;
+    println!(
+        "places of what cannot be read {}: at a start {}, at a unit that the Rust reads up to and not past {}, at an unfinished end {}",
+        places.starts + places.units + places.ends,
+        places.starts,
+        places.units,
+        places.ends
+    );
+    for unseen in tally.unseen() {
+        println!("not seen: {unseen}");
     }
 }
 

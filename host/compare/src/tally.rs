@@ -1,5 +1,6 @@
 //! Counts what was compared, so that a reader sees that no part of it was empty.
 
+use crate::places::Places;
 use crate::question::{ALL, Question, Said};
 use crate::writer::Spelling;
 
@@ -30,6 +31,7 @@ pub struct Tally {
     pub alone: u64,
     pub rules: u64,
     pub left_out: u64,
+    pub places: Places,
 }
 
 #[derive(Clone, Copy)]

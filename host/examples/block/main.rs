@@ -4,8 +4,8 @@
 //! block FILE
 //! ```
 //!
-//! It says how many items the call had and how many of them were borrowed from the list, written into the buffer and refused; then which rows are refused and why, by their places in the list, and
-//! which products are doubled, with their lines. Lists are those of the example `keys`, which reads them row by row.
+//! It says how many items the call had and how many of them were borrowed from the list, written into the buffer and refused; then which rows are refused and why, by their places in the list, with
+//! a mark under the character where reading stops, and which products are doubled, with their lines. Lists are those of the example `keys`, which reads them row by row.
 //!
 //! The status is 0 if each row has a key, 1 if a row is refused, 2 if the list cannot be read or not just one is named.
 

@@ -21,8 +21,8 @@ pub fn read(list: &[u8]) -> Result<Reading<'_>, String> {
     let (mut answers, mut buffer) = (vec![Told::default(); items.len()], vec![0; list.len()]);
     let block = read_block_bytes(&items, list, &mut answers, &mut buffer).map_err(|why| why.to_string())?;
     let keys = block.iter().map(|text| text.map(Text::into_cow));
-    let rows = places.iter().zip(keys).map(|(place, key)| Row { line: place.line, key }).collect();
-    Ok(Reading { rows, used: block.used() })
+    let row = |(place, key): (&Place, _)| Row { line: place.line, text: &list[place.bytes.clone()], key };
+    Ok(Reading { rows: places.iter().zip(keys).map(row).collect(), used: block.used() })
 }
 
 fn item(place: &Place) -> Option<Item> {

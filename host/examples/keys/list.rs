@@ -4,9 +4,10 @@ use crate::places::{Place, places};
 use std::borrow::Cow;
 use valdrabus::{Error, Kind, Literal, Settings};
 
-/// A row: its line, counted from 1, and the key that its literal decodes to.
+/// A row: its line, counted from 1, its literal's text, and the key that this decodes to.
 pub struct Row<'s> {
     pub line: usize,
+    pub text: &'s [u8],
     pub key: Result<Cow<'s, [u8]>, Error>,
 }
 
@@ -16,7 +17,10 @@ pub fn rows(list: &[u8], settings: Settings) -> Result<Vec<Row<'_>>, String> {
     // No string's value is longer than its literal.
     let longest = places.iter().map(|place| place.bytes.len()).max();
     let mut buffer = vec![0; longest.unwrap_or(0)];
-    let row = |place: Place| Row { line: place.line, key: key(&list[place.bytes], place.settings, &mut buffer) };
+    let row = |place: Place| {
+        let text = &list[place.bytes];
+        Row { line: place.line, text, key: key(text, place.settings, &mut buffer) }
+    };
     Ok(places.into_iter().map(row).collect())
 }
 

@@ -14,6 +14,15 @@
 //! A control character of a key is shown as its number, `‹0A›`, and so is the mark itself, `‹2039›`: keys that differ look different. `--spell` shows each key as a literal that can be pasted into SQL,
 //! `E'a\nb'` or `U&'a\000Ab'`. A key with a control character from 7F to 9F hex, which E leaves as it is, is shown as U& by either. A key with a NUL, which neither can spell, is shown as without it, behind `no literal:`.
 //!
+//! A row that is no readable string is shown behind the refusal, control characters by their numbers, with a mark under the character where reading stops; of a long row the 40 characters before it and the 40
+//! from it on:
+//!
+//! ```text
+//!      2  refused: the text at 0..12 is not a readable string: reading stops at its byte 4 (number 6)
+//!         'Bob's balm'
+//!             ^
+//! ```
+//!
 //! The status is 0 if each row has a key, 1 if a row is refused, 2 if a list cannot be read.
 
 mod list;

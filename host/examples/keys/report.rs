@@ -16,7 +16,10 @@ pub enum Look {
     Unicode,
 }
 
-/// Each row's line and key, or why it has none.
+/// How many characters of a refused row are shown on each side of the place where reading stops: a terminal's line holds them.
+const SHOWN: usize = 40;
+
+/// Each row's line and key, or why it has none; then where reading stops, if it does inside the row.
 pub fn keys(rows: &[Row<'_>], look: Look) -> String {
     lines(rows.iter(), look)
 }
@@ -31,11 +34,23 @@ fn lines<'r>(rows: impl Iterator<Item = &'r Row<'r>>, look: Look) -> String {
     for row in rows {
         let said = match &row.key {
             Ok(key) => shown(key, look),
-            Err(error) => format!("refused: {error}"),
+            Err(error) => format!("refused: {error}{}", pointed_out(row.text, error.place()).unwrap_or_default()),
         };
         writeln!(text, "{:6}  {said}", row.line).expect("a String takes all");
     }
     text
+}
+
+/// Two lines more for a row that is refused at a place: what stands there and around it, and a mark under the character at the place. None where there is no such place.
+fn pointed_out(row: &[u8], place: Option<usize>) -> Option<String> {
+    let (before, behind) = std::str::from_utf8(row).ok()?.split_at_checked(place?)?;
+    let from = before.char_indices().nth_back(SHOWN - 1).map_or(0, |(at, _)| at);
+    let to = behind.char_indices().nth(SHOWN).map_or(behind.len(), |(at, _)| at);
+    let left_out = |some: bool| if some { "…" } else { "" };
+    let before = left_out(from > 0).to_owned() + &marked(&before.as_bytes()[from..]);
+    let behind = marked(&behind.as_bytes()[..to]) + left_out(to < behind.len());
+    let blanks = " ".repeat(before.chars().count());
+    Some(format!("\n{:8}{before}{behind}\n{:8}{blanks}^", "", ""))
 }
 
 /// The keys that stand in several rows, with their lines; then the counts.

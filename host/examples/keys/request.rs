@@ -13,6 +13,7 @@ keys [--backslash] [--doubles] [--spell escape|unicode] [--] [FILE ..]
   --           ends the options
   FILE         a list; - is standard input, which is read too where no FILE is given
 A list has a string literal on each line. A name in parts goes on one line, with a space for each line feed, if it holds none; else as E'..' or U&'..'.
+A row that is no readable string is shown with a mark, ^, under the character where reading stops.
 Status: 0 if each row has a key, 1 if a row is refused, 2 if a list cannot be read.";
 
 pub struct Request {

@@ -128,7 +128,7 @@ covers-covered t (gave n s (kept b r)) k l = refl
 covers-covered t (gave n s (gave m u r)) k l = k
 
 -- white space at the front of a text decides nothing of its UTF-8
-trim-utf8 : (r : List ℕ) → utf8 r ≡ utf8 (trim r)
+pub trim-utf8 : (r : List ℕ) → utf8 r ≡ utf8 (trim r)
 trim-utf8 r = ap utf8 (sym (take-append-drop (gap r) r)) ∙ utf8-append (take (gap r) r) (trim r) (gap-utf8 r)
 
 module _ (σ : Settings) where

@@ -134,5 +134,5 @@ module _ (σ : Settings) (u : List ℕ) (n k : ℕ) (v : List ℕ) (p : Bool) (o
       (subst (λ (x : ℕ). eqb (drop (suc n) u ! suc k) x ≡ false) q (m .alone)) refl in
       segmented (σ .backslash) eh s′
       (spelled.alone-unicode σ u n k o z (c .0) (c .1) e (d .0) (d .1)
-      ∙ body-answer f (unicode-fore quote (drop k (drop (suc n) u))) (suc n) (suc n + k))
-      (body-plain f (unicode-fore quote (drop k (drop (suc n) u))))
+      ∙ body-answer f (unicode-fore (backslash ∷ []) quote (drop k (drop (suc n) u))) (suc n) (suc n + k))
+      (body-plain f (unicode-fore (backslash ∷ []) quote (drop k (drop (suc n) u))))

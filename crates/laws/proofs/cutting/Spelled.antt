@@ -151,6 +151,14 @@ closing-stop h q d r = go (h && eqb d backslash) (eqb d q) refl
     go false true e g = eqb-true d q e
     go false false e g = absurd (subst Goes g tt)
 
+-- the search begins behind n bytes and passes k
+pub closing-at : (h : Bool) (q : ℕ) (u : List ℕ) (n k : ℕ) → stops (walk (closingStep h q) 0 (drop n u)) ≡ true
+    → size (walk (closingStep h q) 0 (drop n u)) ≡ k → u ! (n + k) ≡ q
+closing-at h q u n k st sz =
+    let s = stop-at (closingStep h q) 0 (drop n u) (true→T _ st) k (zero-add _ ∙ sz) in
+    let d : drop (n + k) u ≡ s .0 ∷ s .1 = sym (drop-drop k n u) ∙ s .2 in
+    ap (u !_) (sym (add-zero (n + k))) ∙ sym (getD-drop (n + k) u 0 0) ∙ ap (_! 0) d ∙ closing-stop h q (s .0) (s .1) (s .3)
+
 -- A SEGMENT ALONE. u is the text from its start on: suc n bytes open it, and its closing mark stands k bytes behind them
 abbrev pub segmentText : List ℕ → ℕ → ℕ → List ℕ
 segmentText u n k = take (suc n + k + 1) u
@@ -172,10 +180,7 @@ module _ (σ : Settings) (u : List ℕ) (n k : ℕ) (o : opening u ≡ suc n) (z
 
   -- the closing mark
   closes : u ! (suc n + k) ≡ u ! n
-  closes =
-      let s = stop-at (closingStep (hides σ u) (u ! n)) 0 (drop (suc n) u) (true→T _ st) k (zero-add _ ∙ sz) in
-      let d : drop (suc n + k) u ≡ s .0 ∷ s .1 = sym (drop-drop k (suc n) u) ∙ s .2 in
-      ap (u !_) (sym (add-zero (suc n + k))) ∙ sym (getD-drop (suc n + k) u 0 0) ∙ ap (_! 0) d ∙ closing-stop (hides σ u) (u ! n) (s .0) (s .1) (s .3)
+  closes = closing-at (hides σ u) (u ! n) u (suc n) k st sz
 
   text-length : length (segmentText u n k) ≡ suc n + k + 1
   text-length = length-take-le (suc n + k + 1) u room

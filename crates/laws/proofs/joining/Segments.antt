@@ -66,17 +66,17 @@ module _ (σ : Settings) where
             ih (e + gap (drop e t)),
           )
 
-  alone-meaning : (s : List ℕ) → Whole σ s → alone σ s ≡ meaning σ s
+  pub alone-meaning : (s : List ℕ) → Whole σ s → alone σ s ≡ meaning σ s
   alone-meaning s w = ap (valueOf s) (sym (lone σ s (w .all)))
 
-  values-same : (f g : List ℕ → Value) → ((s : List ℕ) → Whole σ s → f s ≡ g s) → (ss vs : List (List ℕ)) → Each (Whole σ) ss
+  pub values-same : (f g : List ℕ → Value) → ((s : List ℕ) → Whole σ s → f s ≡ g s) → (ss vs : List (List ℕ)) → Each (Whole σ) ss
       → Values f ss vs → Values g ss vs
   values-same f g e [] [] w h = tt
   values-same f g e [] (v ∷ vs) w h = h
   values-same f g e (s ∷ ss) [] w h = h
   values-same f g e (s ∷ ss) (v ∷ vs) w h = (sym (e s (w .0)) ∙ h .0, values-same f g e ss vs (w .1) (h .1))
 
-  continues-read : (t : List ℕ) → continues σ t ≡ true → read σ t ≡ asWritten (joined σ (cut σ t))
+  pub continues-read : (t : List ℕ) → continues σ t ≡ true → read σ t ≡ asWritten (joined σ (cut σ t))
   unfolding read
   continues-read t c = rw c
 
@@ -106,7 +106,7 @@ accepted-of σ [] vs h = tt
 accepted-of σ (s ∷ ss) [] h = absurd h
 accepted-of σ (s ∷ ss) (v ∷ vs) h = ((v, h .0), accepted-of σ ss vs (h .1))
 
-values-of : (σ : Settings) (ss : List (List ℕ)) → Each (Accepted σ) ss → (vs : List (List ℕ)) × Values (meaning σ) ss vs
+pub values-of : (σ : Settings) (ss : List (List ℕ)) → Each (Accepted σ) ss → (vs : List (List ℕ)) × Values (meaning σ) ss vs
 values-of σ [] a = ([], tt)
 values-of σ (s ∷ ss) a = let r = values-of σ ss (a .1) in (a .0 .0 ∷ r .0, (a .0 .1, r .1))
 

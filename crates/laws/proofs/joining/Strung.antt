@@ -1,13 +1,14 @@
--- Given segments strung together, white space between each two, and white space or nothing behind the last: the cut is exactly these (`segments-cut`), so
--- document 01's rule for complete texts holds of them (`segments-means`, `segments-accepted`, `segments-written`, `segments-question`). Assumes nothing.
+-- Given segments strung together, white space between each two: the cut is these, and then the cut of what follows (`strung-cut`). Where only white space or
+-- nothing follows, it is exactly these (`segments-cut`), so document 01's rule for complete texts holds of them (`segments-means`, `segments-accepted`,
+-- `segments-written`, `segments-question`). Assumes nothing.
 use mathlib.Core.Logic.{_↔_}
 use mathlib.Core.Path.{_≡_, refl, ap, _∙_}
 use mathlib.Core.Bool.{true, false}
 use mathlib.Core.List.{List, [], _∷_, _++_, map, flatten}
 use Prim.Native.Nat.{ℕ, pred, _+_, _≤_}
 use native.Mathlib.Omega.{arith}
-use lib.ListN.{length, drop}
-use lib.Seq.{take-append-seam, drop-append-seam, drop-append-add, drop-length}
+use lib.ListN.{length, take, drop}
+use lib.Seq.{take-append-seam, drop-append-seam, drop-append-add, drop-length, take-length, length-take-le}
 use Rattle.meaning.specs.declared.Settings.{Settings}
 use Rattle.meaning.specs.declared.Literal.{Literal}
 use Rattle.meaning.specs.declared.Text.the-variants.{Written}
@@ -20,14 +21,15 @@ use Rattle.meaning.specs.Reading.{means, meaning}
 use Rattle.meaning.specs.Steps.{gap, trim}
 use Rattle.meaning.specs.Walk.{Trace, ended, gave, walk}
 use Rattle.laws.proofs.questions.Asked.{Spans}
-use Rattle.laws.proofs.cutting.Gaps.{gap-append}
+use Rattle.laws.proofs.cutting.Gaps.{gap-append, gap-fits}
 use Rattle.laws.proofs.joining.Joining.{White, white-head, segment-solid}
 use Rattle.laws.proofs.joining.JoiningLaw.{Gap}
 use Rattle.laws.proofs.cutting.Openings.{segment-extend, mark-0}
 use Rattle.laws.proofs.cutting.Cuts.{segmentsOf, covered, Each, Values, complete-covered}
 use Rattle.laws.proofs.joining.Segments.{Whole, Accepted, AllAccepted, Several}
 use Rattle.laws.proofs.joining.Segments as Rule
-use Rattle.laws.proofs.walking.Walks.{walk-drop}
+use Rattle.laws.proofs.walking.Walks.{walk-drop, graft}
+use Rattle.laws.proofs.walking.Courses.{graft-ended}
 
 -- behind the first segment, each with the white space before it
 pub record Further (σ : Settings) : Type 0 where
@@ -51,16 +53,16 @@ abbrev pub cutOf : {σ : Settings} → List ℕ → List (Further σ) → List �
 cutOf s [] tail = gave (pred (length s) + length tail) s ended
 cutOf s (p ∷ ps) tail = gave (pred (length s) + length (p .gap)) s (cutOf (p .text) ps tail)
 
-cutOf-segments : {σ : Settings} (s : List ℕ) (ps : List (Further σ)) (tail : List ℕ) → segmentsOf (cutOf s ps tail) ≡ segments s ps
+pub cutOf-segments : {σ : Settings} (s : List ℕ) (ps : List (Further σ)) (tail : List ℕ) → segmentsOf (cutOf s ps tail) ≡ segments s ps
 cutOf-segments s [] tail = refl
 cutOf-segments s (p ∷ ps) tail = ap (s ∷_) (cutOf-segments (p .text) ps tail)
 
-cutOf-covered : {σ : Settings} (s : List ℕ) (ps : List (Further σ)) (tail : List ℕ) → covered (cutOf s ps tail) ≡ true
+pub cutOf-covered : {σ : Settings} (s : List ℕ) (ps : List (Further σ)) (tail : List ℕ) → covered (cutOf s ps tail) ≡ true
 cutOf-covered s [] tail = refl
 cutOf-covered s (p ∷ ps) tail = cutOf-covered (p .text) ps tail
 
 -- no mark stands behind a segment
-gap-mark : (g r : List ℕ) → Gap g → isMark ((g ++ r) ! 0) ≡ false
+pub gap-mark : (g r : List ℕ) → Gap g → isMark ((g ++ r) ! 0) ≡ false
 gap-mark [] r w = absurd (omega arith)
 gap-mark (b ∷ g) r w = white-head b g (w .white)
 
@@ -70,7 +72,7 @@ tail-mark (b ∷ g) w = white-head b g w
 
 module _ (σ : Settings) where
   -- a segment, and a text behind it that begins with no mark
-  cut-first : (s r : List ℕ) → Whole σ s → isMark (r ! 0) ≡ false
+  pub cut-first : (s r : List ℕ) → Whole σ s → isMark (r ! 0) ≡ false
       → cut σ (s ++ r) ≡ gave (pred (length s) + gap r) s (cut σ (trim r))
   unfolding cut segmentStep
   cut-first [] r w m = absurd (omega arith)
@@ -79,18 +81,24 @@ module _ (σ : Settings) where
       (ap (gave (length s + gap r) (b ∷ s))
       (walk-drop (segmentStep σ) (length s + gap r) (s ++ r) ∙ ap (walk (segmentStep σ) 0) (drop-append-add s r (gap r))))
 
-  gap-ends : (g s r : List ℕ) → Gap g → Whole σ s → gap (g ++ (s ++ r)) ≡ length g
+  pub gap-ends : (g s r : List ℕ) → Gap g → Whole σ s → gap (g ++ (s ++ r)) ≡ length g
   gap-ends g [] r w v = absurd (omega arith)
   gap-ends g (b ∷ s) r w v = gap-append g (w .white) b (s ++ r) (segment-solid σ b s (length s) (v .all) (s ++ r))
 
-  -- the cut is exactly these segments
-  pub segments-cut : (s : List ℕ) (ps : List (Further σ)) (tail : List ℕ) → Whole σ s → White tail → cut σ (strung s ps tail) ≡ cutOf s ps tail
-  unfolding cut
-  segments-cut s [] tail w z = cut-first s tail w (tail-mark tail z) ∙ rw (z, drop-length tail)
-  segments-cut s (p ∷ ps) tail w z =
+  -- the cut is these segments, and behind them the cut of what follows, any text that begins with no mark: the white space at its front belongs to the last
+  pub strung-cut : (s : List ℕ) (ps : List (Further σ)) (tail : List ℕ) → Whole σ s → isMark (tail ! 0) ≡ false
+      → cut σ (strung s ps tail) ≡ graft (cutOf s ps (take (gap tail) tail)) (cut σ (trim tail))
+  strung-cut s [] tail w m = rw (length-take-le (gap tail) tail (gap-fits tail)) (cut-first s tail w m)
+  strung-cut s (p ∷ ps) tail w m =
       cut-first s (behind (p ∷ ps) tail) w (gap-mark (p .gap) (p .text ++ behind ps tail) (p .white))
       ∙ rw (gap-ends (p .gap) (p .text) (behind ps tail) (p .white) (p .whole), drop-append-seam (p .gap) (p .text ++ behind ps tail))
-      (ap (gave (pred (length s) + length (p .gap)) s) (segments-cut (p .text) ps tail (p .whole) z))
+      (ap (gave (pred (length s) + length (p .gap)) s) (strung-cut (p .text) ps tail (p .whole) m))
+
+  -- where only white space follows, exactly these segments
+  pub segments-cut : (s : List ℕ) (ps : List (Further σ)) (tail : List ℕ) → Whole σ s → White tail → cut σ (strung s ps tail) ≡ cutOf s ps tail
+  unfolding cut
+  segments-cut s ps tail w z =
+      strung-cut s ps tail w (tail-mark tail z) ∙ rw (z, drop-length tail, take-length tail) (graft-ended (cutOf s ps tail))
 
 -- THE RULE of two or more such segments, the second beginning with a quote mark
 module _ (σ : Settings) (s : List ℕ) (p : Further σ) (ps : List (Further σ)) (tail : List ℕ)

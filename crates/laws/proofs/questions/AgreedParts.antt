@@ -15,7 +15,7 @@ use Rattle.meaning.specs.declared.Span.{Span}
 use Rattle.meaning.specs.declared.Literal.{Literal}
 use Rattle.meaning.specs.declared.LiteralExpected.{LiteralExpected}
 use Rattle.meaning.specs.declared.Refusal.{Refusal}
-use Rattle.meaning.specs.declared.Refusal.the-variants.{WrongKind, MissingSource, InvalidSourceRange, NotUtf8, InvalidString, InvalidMoney}
+use Rattle.meaning.specs.declared.Refusal.the-variants.{WrongKind, MissingSource, InvalidSourceRange, NotUtf8, InvalidMoney}
 use Rattle.meaning.specs.declared.Range.{Range}
 use Rattle.meaning.specs.declared.Range.the-variants as Range′
 use Rattle.meaning.specs.declared.Charset.{Charset}
@@ -96,7 +96,7 @@ module _ (l : Literal) (S : List ℕ) (fits : Bounds (length S) (l .span .start)
   source-in : RangeIn (l .span) (sourceQuestion l S)
   unfolding sourceQuestion
   source-in =
-      source-either (λ x. RangeIn (l .span) (ranged (λ t. borrowed 0 (length t)) InvalidString l x)) (text-within 0 (length text) (omega arith)) (λ w. tt)
+      source-either (λ x. RangeIn (l .span) (ranged (λ t. borrowed 0 (length t)) NotUtf8 l x)) (text-within 0 (length text) (omega arith)) (λ w. tt)
 
   money-in : RangeIn (l .span) (moneyQuestion l S)
   unfolding moneyQuestion money

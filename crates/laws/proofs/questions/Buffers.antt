@@ -93,7 +93,7 @@ module _ (v out : List ℕ) where
   leaves-by P yes′ no′ f g true h = f (filled v out) (filled-room h)
   leaves-by P yes′ no′ f g false h = subst (P no′) (sym (filled-short h)) g
 
-pub toldAs-leaves : (bad : Refusal) (s : ℕ) (out : List ℕ) (a : Answer) → TextLeaves out (toldAs bad s out a .answer) (toldAs bad s out a .buffer)
+pub toldAs-leaves : (bad : ℕ → Refusal) (s : ℕ) (out : List ℕ) (a : Answer) → TextLeaves out (toldAs bad s out a .answer) (toldAs bad s out a .buffer)
 toldAs-leaves bad s out (borrowed f u) = refl
 toldAs-leaves bad s out (written v) =
     leaves-by v out (λ (r : Text). TextLeaves out r) (Text′.Written (length v)) (Text′.Refused (NoRoom (length v))) (λ d h. h) refl
@@ -101,7 +101,7 @@ toldAs-leaves bad s out (written v) =
 toldAs-leaves bad s out (refused p) = refl
 
 -- every question that answers a text
-pub told-leaves : (f : List ℕ → Answer) (bad : Span → Refusal) (l : Literal) (out : List ℕ) (t : Tested)
+pub told-leaves : (f : List ℕ → Answer) (bad : Span → ℕ → Refusal) (l : Literal) (out : List ℕ) (t : Tested)
     → TextLeaves out (told f bad l out t .answer) (told f bad l out t .buffer)
 told-leaves f bad l out (passes t) = toldAs-leaves (bad (l .span)) (l .span .start) out (f t)
 told-leaves f bad l out (barred r) = refl
@@ -114,12 +114,12 @@ module _ (l : Literal) (S out : List ℕ) where
 
   pub decimalQuestion-leaves : TextLeaves out (decimalQuestion l S out .answer) (decimalQuestion l S out .buffer)
   unfolding decimalQuestion
-  decimalQuestion-leaves = told-leaves decimalOf InvalidInteger l out (tested (isNumber (l .kind)) Expected.DecimalText l S)
+  decimalQuestion-leaves = told-leaves decimalOf (λ s p. InvalidInteger s) l out (tested (isNumber (l .kind)) Expected.DecimalText l S)
 
   pub bitsQuestion-leaves : TextLeaves out (bitsQuestion l S out .answer) (bitsQuestion l S out .buffer)
   unfolding bitsQuestion
   bitsQuestion-leaves =
-      told-leaves (bits off (bitBase (l .kind))) InvalidBitString l out (tested (ltb 0 (bitBase (l .kind))) Expected.BitString l S)
+      told-leaves (bits off (bitBase (l .kind))) (λ s p. InvalidBitString s) l out (tested (ltb 0 (bitBase (l .kind))) Expected.BitString l S)
 
   pub temporalQuestion-leaves : TextLeaves out (temporalQuestion l S out .answer) (temporalQuestion l S out .buffer)
   unfolding temporalQuestion

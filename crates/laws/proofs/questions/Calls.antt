@@ -61,7 +61,7 @@ pub record WriterCall (σ : Settings) (size : PartSize) (v : List ℕ) : Type 0 
   pub contract : Meets (writeQuestion σ size v lent) result after
 
 -- what a call showed is what its text means
-call-accepts : {σ : Settings} {t v : List ℕ} (c : StringCall σ t) → Shows c v → Accepts σ t v
+pub call-accepts : {σ : Settings} {t v : List ℕ} (c : StringCall σ t) → Shows c v → Accepts σ t v
 call-accepts {σ} {t} {v} c s =
     let n : textNumber (stringQuestion (c .literal) (c .source) σ (c .lent) .answer) ≡ 0 = rw (c .contract .answer) at (s .number) in
     let w = answered-accepts (c .literal) (c .source) t σ (c .lent) (c .kind) (c .spans) n in

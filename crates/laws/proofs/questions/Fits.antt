@@ -27,29 +27,30 @@ use Rattle.meaning.specs.Questions.{passes, barred, badSpan, sourceText, tested
 use Rattle.meaning.specs.Codes.{literalOf, settingsOf}
 use Rattle.meaning.specs.Blocks.{itemsOf, numbersOf, four, refusedFour, fourOf, Asked, itemQuestion, itemAsked, blockAt, badBlock, blockCall}
 use Rattle.laws.proofs.walking.Short.{read-length}
+use Rattle.laws.proofs.places.Whole.{read-end}
 use Rattle.laws.proofs.cutting.Gaps.{AllP, all-append, all-drop}
 use Rattle.laws.proofs.questions.Buffers.{filled-length}
 use Rattle.laws.proofs.questions.Items.{item-either, item-filled, refused-told}
 use Rattle.laws.proofs.questions.BlockCalls.{good-admitted, call-bad, call-answers}
 use Rattle.laws.proofs.questions.Ranges.{Bounds, AnswerIn, read-inside, span-range}
 
--- WHAT EACH CASE OF AN ANSWER SAYS, in a span that ends at e and a buffer of m bytes; a refusal of the length that it needs
+-- WHAT EACH CASE OF AN ANSWER SAYS, in a span that ends at e and a buffer of m bytes; a refusal of its place, or of the length that it needs
 abbrev pub TextFits : ℕ → ℕ → Text → Type 0
 TextFits e m (Text′.Borrowed f u) = Bounds e f u
 TextFits e m (Text′.Written n) = n ≤ m
-TextFits e m (Text′.Refused r) = refusedFour r .len ≤ e
+TextFits e m (Text′.Refused r) = refusedFour r .start + refusedFour r .len ≤ e
 
 -- a reading of the n bytes that begin at s
 told-fits : (sp : Span) (s e n : ℕ) (out : List ℕ) → s + n ≤ e → (a : Answer) → AnswerIn n a → ((v : List ℕ) → a ≡ written v → length v + 2 ≤ n)
-    → TextFits e (length out) (toldAs (InvalidString sp) s out a .answer)
-told-fits sp s e n out h (borrowed f u) b w = record { ordered = omega arith; inside = omega arith }
-told-fits sp s e n out h (written v) b w = go (leb (length v) (length out)) refl
+    → ((p : ℕ) → a ≡ refused p → p ≤ n) → TextFits e (length out) (toldAs (InvalidString sp) s out a .answer)
+told-fits sp s e n out h (borrowed f u) b w x = record { ordered = omega arith; inside = omega arith }
+told-fits sp s e n out h (written v) b w y = go (leb (length v) (length out)) refl
   where
     go : (x : Bool) → leb (length v) (length out) ≡ x
         → TextFits e (length out) (if x then Text′.Written (length v) else Text′.Refused (NoRoom (length v)))
     go true l = leb-true (length v) (length out) l
     go false l = omega (arith, w v refl)
-told-fits sp s e n out h (refused p) b w = omega arith
+told-fits sp s e n out h (refused p) b w x = omega (arith, x p refl)
 
 pub string-fits : (l : Literal) (S : List ℕ) (σ : Settings) (out : List ℕ) → TextFits (l .span .end) (length out) (stringQuestion l S σ out .answer)
 unfolding stringQuestion tested sourceText
@@ -75,7 +76,7 @@ string-fits l S σ out = go (isString (l .kind)) (l .synthetic) (badSpan (l .spa
     go true false false false h = omega arith
     go true false false true h =
         told-fits (l .span) (l .span .start) (l .span .end) (length text) out (fits (span-range (l .span) S h)) (read σ text) (read-inside σ text)
-        (λ v. read-length σ text v)
+        (λ v. read-length σ text v) (λ p. read-end σ text p)
 
 -- WHAT IS TOLD OF AN ITEM, where 32 bits hold the span's end and the buffer's: also where a text ends
 pub record Small (f : Four) : Type 0 where
@@ -89,26 +90,26 @@ refusal-below (MissingSource s) = omega arith
 refusal-below (InvalidSourceRange s) = omega arith
 refusal-below (NotUtf8 s) = omega arith
 refusal-below (InvalidInteger s) = omega arith
-refusal-below (InvalidString s) = omega arith
+refusal-below (InvalidString s p) = omega arith
 refusal-below (InvalidBitString s) = omega arith
 refusal-below (InvalidMoney s) = omega arith
 refusal-below (NoRoom n) = omega arith
 
-refused-small : (n k : ℕ) → n ≤ 10 → k < 2 ^ 32 → Small (four n 0 0 k)
-refused-small n k h l = record { number = omega arith; how = omega arith; range = omega arith }
+refused-small : (n p k : ℕ) → n ≤ 10 → p + k < 2 ^ 32 → Small (four n 0 p k)
+refused-small n p k h l = record { number = omega arith; how = omega arith; range = omega arith }
 
 text-small : (e m used : ℕ) → e < 2 ^ 32 → used + m < 2 ^ 32 → (a : Text) → TextFits e m a → Small (fourOf used a)
 text-small e m used h r (Text′.Borrowed f u) b = record { number = omega arith; how = omega arith; range = omega arith }
 text-small e m used h r (Text′.Written n) b = record { number = omega arith; how = omega arith; range = omega arith }
 text-small e m used h r (Text′.Refused x) b =
-    subst Small (sym (refused-told x)) (refused-small (refusalNumber x) (refusedFour x .len) (omega (arith, refusal-below x)) (omega arith))
+    subst Small (sym (refused-told x)) (refused-small (refusalNumber x) (refusedFour x .start) (refusedFour x .len) (omega (arith, refusal-below x)) (omega arith))
 
 pub item-fits : (S : List ℕ) (used : ℕ) (room : List ℕ) (i : Item) → i .end < 2 ^ 32 → used + length room < 2 ^ 32 → Small (itemAsked S used room i .told)
 item-fits S used room i h r =
     item-either S used room i (λ (a : Asked). Small (a .told))
     (text-small (i .end) (length room) used h r (itemQuestion S room i .answer)
     (string-fits (literalOf (i .kind) 0 (i .start) (i .end)) S (settingsOf (i .setting)) room))
-    (refused-small 10 0 (omega arith) (omega arith))
+    (refused-small 10 0 0 (omega arith) (omega arith))
 
 -- OF ALL ITEMS
 abbrev pub EndsFit : List Item → Type 0

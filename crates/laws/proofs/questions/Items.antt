@@ -57,14 +57,14 @@ item-filled S used room i =
     (stringQuestion-leaves (literalOf (i .kind) 0 (i .start) (i .end)) S room (settingsOf (i .setting))))
     (record { value = []; size = refl; room = omega arith; bytes = refl })
 
--- a refusal's four: its number, and a length at the most
-pub refused-told : (r : Refusal) → refusedFour r ≡ four (refusalNumber r) 0 0 (refusedFour r .len)
+-- a refusal's four: its number, a place or a length
+pub refused-told : (r : Refusal) → refusedFour r ≡ four (refusalNumber r) 0 (refusedFour r .start) (refusedFour r .len)
 refused-told (WrongKind e k) = refl
 refused-told (MissingSource s) = refl
 refused-told (InvalidSourceRange s) = refl
 refused-told (NotUtf8 s) = refl
 refused-told (InvalidInteger s) = refl
-refused-told (InvalidString s) = refl
+refused-told (InvalidString s p) = refl
 refused-told (InvalidBitString s) = refl
 refused-told (InvalidMoney s) = refl
 refused-told (NoRoom n) = refl

@@ -210,7 +210,7 @@ RoomFor (borrowed f u) out = Unit {0}
 RoomFor (written v) out = length v ≤ length out
 RoomFor (refused p) out = Unit {0}
 
-told-answered : (bad : Refusal) (s e : ℕ) (S out v : List ℕ) → Bounds (length S) s e → (a : Answer) → RoomFor a out
+told-answered : (bad : ℕ → Refusal) (s e : ℕ) (S out v : List ℕ) → Bounds (length S) s e → (a : Answer) → RoomFor a out
     → AnswerIn (length (part s e S)) a → valueOf (part s e S) a ≡ means v → Answered S v (toldAs bad s out a)
 told-answered bad s e S out v r (borrowed f u) h i m =
     let n : length (part s e S) ≤ length S - s = rw (length-take, length-drop) (omega arith) in

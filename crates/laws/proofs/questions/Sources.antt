@@ -7,7 +7,7 @@ use Prim.Native.Nat.{ℕ}
 use Rattle.meaning.specs.declared.Settings.{Settings}
 use Rattle.meaning.specs.declared.LiteralExpected.{LiteralExpected}
 use Rattle.meaning.specs.declared.Literal.{Literal}
-use Rattle.meaning.specs.declared.Refusal.the-variants.{InvalidString, InvalidInteger, InvalidBitString, InvalidMoney}
+use Rattle.meaning.specs.declared.Refusal.the-variants.{NotUtf8, InvalidString, InvalidInteger, InvalidBitString, InvalidMoney}
 use Rattle.meaning.specs.Bytes.{part}
 use Rattle.meaning.specs.Cutting.{off}
 use Rattle.meaning.specs.Reading.{read}
@@ -39,11 +39,11 @@ module _ (l : Literal) (S S′ : List ℕ) (a : Agree l S S′) where
 
   pub decimalQuestion-same : (out : List ℕ) → decimalQuestion l S out ≡ decimalQuestion l S′ out
   unfolding decimalQuestion
-  decimalQuestion-same out = ap (told decimalOf InvalidInteger l out) (tested-same _ _)
+  decimalQuestion-same out = ap (told decimalOf (λ s p. InvalidInteger s) l out) (tested-same _ _)
 
   pub bitsQuestion-same : (out : List ℕ) → bitsQuestion l S out ≡ bitsQuestion l S′ out
   unfolding bitsQuestion
-  bitsQuestion-same out = ap (told (bits off (bitBase (l .kind))) InvalidBitString l out) (tested-same _ _)
+  bitsQuestion-same out = ap (told (bits off (bitBase (l .kind))) (λ s p. InvalidBitString s) l out) (tested-same _ _)
 
   pub temporalQuestion-same : (out : List ℕ) → temporalQuestion l S out ≡ temporalQuestion l S′ out
   unfolding temporalQuestion
@@ -51,7 +51,7 @@ module _ (l : Literal) (S S′ : List ℕ) (a : Agree l S S′) where
 
   pub sourceQuestion-same : sourceQuestion l S ≡ sourceQuestion l S′
   unfolding sourceQuestion
-  sourceQuestion-same = ap (ranged _ InvalidString l) sourceText-same
+  sourceQuestion-same = ap (ranged _ NotUtf8 l) sourceText-same
 
   pub moneyQuestion-same : moneyQuestion l S ≡ moneyQuestion l S′
   unfolding moneyQuestion

@@ -12,7 +12,7 @@ use Rattle.meaning.specs.declared.LiteralKind.{LiteralKind}
 use Rattle.meaning.specs.declared.LiteralExpected.{LiteralExpected}
 use Rattle.meaning.specs.declared.LiteralExpected.the-variants as Expected
 use Rattle.meaning.specs.declared.Literal.{Literal}
-use Rattle.meaning.specs.declared.Refusal.the-variants.{MissingSource, InvalidSourceRange, NotUtf8, InvalidString, InvalidMoney}
+use Rattle.meaning.specs.declared.Refusal.the-variants.{MissingSource, InvalidSourceRange, NotUtf8, InvalidMoney}
 use Rattle.meaning.specs.Bytes.{if_then_else_, _!_, part}
 use Rattle.meaning.specs.Chars.{utf8}
 use Rattle.meaning.specs.Walk.{Trace, walk, size, stops}
@@ -81,7 +81,7 @@ pub source-number : (l : Literal) (S : List ℕ) → rangeNumber (sourceQuestion
 unfolding sourceQuestion
 source-number l S = go (sourceText l S) (sourceText-bars l S)
   where
-    go : (x : Tested) → BarsBy4 x → rangeNumber (ranged (λ t. borrowed 0 (length t)) InvalidString l x) ≤ 4
+    go : (x : Tested) → BarsBy4 x → rangeNumber (ranged (λ t. borrowed 0 (length t)) NotUtf8 l x) ≤ 4
     go (passes t) h = omega arith
     go (barred r) h = h
 

@@ -2,7 +2,7 @@
 use mathlib.Core.Path.{_≡_, refl, ap, _∙_}
 use mathlib.Core.Bool.{Bool, true, false, _&&_}
 use mathlib.Core.List.{List, [], _∷_, _++_}
-use Prim.Native.Nat.{ℕ, zero, suc, _+_, _*_, _%_, _≤_}
+use Prim.Native.Nat.{ℕ, zero, suc, _+_, _-_, _*_, _%_, _≤_}
 use Prim.Native.Char.{code}
 use native.Mathlib.Omega.{arith}
 use lib.Dec.{eqb, ltb}
@@ -173,56 +173,100 @@ escape-fore r b t =
     choose (eqb b backslash) (eqb b quote) (escaped t) (escaped (t ++ r)) (doubled quote t) (doubled quote (t ++ r)) (length t) (escaped-fore t r)
     (doubled-fore quote t r)
 
--- U&
-low-inside : (h : ℕ) (t : List ℕ) (n : ℕ) → Inside (lowHalf (backslash ∷ []) h t) n → 9 ≤ n
-unfolding lowHalf
-low-inside h t n i =
-    given (starts (backslash ∷ []) t && eqb (digits 16 4 (drop 1 t)) 4 && within 0xDC00 0xDFFF (number 16 4 0 (drop 1 t))) 9
-    (encode (pair h (number 16 4 0 (drop 1 t)))) n i
+-- U&, with the escape character's bytes e. What begins a text begins its front, where that is long enough, and what does not begin the text begins no front
+starts-fore : (e t r : List ℕ) → length e ≤ length t → starts e t ≡ starts e (t ++ r)
+starts-fore [] t r h = refl
+starts-fore (c ∷ e) [] r h = absurd (omega arith)
+starts-fore (c ∷ e) (b ∷ t) r h = ap (eqb c b &&_) (starts-fore e t r (omega arith))
 
-low-same : (h : ℕ) (t r : List ℕ) → 5 ≤ length t → lowHalf (backslash ∷ []) h t ≡ lowHalf (backslash ∷ []) h (t ++ r)
+starts-less : (e t r : List ℕ) → starts e (t ++ r) ≡ false → starts e t ≡ false
+starts-less [] t r h = h
+starts-less (c ∷ e) [] r h = refl
+starts-less (c ∷ e) (b ∷ t) r h = go (eqb c b) h (starts-less e t r)
+  where
+    go : (x : Bool) → (x && starts e (t ++ r)) ≡ false → (starts e (t ++ r) ≡ false → starts e t ≡ false) → (x && starts e t) ≡ false
+    go true g ih = ih g
+    go false g ih = refl
+
+low-inside : (e : List ℕ) (h : ℕ) (t : List ℕ) (n : ℕ) → Inside (lowHalf e h t) n → length e + length e + 7 ≤ n
 unfolding lowHalf
-low-same h [] r l = absurd (omega arith)
-low-same h (c ∷ t) r l = rw (digits-fore 16 4 t r (omega (arith, digits-le 16 4 (t ++ r))), number-fore 16 4 0 t r (omega arith))
+low-inside e h t n i =
+    given (starts e t && eqb (digits 16 4 (drop (length e) t)) 4 && within 0xDC00 0xDFFF (number 16 4 0 (drop (length e) t))) (length e + length e + 7)
+    (encode (pair h (number 16 4 0 (drop (length e) t)))) n i
+
+low-same : (e : List ℕ) (h : ℕ) (t r : List ℕ) → length e + 4 ≤ length t → lowHalf e h t ≡ lowHalf e h (t ++ r)
+unfolding lowHalf
+low-same e h t r l =
+    let d = drop (length e) t in
+    rw (
+      starts-fore e t r (omega arith),
+      drop-append-le (length e) t r (omega arith),
+      digits-fore 16 4 d r (omega (arith, digits-le 16 4 (d ++ r), length-drop (length e) t)),
+      number-fore 16 4 0 d r (omega (arith, length-drop (length e) t)),
+    )
 
 -- four digits, of a high half or a scalar
-abbrev fourBy : Bool → List ℕ → Step
-fourBy z t = if z then lowHalf (backslash ∷ []) (number 16 4 0 t) (drop 4 t) else scalarBy 4 4 t
+abbrev fourBy : List ℕ → Bool → List ℕ → Step
+fourBy e z t = if z then lowHalf e (number 16 4 0 t) (drop 4 t) else scalarBy 4 (length e + 3) t
 
 abbrev highHalf : List ℕ → Bool
 highHalf t = eqb (digits 16 4 t) 4 && within 0xD800 0xDBFF (number 16 4 0 t)
 
-four-inside : (z : Bool) (t : List ℕ) (n : ℕ) → Inside (fourBy z t) n → 4 ≤ n
-four-inside true t n i = omega (arith, low-inside (number 16 4 0 t) (drop 4 t) n i)
-four-inside false t n i = scalar-inside 4 4 t n i
+four-inside : (e : List ℕ) (z : Bool) (t : List ℕ) (n : ℕ) → Inside (fourBy e z t) n → length e + 3 ≤ n
+four-inside e true t n i = omega (arith, low-inside e (number 16 4 0 t) (drop 4 t) n i)
+four-inside e false t n i = scalar-inside 4 (length e + 3) t n i
 
-four-fore : (t r : List ℕ) → Inside (fourBy (highHalf (t ++ r)) (t ++ r)) (length t) → fourBy (highHalf t) t ≡ fourBy (highHalf (t ++ r)) (t ++ r)
-four-fore t r i =
-    let h : 4 ≤ length t = four-inside (highHalf (t ++ r)) (t ++ r) (length t) i in
+-- whatever stands behind the escape, the escape is inside
+uescaped-inside : (e t : List ℕ) (n : ℕ) → Inside (uescaped e t) n → length e ≤ suc n
+unfolding uescaped
+uescaped-inside e t n i = go (starts e t) (eqb (t ! 0) (code "+")) i
+  where
+    go : (x y : Bool)
+        → Inside (if x then give (length e + length e - 1) e else if y then scalarBy 6 (length e + 6) (drop 1 t) else fourBy e (highHalf t) t) n
+        → length e ≤ suc n
+    go true y i = omega arith
+    go false true i = omega (arith, scalar-inside 6 (length e + 6) (drop 1 t) n i)
+    go false false i = omega (arith, four-inside e (highHalf t) t n i)
+
+-- t stands behind the escape, with n bytes behind the escape's first
+four-fore : (e t r : List ℕ) (n : ℕ) → length e + length t ≡ suc n → Inside (fourBy e (highHalf (t ++ r)) (t ++ r)) n
+    → fourBy e (highHalf t) t ≡ fourBy e (highHalf (t ++ r)) (t ++ r)
+four-fore e t r n there i =
+    let h : 4 ≤ length t = omega (arith, four-inside e (highHalf (t ++ r)) (t ++ r) n i) in
     rw (digits-fore 16 4 t r (omega (arith, digits-le 16 4 (t ++ r))), number-fore 16 4 0 t r h) (go (highHalf (t ++ r)) h i)
   where
-    go : (z : Bool) → 4 ≤ length t → Inside (fourBy z (t ++ r)) (length t)
-        → (if z then lowHalf (backslash ∷ []) (number 16 4 0 (t ++ r)) (drop 4 t) else scalarBy 4 4 t) ≡ fourBy z (t ++ r)
+    go : (z : Bool) → 4 ≤ length t → Inside (fourBy e z (t ++ r)) n
+        → (if z then lowHalf e (number 16 4 0 (t ++ r)) (drop 4 t) else scalarBy 4 (length e + 3) t) ≡ fourBy e z (t ++ r)
     go true h i =
         rw (drop-append-le 4 t r h)
-        (low-same (number 16 4 0 (t ++ r)) (drop 4 t) r (omega (arith, length-drop 4 t, low-inside (number 16 4 0 (t ++ r)) (drop 4 (t ++ r)) (length t) i)))
-    go false h i = scalar-same 4 4 t r h
+        (low-same e (number 16 4 0 (t ++ r)) (drop 4 t) r (omega (arith, length-drop 4 t, low-inside e (number 16 4 0 (t ++ r)) (drop 4 (t ++ r)) n i)))
+    go false h i = scalar-same 4 (length e + 3) t r h
 
-uescaped-fore : (t r : List ℕ) → Inside (uescaped (backslash ∷ []) (t ++ r)) (length t) → uescaped (backslash ∷ []) t ≡ uescaped (backslash ∷ []) (t ++ r)
+uescaped-fore : (e t r : List ℕ) (n : ℕ) → length e + length t ≡ suc n → Inside (uescaped e (t ++ r)) n → uescaped e t ≡ uescaped e (t ++ r)
 unfolding uescaped
-uescaped-fore t r i = go t (starts (backslash ∷ []) (t ++ r)) (eqb ((t ++ r) ! 0) (code "+")) refl refl i
+uescaped-fore e t r n there i = go t (starts e (t ++ r)) (eqb ((t ++ r) ! 0) (code "+")) there refl refl i
   where
-    go : (t : List ℕ) (x y : Bool) → starts (backslash ∷ []) (t ++ r) ≡ x → eqb ((t ++ r) ! 0) (code "+") ≡ y
-        → Inside (if x then give 1 (backslash ∷ []) else if y then scalarBy 6 7 (drop 1 (t ++ r)) else fourBy (highHalf (t ++ r)) (t ++ r)) (length t)
-        → uescaped (backslash ∷ []) t ≡ uescaped (backslash ∷ []) (t ++ r)
-    go [] true y ex ey i = absurd (omega arith)
-    go [] false true ex ey i = absurd (omega (arith, scalar-inside 6 7 (drop 1 r) 0 i))
-    go [] false false ex ey i = absurd (omega (arith, four-inside (highHalf r) r 0 i))
-    go (c ∷ t) true y ex ey i = rw ex
-    go (c ∷ t) false true ex ey i = rw (ex, ey) (scalar-same 6 7 t r (omega (arith, scalar-inside 6 7 (t ++ r) (suc (length t)) i)))
-    go (c ∷ t) false false ex ey i = rw (ex, ey) (four-fore (c ∷ t) r i)
+    go : (t : List ℕ) (x y : Bool) → length e + length t ≡ suc n → starts e (t ++ r) ≡ x → eqb ((t ++ r) ! 0) (code "+") ≡ y
+        → Inside
+        (if x then give (length e + length e - 1) e else if y then scalarBy 6 (length e + 6) (drop 1 (t ++ r)) else fourBy e (highHalf (t ++ r)) (t ++ r)) n
+        → uescaped e t ≡ uescaped e (t ++ r)
+    go t true y l ex ey i = rw (starts-fore e t r (omega arith), ex)
+    go [] false true l ex ey i = absurd (omega (arith, scalar-inside 6 (length e + 6) (drop 1 r) n i))
+    go [] false false l ex ey i = absurd (omega (arith, four-inside e (highHalf r) r n i))
+    go (c ∷ t) false true l ex ey i =
+        rw (starts-less e (c ∷ t) r ex, ex, ey) (scalar-same 6 (length e + 6) t r (omega (arith, scalar-inside 6 (length e + 6) (t ++ r) n i)))
+    go (c ∷ t) false false l ex ey i = rw (starts-less e (c ∷ t) r ex, ex, ey) (four-fore e (c ∷ t) r n l i)
 
-pub unicode-fore : (q : ℕ) (r : List ℕ) → Fore (unicodeStep (backslash ∷ []) q) r
-unicode-fore q r b t =
-    choose (eqb b q) (starts (backslash ∷ []) (b ∷ t)) (doubled q t) (doubled q (t ++ r)) (uescaped (backslash ∷ []) t) (uescaped (backslash ∷ []) (t ++ r))
-    (length t) (doubled-fore q t r) (uescaped-fore t r)
+pub unicode-fore : (e : List ℕ) (q : ℕ) (r : List ℕ) → Fore (unicodeStep e q) r
+unicode-fore e q r b t i = go (eqb b q) (starts e (b ∷ (t ++ r))) refl refl i
+  where
+    go : (x y : Bool) → eqb b q ≡ x → starts e (b ∷ (t ++ r)) ≡ y
+        → Inside (if x then doubled q (t ++ r) else if y then uescaped e (drop (length e) (b ∷ (t ++ r))) else keep) (length t)
+        → unicodeStep e q (b ∷ t) ≡ unicodeStep e q (b ∷ (t ++ r))
+    go true y ex ey i = rw ex (doubled-fore q t r i)
+    go false true ex ey i =
+        let l : length e ≤ suc (length t) = uescaped-inside e (drop (length e) (b ∷ (t ++ r))) (length t) i in
+        let d : drop (length e) (b ∷ (t ++ r)) ≡ drop (length e) (b ∷ t) ++ r = drop-append-le (length e) (b ∷ t) r l in
+        rw (ex, starts-fore e (b ∷ t) r l, ey, d)
+        (uescaped-fore e (drop (length e) (b ∷ t)) r (length t) (omega (arith, length-drop (length e) (b ∷ t))) (rw d at i))
+    go false false ex ey i = rw (ex, starts-less e (b ∷ t) r ey, ey)

@@ -1,30 +1,26 @@
 -- A segment's value is shorter than the segment by its two marks at least, and the place of a refusal lies inside it: so no number that a pass counts exceeds
 -- the text's length. Of a whole text, what is written is shorter by two bytes at least. Assumes nothing.
 use mathlib.Core.Path.{_≡_, refl, ap, sym, _∙_, subst}
-use mathlib.Core.Bool.{Bool, true, false, _&&_, false≢true}
+use mathlib.Core.Bool.{Bool, true, false, false≢true}
 use mathlib.Core.List.{List, [], _∷_}
-use Prim.Native.Nat.{ℕ, zero, suc, _+_, _-_, _≤_, _<_}
-use Prim.Native.Char.{code}
+use Prim.Native.Nat.{ℕ, zero, suc, _+_, _-_, _≤_}
 use native.Mathlib.Omega.{arith}
-use lib.Dec.{eqb, leb, ltb}
 use lib.ListN.{length, take, drop, length-append, length-take, length-drop}
-use borrow.Author.Tests.{ltb-true}
 use Rattle.meaning.specs.declared.Settings.{Settings}
-use Rattle.meaning.specs.Bytes.{if_then_else_, _!_, part, ascii, has, same, quote, dquote}
+use Rattle.meaning.specs.Bytes.{if_then_else_, part, has, quote}
 use Rattle.meaning.specs.Chars.{Due, due, broken, fresh, push, pushes, whole}
 use Rattle.meaning.specs.Walk.{Step, keep, give, stop, Trace, ended, stopped, kept, gave, after, walk, size, stops, plain, value}
-use Rattle.meaning.specs.Steps.{standardStep, escapeStep, unicodeStep, checked, unlessBroken, closingStep, gap, trim}
-use Rattle.meaning.specs.Cutting.{opening, segment, segmentBy, segmentStep, cut, continues}
-use Rattle.meaning.specs.Spelling.{Spelling, standard, escape, unicode, dollar, unspelt, encloses, isUnicode, unicodeSpelling, unicodeBy, chosen, closedUnicode}
-use Rattle.meaning.specs.Spelling.{delimiter, dollarBy, spelling}
+use Rattle.meaning.specs.Steps.{standardStep, escapeStep, unicodeStep, checked, unlessBroken, gap}
+use Rattle.meaning.specs.Cutting.{segment, segmentBy, segmentStep, cut, continues}
+use Rattle.meaning.specs.Spelling.{Spelling, standard, escape, unicode, dollar, unspelt, spelling}
 use Rattle.meaning.specs.Reading.{borrowed, written, refused, Value, means, fails, valueOf, answer, read-as, one, alone, joined, asWritten, read, meaning}
-use Rattle.laws.proofs.basics.Tests.{and-left, and-right}
 use Rattle.laws.proofs.walking.Walks.{FitsIn, fits-size}
-use Rattle.laws.proofs.cutting.Openings.{opening-mark, apart-of-mark, mark-0}
+use Rattle.laws.proofs.cutting.Openings.{apart-of-mark, mark-0}
 use Rattle.laws.proofs.joining.Joining.{fails≢means, both-means, value-written}
 use Rattle.laws.proofs.questions.Ranges.{Between, BodyIn, spelling-body}
 use Rattle.laws.proofs.walking.StepBounds.{Bounded, Steady, standard-steady, escape-steady, unicode-steady}
 use Rattle.laws.proofs.walking.Passes.{courseBy, course-same}
+use Rattle.laws.proofs.places.Spelt.{Spelt, spelling-spelt}
 
 -- a walk's value is no longer than what it walked
 walk-short : (step : List ℕ → Step) → Steady step → (k : ℕ) (t : List ℕ) → k ≤ length t → k + length (value (walk step k t)) ≤ length t
@@ -101,73 +97,9 @@ module _ (x : Bool) (step : List ℕ → Step) (t : List ℕ) (f u : ℕ) where
             ap (λ (r : Trace). length (value r)) (course-same x (walk step 0 (part f u t)) h),
           )
 
--- THE MARK of a standard spelling is no zero
-abbrev MarkIn : Spelling → Type 0
-MarkIn (standard q f u) = eqb 0 q ≡ false
-MarkIn (escape f u) = Unit {0}
-MarkIn (unicode e f u) = Unit {0}
-MarkIn (dollar f u) = Unit {0}
-MarkIn unspelt = Unit {0}
-
-pick : (x : Bool) (a b : Spelling) → (x ≡ true → MarkIn a) → MarkIn b → MarkIn (if x then a else b)
-pick true a b f g = f refl
-pick false a b f g = g
-
-opened-mark : (t : List ℕ) → ltb 0 (opening t) ≡ true → eqb 0 (t ! (opening t - 1)) ≡ false
-opened-mark t h = go (opening t) refl (ltb-true 0 (opening t) h)
-  where
-    go : (n : ℕ) → opening t ≡ n → 0 < n → eqb 0 (t ! (n - 1)) ≡ false
-    go zero e l = absurd (omega arith)
-    go (suc n) e l =
-        let j : suc n - 1 ≡ n = omega arith in
-        rw j (apart-of-mark (t ! n) 0 (opening-mark t n e) mark-0)
-
-unicodeBy-mark : (e : List ℕ) (n : ℕ) → MarkIn (unicodeBy e n)
-unicodeBy-mark [] n = tt
-unicodeBy-mark (b ∷ e) n = tt
-
-unicode-mark : (q : ℕ) (t : List ℕ) → MarkIn (unicodeSpelling q t)
-unfolding unicodeSpelling
-unicode-mark q t =
-    pick (isUnicode q t) (closedUnicode t r) unspelt
-    (λ i. pick (stops r) (unicodeBy (chosen (trim (drop (4 + size r) t))) (3 + size r)) unspelt
-    (λ h. unicodeBy-mark (chosen (trim (drop (4 + size r) t))) (3 + size r)) tt) tt
-  where
-    r : Trace
-    r = walk (closingStep false q) 0 (drop 3 t)
-
-dollar-mark : (t : List ℕ) (n : ℕ) → MarkIn (dollarBy t n)
-dollar-mark t zero = tt
-dollar-mark t (suc n) =
-    pick (leb (suc n + suc n) (length t) && same (take (suc n) t) (drop (length t - suc n) t)) (dollar (suc n) (length t - suc n)) unspelt (λ h. tt) tt
-
-spelling-mark : (t : List ℕ) → MarkIn (spelling t)
-unfolding spelling
-spelling-mark t =
-    go (encloses 0 quote t) (encloses 0 dquote t) (has (t ! 0) (ascii "Ee") && encloses 1 quote t) (has (t ! 0) (ascii "Nn") && encloses 1 quote t)
-    (eqb (t ! 0) (code "_") && ltb 0 (opening t) && encloses (opening t - 1) (t ! (opening t - 1)) t) (isUnicode quote t) refl
-  where
-    go : (v w x y z i : Bool) → (eqb (t ! 0) (code "_") && ltb 0 (opening t) && encloses (opening t - 1) (t ! (opening t - 1)) t) ≡ z
-        → MarkIn
-        (if v then standard quote 1 (length t - 1)
-        else if w then standard dquote 1 (length t - 1)
-        else if x then escape 2 (length t - 1)
-        else if y then standard quote 2 (length t - 1)
-        else if z then standard (t ! (opening t - 1)) (opening t) (length t - 1)
-        else if i then unicodeSpelling quote t
-        else dollarBy t (delimiter t))
-    go true w x y z i h = refl
-    go false true x y z i h = refl
-    go false false true y z i h = tt
-    go false false false true z i h = refl
-    go false false false false true i h =
-        opened-mark t (and-right (eqb (t ! 0) (code "_")) (ltb 0 (opening t))
-        (and-left (eqb (t ! 0) (code "_") && ltb 0 (opening t)) (encloses (opening t - 1) (t ! (opening t - 1)) t) h))
-    go false false false false false true h = unicode-mark quote t
-    go false false false false false false h = dollar-mark t (delimiter t)
-
-as-bound : (σ : Settings) (t : List ℕ) (s : Spelling) → BodyIn (length t) s → MarkIn s → Bound (valueOf t (read-as σ t s)) (length t)
-as-bound σ t (standard q f u) b m = body-bound false (standardStep (σ .backslash) q) t f u (standard-steady (σ .backslash) q m) b
+-- A SEGMENT. The mark of a standard spelling is no zero
+as-bound : (σ : Settings) (t : List ℕ) (s : Spelling) → BodyIn (length t) s → Spelt t s → Bound (valueOf t (read-as σ t s)) (length t)
+as-bound σ t (standard q f u) b m = body-bound false (standardStep (σ .backslash) q) t f u (standard-steady (σ .backslash) q (apart-of-mark q 0 m mark-0)) b
 as-bound σ t (escape f u) b m = body-bound true escapeStep t f u escape-steady b
 as-bound σ t (unicode e f u) b m = body-bound false (unicodeStep e quote) t f u (unicode-steady e quote refl) b
 as-bound σ t (dollar f u) b m = omega (arith, length-take (u - f) (drop f t), length-drop f t, b .opened, b .ordered, b .closed)
@@ -179,7 +111,7 @@ alone-bound σ t = go (has 0 t)
   where
     go : (x : Bool) → Bound (valueOf t (if x then refused 0 else read-as σ t (spelling t))) (length t)
     go true = omega arith
-    go false = as-bound σ t (spelling t) (spelling-body t) (spelling-mark t)
+    go false = as-bound σ t (spelling t) (spelling-body t) (spelling-spelt t)
 
 -- A WHOLE TEXT. Its segments mean no more than what is left behind k bytes that are passed
 module _ (σ : Settings) where

@@ -1,6 +1,7 @@
 -- `blocks::items::read_told` meets its contract: by the reading, whose numbers fit. Assumes nothing.
 use borrow.Author.Needs.{needs}
 use Rattle.blocks.proofs.Answering.{ordered, start-wide, end-wide, start-fits, end-fits, len-fits, used-fits, written-fits, needed-fits}
+use Rattle.blocks.proofs.Answering.{place-fits, text-fits-too}
 use Rattle.blocks.proofs.Answering.{told-borrowed, told-written, told-refused, told-short}
 use Rattle.blocks.proofs.items.read_told.Statement.{statement}
 use Rattle.blocks.proofs.items.read_told.Tie as tie
@@ -16,7 +17,7 @@ read-told-spec =
     (λ c. search needs)
     (λ c κs. search (used-fits, written-fits, needs))
     (λ c. search needs)
-    (λ c κs. search needs)
+    (λ c κs. search (place-fits, text-fits-too, needs))
     (λ c. search needs)
     (λ c κs. search (needed-fits, needs))
     (λ c. search told-borrowed)

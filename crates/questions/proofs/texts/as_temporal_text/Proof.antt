@@ -26,8 +26,8 @@ part-read-temporal-end c = search span-inside
 read-temporal-requires : tie.Need-read-temporal-requires
 read-temporal-requires c κs = search needs
 
-text-of-requires : tie.Need-text-of-requires
-text-of-requires c κs = search temporal-fits
+string-of-requires : tie.Need-string-of-requires
+string-of-requires c κs = search temporal-fits
 
 enum-known-refusal : tie.Need-enum-known-refusal
 enum-known-refusal c = search needs
@@ -52,7 +52,7 @@ as-temporal-text-spec =
     part-read-temporal-start
     part-read-temporal-end
     read-temporal-requires
-    text-of-requires
+    string-of-requires
     enum-known-refusal
     same-length
     returns

@@ -46,20 +46,20 @@ span-told-requires-4 c κs = search needs
 enum-known-refusal-6 : tie.Need-enum-known-refusal-6
 enum-known-refusal-6 c = search needs
 
-span-told-requires-5 : tie.Need-span-told-requires-5
-span-told-requires-5 c κs = search needs
+place-told-requires : tie.Need-place-told-requires
+place-told-requires c κs = search needs
 
 enum-known-refusal-7 : tie.Need-enum-known-refusal-7
 enum-known-refusal-7 c = search needs
 
-span-told-requires-6 : tie.Need-span-told-requires-6
-span-told-requires-6 c κs = search needs
+span-told-requires-5 : tie.Need-span-told-requires-5
+span-told-requires-5 c κs = search needs
 
 enum-known-refusal-8 : tie.Need-enum-known-refusal-8
 enum-known-refusal-8 c = search needs
 
-span-told-requires-7 : tie.Need-span-told-requires-7
-span-told-requires-7 c κs = search needs
+span-told-requires-6 : tie.Need-span-told-requires-6
+span-told-requires-6 c κs = search needs
 
 enum-known-refusal-9 : tie.Need-enum-known-refusal-9
 enum-known-refusal-9 c = search needs
@@ -112,11 +112,11 @@ refusal-told-spec =
     enum-known-refusal-5
     span-told-requires-4
     enum-known-refusal-6
-    span-told-requires-5
+    place-told-requires
     enum-known-refusal-7
-    span-told-requires-6
+    span-told-requires-5
     enum-known-refusal-8
-    span-told-requires-7
+    span-told-requires-6
     enum-known-refusal-9
     room-told-requires
     returns
