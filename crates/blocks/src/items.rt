@@ -45,9 +45,9 @@ fn refused(number: u32) -> Told
 }
 
 // A reading of the text at a place of the source, into the buffer behind `used` bytes.
-// Rules out: room taken without a text in it, or none by a text; a text told by its end, by its length, or as one of the other slice; a place left out, or told as
-// the text's start or as a length (must-fail: room_taken_by_a_refusal, room_taken_by_a_borrowed_text, nothing_taken, end_for_start, start_by_the_length,
-// start_in_its_room, written_told_as_borrowed, lack_told_as_refused, place_left_out, start_for_place, place_for_length).
+// Rules out: room taken without a text in it, or none by a text; a text told by its end, by its length, or as one of the other slice; a place left out, or
+// told as the text's start or as a length (must-fail: room_taken_by_a_refusal, room_taken_by_a_borrowed_text, nothing_taken, end_for_start,
+// start_by_the_length, start_in_its_room, written_told_as_borrowed, lack_told_as_refused, place_left_out, start_for_place, place_for_length).
 fn read_told(read: Read, start: usize, used: usize) -> Told
     requires { ⌜ InBlock start used read ⌝ }
     ensures { λ r. ⌜ r ≡ readTold start used read ⌝ }

@@ -5,9 +5,11 @@
 //
 // A line `-- backslash on` or `-- backslash off`, in any case, sets how the rows behind it are read; at first it is off. Another line that begins with
 // `-- backslash` ends the reading, since no row behind it has a meaning. Other lines that begin with `--`, and empty lines, are no rows. A row that is
-// refused is told with its number and stops nothing; where it is no readable string, it is shown with a mark under the place where reading stops. The list is read through a window of 524,288 bytes, and 32,768 rows and 524,288 bytes of keys are kept
-// for comparing: a row that fills the window is told by its line; a row behind those that are kept is told with its key and not compared, and the end says
-// from which line on. Where reading fails, the program says behind which line.
+// refused is told with its number and stops nothing; where it is no readable string, it is shown with a mark under the place where reading stops.
+//
+// The list is read through a window of 524,288 bytes, and 32,768 rows and 524,288 bytes of keys are kept for comparing: a row that fills the window is told
+// by its line; a row behind those that are kept is told with its key and not compared, and the end says from which line on. Where reading fails, the
+// program says behind which line.
 mod doubled;
 mod lines;
 mod rows;

@@ -104,7 +104,7 @@ fn columns_by_number(len: usize) -> usize {
     4
 }
 
-// How many columns the piece at a place takes up to the next one, and where that is: a character by its number, or any byte; a later byte of a character takes none.
+// What stands at a place, a character by its number or a byte of any other: how many columns it takes, a later byte of a character none, and where it ends.
 struct Piece {
     pub columns: usize,
     pub end: usize,

@@ -131,7 +131,8 @@ fn temporal_token(text: &[u8]) -> Token
 }
 
 // Reads a temporal text: its string token, read as a string at the setting, at the token's place of the text.
-// Rules out: the setting lost, on or off; a range told within the token (must-fail: range_within_the_token, setting_lost, setting_on).
+// Rules out: the setting lost, on or off; a range or a place told within the token; no token told behind the start (must-fail: range_within_the_token,
+// setting_lost, setting_on, place_within_the_token, no_token_behind_the_start).
 pub fn read_temporal(text: &[u8], settings: Settings, out: &mut [u8]) -> Read
     ensures { λ r. ⌜ Reads (temporal settings (now (text .entry))) (now (out .entry)) r (now (out .exit)) ⌝ }
 {

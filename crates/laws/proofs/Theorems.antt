@@ -24,13 +24,13 @@ use Rattle.meaning.specs.declared.Read.{Read}
 use Rattle.meaning.specs.declared.Item.{Item}
 use Rattle.meaning.specs.declared.Four.{Four}
 use Rattle.meaning.specs.Bytes.{_!_, part, within, isMark, quote, backslash, digits, digit, number, has, starts}
-use Rattle.meaning.specs.Chars.{Due, pushes, whole, utf8, isScalar, space}
-use Rattle.meaning.specs.Walk.{Step, stop, Trace, walk, stops, plain, value}
+use Rattle.meaning.specs.Chars.{Due, broken, fresh, pushes, whole, utf8, isScalar, space}
+use Rattle.meaning.specs.Walk.{Step, stop, Trace, stopped, gave, walk, size, stops, plain, value}
 use Rattle.meaning.specs.Steps.{standardStep, escapeStep, unicodeStep, checked, gap, trim}
 use Rattle.meaning.specs.Cutting.{off, opening, segment, cut, complete, continues}
 use Rattle.meaning.specs.Spelling.{spelling}
 use Rattle.meaning.specs.Kinds.{token, noToken, temporalToken, temporal}
-use Rattle.meaning.specs.Reading.{Answer, written, refused, one, read, means, fails, meaning}
+use Rattle.meaning.specs.Reading.{Answer, written, refused, one, alone, read, means, fails, meaning}
 use Rattle.meaning.specs.Numbers.{fits, printed}
 use Rattle.meaning.specs.Halves.{joinedHalves, negatedHigh, negatedLow, bitsOf, textOf}
 use Rattle.meaning.specs.Helpers.{uescapeLegal, escapeValid, unicodeValid}
@@ -55,6 +55,7 @@ use Rattle.laws.proofs.utf8.Sequences.{encodes, AllScalar}
 use Rattle.laws.proofs.utf8.WhiteUtf8 as WhiteUtf8
 use Rattle.laws.proofs.utf8.HelpersUtf8 as HelpersUtf8
 use Rattle.laws.proofs.walking.Walks as Walks
+use Rattle.laws.proofs.walking.Walks.{graft}
 use Rattle.laws.proofs.walking.Courses as Courses
 use Rattle.laws.proofs.walking.Short as Short
 use Rattle.laws.proofs.cutting.Gaps as Gaps
@@ -606,10 +607,17 @@ place-begins = PlaceWhole.read-begins
 
 -- "In a segment it is the lone quote, or the escape's first character [..], at which reading from the left stops; for E text that becomes bad UTF-8, the
 -- escape or raw character whose bytes broke it, or the body's end if a sequence is unfinished, whichever of all these comes first. A raw NUL or no spelling
--- gives the segment's start." Left of it reading goes through, in whole units and, in E text, by bytes that UTF-8 text can begin with; there nothing goes on
+-- gives the segment's start." Left of it reading goes through, in whole units and, in E text, by bytes that break nothing; there nothing goes on
 pub place-stops : (σ : Settings) (t : List ℕ) (p : ℕ) → one σ t ≡ refused p
     → ((has 0 t ≡ true) × (p ≡ 0)) ⊎ ((has 0 t ≡ false) × StopsIn σ t (spelling t) p)
 place-stops = Bodies.alone-stops
+
+-- bytes that break nothing are those that UTF-8 text can begin with
+pub front-completes : (t : List ℕ) → (pushes fresh t ≡ broken → ⊥) → (u : List ℕ) × (utf8 (t ++ u) ≡ true)
+front-completes = Sequences.front-completes
+
+pub utf8-front : (t u : List ℕ) → utf8 (t ++ u) ≡ true → pushes fresh t ≡ broken → ⊥
+utf8-front = Sequences.utf8-front
 
 pub standard-stop : (bs : Bool) (q b : ℕ) (r : List ℕ) → standardStep bs q (b ∷ r) ≡ stop → b ≡ q
 standard-stop = Bodies.standard-stop
@@ -620,7 +628,17 @@ escape-stop = Bodies.escape-stop
 pub unicode-stop : (e : List ℕ) (q b : ℕ) (r : List ℕ) → unicodeStep e q (b ∷ r) ≡ stop → (b ≡ q) ⊎ (starts e (b ∷ r) ≡ true)
 unicode-stop = Bodies.unicode-stop
 
--- "In joined text the segment's start is added, and the first refused segment counts": the first k accepted and the next refused at q, whatever follows it
+-- "In joined text the segment's start is added, and the first refused segment counts": what stands left of it is accepted, and it is refused at q. "a remainder
+-- that is no segment gives its own start." Of every text that continues, by its cut, with white space between its segments or none
+module _ (σ : Settings) (t : List ℕ) (c : continues σ t ≡ true) (left : Trace) (vs : List (List ℕ)) (all : covered left ≡ true)
+    (accepted : Values (alone σ) (segmentsOf left) vs) where
+  pub cut-place : (n : ℕ) (s : List ℕ) (r : Trace) (q : ℕ) → cut σ t ≡ graft left (gave n s r) → alone σ s ≡ fails q → read σ t ≡ refused (size left + q)
+  cut-place = PlaceJoined.cut-place σ t c left vs all accepted
+
+  pub cut-remainder : cut σ t ≡ graft left stopped → read σ t ≡ refused (size left)
+  cut-remainder = PlaceJoined.cut-remainder σ t c left vs all accepted
+
+-- and of given segments with white space between: the first k accepted and the next refused at q gives their lengths with their gaps, plus q, whatever follows
 pub joined-place : (σ : Settings) (s : List ℕ) (ps : List (Further σ)) (p : Further σ) (rest : List ℕ) (q : ℕ) → Whole σ s
     → Cuts.Each (Segments.Accepted σ) (segments s ps) → meaning σ (p .text) ≡ fails q → isMark (rest ! 0) ≡ false
     → isMark (second (ps ++ (p ∷ [])) rest ! 0) ≡ true
@@ -631,7 +649,7 @@ pub first-place : (σ : Settings) (s rest : List ℕ) (q : ℕ) → Whole σ s �
     → read σ (s ++ rest) ≡ refused q
 first-place = PlaceJoined.first-place
 
--- "a remainder that is no segment gives its own start"
+-- and where all are accepted, and no segment follows, the remainder's start
 pub remainder-place : (σ : Settings) (s : List ℕ) (ps : List (Further σ)) (rest : List ℕ) → Whole σ s → Cuts.Each (Segments.Accepted σ) (segments s ps)
     → isMark (rest ! 0) ≡ false → segment σ (trim rest) ≡ 0 → 0 < length (trim rest) → isMark (second ps rest ! 0) ≡ true
     → read σ (strung s ps rest) ≡ refused (length (strung s ps []) + gap rest)
@@ -700,3 +718,8 @@ pub block-place-calls : (a : List ℕ) (k g s e : ℕ) (b S : List ℕ) (f : len
     → isKnown k 0 g ≡ true → isString (literalOf k 0 s e .kind) ≡ true → (t : List ℕ) → Spans (literalOf k 0 s e) S t → utf8 t ≡ true
     → (p : ℕ) → read (settingsOf g) t ≡ refused p → take 4 (drop (length a) (c .told)) ≡ 6 ∷ 0 ∷ p ∷ 0 ∷ []
 block-place-calls = PlaceTold.block-place-calls
+
+pub block-calls-place : (a : List ℕ) (k g s e : ℕ) (b S : List ℕ) (f : length a % 4 ≡ 0) (c : BlockCall (a ++ (k ∷ (g ∷ (s ∷ (e ∷ b))))) S) → c .result ≡ 0
+    → isKnown k 0 g ≡ true → isString (literalOf k 0 s e .kind) ≡ true → (t : List ℕ) → Spans (literalOf k 0 s e) S t → (how p len : ℕ)
+    → take 4 (drop (length a) (c .told)) ≡ 6 ∷ how ∷ p ∷ len ∷ [] → (utf8 t ≡ true) × (read (settingsOf g) t ≡ refused p)
+block-calls-place = PlaceTold.block-calls-place

@@ -17,7 +17,8 @@ use Rattle.meaning.specs.Chars.{encode, isScalar, whole, utf8}
 use Rattle.meaning.specs.Walk.{Step, keep, give, stop}
 use Rattle.meaning.specs.Steps.{byteOf, mysqlTable, escapeTable, doubled, mysql, oneByte, mayEscape, scalarBy, escaped, escapeStep, lowHalf, uescaped, unicodeStep}
 use Rattle.meaning.specs.Steps.{standardStep}
-use Rattle.laws.proofs.basics.Tests.{and-left, and-right, or-left, or-right, eqb-sym, within-bounds}
+use Rattle.laws.proofs.basics.Digits.{digit-low}
+use Rattle.laws.proofs.basics.Tests.{and-left, and-right, or-left, or-right, eqb-sym}
 use Rattle.laws.proofs.utf8.Utf8.{low-lead}
 use Rattle.laws.proofs.utf8.Encode.{encode-utf8}
 use Rattle.laws.proofs.utf8.Abreast.{Lows, Abreast, abreast-whole, abreast-hidden}
@@ -199,17 +200,6 @@ unfolding scalarOf
 scalar-step {len} {value} {r} n s h = rw (s .may h) (ap (give n) (sym (s .put h)))
 
 -- E. What its escapes take is ASCII, where the letter is
-digit-low : (b : ℕ) → digit b < 16 → b < 0x80
-unfolding digit
-digit-low b h = go (within 48 57 b) (within 65 70 b) (within 97 102 b) refl refl refl h
-  where
-    go : (x y z : Bool) → within 48 57 b ≡ x → within 65 70 b ≡ y → within 97 102 b ≡ z
-        → (if x then b - 48 else if y then b - 55 else if z then b - 87 else 16) < 16 → b < 0x80
-    go true y z e f g h = let k = within-bounds 48 57 b e in omega arith
-    go false true z e f g h = let k = within-bounds 65 70 b f in omega arith
-    go false false true e f g h = let k = within-bounds 97 102 b g in omega arith
-    go false false false e f g h = absurd (omega arith)
-
 digits-low : (β w : ℕ) (t : List ℕ) → β ≤ 16 → Lows (take (digits β w t) t)
 digits-low β zero t h = tt
 digits-low β (suc w) [] h = tt

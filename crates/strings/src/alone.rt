@@ -49,7 +49,7 @@ pub(crate) fn read_body(text: &[u8], body: Body, out: &mut [u8]) -> Read
 }
 
 // Reads a text as one, by its spelling.
-// Rules out: a raw NUL kept; the setting lost (must-fail: nul_kept, spelled_with_the_setting_on).
+// Rules out: a raw NUL kept, or told behind the start; the setting lost (must-fail: nul_kept, nul_behind_the_start, spelled_with_the_setting_on).
 pub(crate) fn read_alone(text: &[u8], settings: Settings, out: &mut [u8]) -> Read
     ensures { λ r. ⌜ Reads (one settings (now (text .entry))) (now (out .entry)) r (now (out .exit)) ⌝ }
 {

@@ -1,7 +1,7 @@
 -- [02 T-04] The place, of what the C exports give back: valdrabus_as_str_in and valdrabus_as_temporal_text give 6 exactly where the text's reading is refused,
 -- and then the definition's place, the span and the buffer as lent; with any other number the place is 0. Assumes nothing.
 use mathlib.Core.Path.{_≡_, refl, sym, ap, _∙_}
-use mathlib.Core.Bool.{true}
+use mathlib.Core.Bool.{Bool, true, false}
 use mathlib.Core.List.{List}
 use Prim.Native.Nat.{ℕ}
 use native.Mathlib.Omega.{arith}
@@ -15,12 +15,12 @@ use Rattle.meaning.specs.Cutting.{off}
 use Rattle.meaning.specs.Reading.{refused, read}
 use Rattle.meaning.specs.Kinds.{temporal}
 use Rattle.meaning.specs.Answers.{Outcome}
-use Rattle.meaning.specs.Questions.{isTemporal, temporalQuestion}
+use Rattle.meaning.specs.Questions.{isTemporal, stringQuestion, temporalQuestion}
 use Rattle.meaning.specs.Codes.{isKnown, literalOf, settingsOf}
 use Rattle.laws.proofs.questions.Asked.{Spans}
 use Rattle.laws.proofs.places.Told.{stopped-at, place-told, told-place, temporal-place-told, temporal-told-place}
 use Rattle.valdrabus.specs.Numbers.{textTold, TellsPlace}
-use Rattle.valdrabus.specs.Calls.{outcomeTold, temporalCall}
+use Rattle.valdrabus.specs.Calls.{outcomeTold, called, stringCall, temporalCall}
 use Rattle.valdrabus.proofs.Demands.{StringExport, asked, tells-all}
 
 -- a call that gave 6 and the place p, of a literal from start to end: nothing is answered, and the buffer is as lent
@@ -84,6 +84,21 @@ module _ (o : Outcome Text) {r h f u p : ℕ} {after : List ℕ} (w : TellsPlace
   tells-other : (r ≡ 6 → ⊥) → p ≡ 0
   tells-other n = w .stop ∙ other (o .answer) (λ e. n (w .tells .says .result ∙ e))
 
+-- WITH ANY OTHER NUMBER, of whatever was given, the place is 0
+called-other : (known : Bool) (out : List ℕ) (o : Outcome Text) {r h f u p : ℕ} {after : List ℕ}
+    → TellsPlace (called known out (outcomeTold textTold o)) r h f u p after → (r ≡ 6 → ⊥) → p ≡ 0
+called-other true out o w n = tells-other o w n
+called-other false out o w n = w .stop
+
+module _ (k y s e : ℕ) (S out : List ℕ) {r h f u p : ℕ} {after : List ℕ} where
+  pub no-place : (σ : ℕ) → TellsPlace (stringCall k y s e S σ out) r h f u p after → (r ≡ 6 → ⊥) → p ≡ 0
+  unfolding stringCall
+  no-place σ = called-other (isKnown k y σ) out (stringQuestion (literalOf k y s e) S (settingsOf σ) out)
+
+  pub no-temporal-place : TellsPlace (temporalCall k y s e S out) r h f u p after → (r ≡ 6 → ⊥) → p ≡ 0
+  unfolding temporalCall
+  no-temporal-place = called-other (isKnown k y 0) out (temporalQuestion (literalOf k y s e) S out)
+
 -- A STRING
 module _ {σ : ℕ} {t : List ℕ} (c : StringExport σ t) where
   pub place-exports : utf8 t ≡ true → (p : ℕ) → read (settingsOf σ) t ≡ refused p
@@ -97,9 +112,6 @@ module _ {σ : ℕ} {t : List ℕ} (c : StringExport σ t) where
       let x = tells-six (asked c) (tells-all c) e in
       let y = told-place (literalOf 4 0 (c .start) (c .end)) (c .source) t (settingsOf σ) (c .lent) refl (c .spans) (x .0) (c .place) (x .1) in
       (y .1, y .2)
-
-  pub no-place-exports : (c .result ≡ 6 → ⊥) → c .place ≡ 0
-  no-place-exports = tells-other (asked c) (tells-all c)
 
 -- A CALL of valdrabus_as_temporal_text on the text t, of a kind 8 to 11, the mark being 0
 pub record TemporalExport (t : List ℕ) : Type 0 where
@@ -138,6 +150,3 @@ module _ {t : List ℕ} (c : TemporalExport t) where
       let x = tells-six question temporal-tells e in
       let y = temporal-told-place (literalOf (c .kind) 0 (c .start) (c .end)) (c .source) t (c .lent) (c .temporal) (c .spans) (x .0) (c .place) (x .1) in
       (y .1, y .2)
-
-  pub no-temporal-place : (c .result ≡ 6 → ⊥) → c .place ≡ 0
-  no-temporal-place = tells-other question temporal-tells

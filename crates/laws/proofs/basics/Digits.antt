@@ -3,17 +3,30 @@
 use mathlib.Core.Path.{_≡_, refl, ap}
 use mathlib.Core.Bool.{Bool, true, false}
 use mathlib.Core.List.{List, [], _∷_}
-use Prim.Native.Nat.{ℕ, zero, suc, _+_, _*_, _^_, _≤_, _<_}
+use Prim.Native.Nat.{ℕ, zero, suc, _+_, _-_, _*_, _^_, _≤_, _<_}
 use native.Mathlib.Nat.{lt-of-lt-of-le, mul-le-mul-right, one-mul, pow-zero, pow-succ', mul-assoc, le-of-eq}
 use native.Mathlib.Omega.{arith}
 use borrow.Author.Tests.{ltb-true, lt-ltb, le-ltb, eqb-true, eq-eqb}
 use lib.Dec.{ltb}
 use lib.ListN.{length}
-use Rattle.meaning.specs.Bytes.{if_then_else_, _!_, digit, digits, number, allDigits}
+use Rattle.meaning.specs.Bytes.{if_then_else_, _!_, within, digit, digits, number, allDigits}
+use Rattle.laws.proofs.basics.Tests.{within-bounds}
 
 -- every byte before place n is a digit of base β
 abbrev pub DigitsTo : ℕ → ℕ → List ℕ → Type 0
 DigitsTo β n t = (i : ℕ) → i < n → digit (t ! i) < β
+
+-- a digit is ASCII
+pub digit-low : (b : ℕ) → digit b < 16 → b < 0x80
+unfolding digit
+digit-low b h = go (within 48 57 b) (within 65 70 b) (within 97 102 b) refl refl refl h
+  where
+    go : (x y z : Bool) → within 48 57 b ≡ x → within 65 70 b ≡ y → within 97 102 b ≡ z
+        → (if x then b - 48 else if y then b - 55 else if z then b - 87 else 16) < 16 → b < 0x80
+    go true y z e f g h = let k = within-bounds 48 57 b e in omega arith
+    go false true z e f g h = let k = within-bounds 65 70 b f in omega arith
+    go false false true e f g h = let k = within-bounds 97 102 b g in omega arith
+    go false false false e f g h = absurd (omega arith)
 
 -- HOW MANY. No more than the width or the text
 digits-fit : (β w : ℕ) (t : List ℕ) → (digits β w t ≤ w) × (digits β w t ≤ length t)

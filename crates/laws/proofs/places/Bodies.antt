@@ -27,14 +27,11 @@ use Rattle.laws.proofs.walking.Short.{course-size}
 use Rattle.laws.proofs.cutting.Openings.{apart-of-mark, mark-0}
 use Rattle.laws.proofs.places.Spelt.{Spelt, spelling-spelt}
 
--- the bytes a unit stands for, b its first
-abbrev pub standsFor : Step → ℕ → List ℕ
-standsFor = stands
-
--- d is due of the expansion so far, and nothing goes on: no unit may stand here; its bytes break UTF-8; the body ends and a sequence is unfinished
+-- d is due of the expansion so far, and nothing goes on: no unit may stand here; the bytes that it stands for break UTF-8; the body ends and a sequence is
+-- unfinished
 abbrev pub Breaks : Bool → (List ℕ → Step) → Due → List ℕ → Type 0
 Breaks checks step d [] = (checks ≡ true) × (whole d ≡ false)
-Breaks checks step d (b ∷ r) = (step (b ∷ r) ≡ stop) ⊎ ((checks ≡ true) × (pushes d (standsFor (step (b ∷ r)) b) ≡ broken))
+Breaks checks step d (b ∷ r) = (step (b ∷ r) ≡ stop) ⊎ ((checks ≡ true) × (pushes d (stands (step (b ∷ r)) b) ≡ broken))
 
 -- a body is read up to place m: left of it, taken by itself, reading goes through, in whole units, and their bytes break nothing; there nothing goes on
 pub record StopsAt (checks : Bool) (step : List ℕ → Step) (body : List ℕ) (m : ℕ) : Type 0 where
@@ -141,7 +138,7 @@ halts-breaks : (x : Bool) (step : List ℕ → Step) (d : Due) (l : List ℕ) �
 halts-breaks x step d [] h = h
 halts-breaks x step d (b ∷ r) h = go (step (b ∷ r)) h
   where
-    go : (s : Step) → Halts x d (after s b (λ n. walk step n r)) → (s ≡ stop) ⊎ ((x ≡ true) × (pushes d (standsFor s b) ≡ broken))
+    go : (s : Step) → Halts x d (after s b (λ n. walk step n r)) → (s ≡ stop) ⊎ ((x ≡ true) × (pushes d (stands s b) ≡ broken))
     go keep g = inr g
     go (give n out) g = inr g
     go stop g = inl refl

@@ -4,18 +4,18 @@ use mathlib.Core.Logic.{_⊎_, inl, inr}
 use mathlib.Core.Path.{_≡_, refl, ap, sym, _∙_, subst}
 use mathlib.Core.Bool.{Bool, true, false, _&&_, false≢true}
 use mathlib.Core.List.{List, [], _∷_, _++_}
-use Prim.Native.Nat.{ℕ, zero, suc, _-_, _%_, _≤_, _<_}
+use Prim.Native.Nat.{ℕ, zero, suc, _%_, _≤_, _<_}
 use Prim.Native.Char.{code}
 use native.Mathlib.Omega.{arith}
 use lib.Dec.{eqb, ltb}
 use lib.ListN.{length, take, take-append-drop, drop}
 use borrow.Author.Tests.{eqb-true, ltb-true}
-use Rattle.meaning.specs.Bytes.{if_then_else_, _!_, quote, backslash, within, digit, digits, number}
+use Rattle.meaning.specs.Bytes.{if_then_else_, _!_, quote, backslash, within, digits, number}
 use Rattle.meaning.specs.Chars.{Due, due, broken, fresh, push, pushes, whole, lead, encode}
 use Rattle.meaning.specs.Walk.{Step, keep, give, stop, after, walk, stops, value}
 use Rattle.meaning.specs.Steps.{byteOf, doubled, escapeTable, oneByte, mayEscape, scalarBy, escaped, escapeStep}
 use Rattle.laws.proofs.basics.Tests.{and-right, within-yes, within-bounds}
-use Rattle.laws.proofs.basics.Digits.{digits-at}
+use Rattle.laws.proofs.basics.Digits.{digits-at, digit-low}
 use Rattle.laws.proofs.utf8.Utf8.{pushes-append, pushes-broken, Good, push-good, pushes-good, later-lead}
 use Rattle.laws.proofs.utf8.Abreast.{whole-fresh, low-next}
 use Rattle.laws.proofs.walking.StepBounds.{Bounded, escape-steady}
@@ -52,17 +52,6 @@ last-whole d (b ∷ a) zero g l c h = ap whole (low-next d b [] g c h .1)
 last-whole d (b ∷ a) (suc k) g l c h = last-whole (push d b) a k (push-good d b g) (omega arith) c h
 
 -- UNITS. Digits and letters of escapes are ASCII
-digit-low : (b : ℕ) → digit b < 16 → b < 0x80
-unfolding digit
-digit-low b h = go (within 48 57 b) (within 65 70 b) (within 97 102 b) refl refl refl h
-  where
-    go : (x y z : Bool) → within 48 57 b ≡ x → within 65 70 b ≡ y → within 97 102 b ≡ z
-        → (if x then b - 48 else if y then b - 55 else if z then b - 87 else 16) < 16 → b < 0x80
-    go true y z e f g h = let k = within-bounds 48 57 b e in omega arith
-    go false true z e f g h = let k = within-bounds 65 70 b f in omega arith
-    go false false true e f g h = let k = within-bounds 97 102 b g in omega arith
-    go false false false e f g h = absurd (omega arith)
-
 digits-low : (β w : ℕ) (t : List ℕ) (k : ℕ) → β ≤ 16 → k < digits β w t → t ! k < 0x80
 digits-low β w t k l h = digit-low (t ! k) (omega (arith, digits-at β w t k h))
 

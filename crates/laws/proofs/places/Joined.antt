@@ -1,5 +1,6 @@
--- In joined text the segment's start is added, and the first refused segment counts (`first-place`, `joined-place`); a remainder that is no segment gives its
--- own start (`remainder-place`). Assumes nothing.
+-- In joined text the segment's start is added, and the first refused segment counts; a remainder that is no segment gives its own start. Of every text that
+-- continues, by its cut (`cut-place`, `cut-remainder`); and of given segments with white space between (`first-place`, `joined-place`, `remainder-place`).
+-- Assumes nothing.
 use mathlib.Core.Logic.{_⊎_}
 use mathlib.Core.Path.{_≡_, refl, ap, sym, _∙_}
 use mathlib.Core.Bool.{true, false, false≢true}
@@ -87,6 +88,15 @@ module _ (σ : Settings) where
         second-begins ps tail,
       )
       c
+
+  -- BY THE CUT ITSELF, whatever stands between its segments, or nothing
+  module _ (t : List ℕ) (goes-on : continues σ t ≡ true) (left : Trace) (vs : List (List ℕ)) (all : covered left ≡ true)
+      (accepted : Values (alone σ) (segmentsOf left) vs) where
+    pub cut-place : (n : ℕ) (s : List ℕ) (r : Trace) (q : ℕ) → cut σ t ≡ graft left (gave n s r) → alone σ s ≡ fails q → read σ t ≡ refused (size left + q)
+    cut-place n s r q e h = continues-read σ t goes-on ∙ ap asWritten (ap (joined σ) e ∙ each-refused (alone σ) left vs all accepted n s r q h)
+
+    pub cut-remainder : cut σ t ≡ graft left stopped → read σ t ≡ refused (size left)
+    cut-remainder e = continues-read σ t goes-on ∙ ap asWritten (ap (joined σ) e ∙ each-stopped (alone σ) left vs all accepted)
 
   -- SEGMENTS THAT ARE ACCEPTED, and what is refused behind them
   module _ (s : List ℕ) (ps : List (Further σ)) (first : Whole σ s) (accepted : Each (Accepted σ) (segments s ps)) where

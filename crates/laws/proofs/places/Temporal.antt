@@ -1,5 +1,6 @@
 -- A temporal question adds its token's start, or gives 0 with no token (`temporal-place`, `temporal-none`). So the place of its refusal lies inside the text
--- (`temporal-inside`), and in UTF-8 text a character begins there (`temporal-begins`): a token is not empty, and its first and its last byte are ASCII. Assumes nothing.
+-- (`temporal-inside`), and in UTF-8 text a character begins there (`temporal-begins`): a token is not empty, and its first and its last byte are ASCII.
+-- Assumes nothing.
 use mathlib.Core.Logic.{inl, inr}
 use mathlib.Core.Path.{_≡_, refl, ap, sym, _∙_}
 use mathlib.Core.Bool.{Bool, true, false, _&&_, not, false≢true}

@@ -12,7 +12,8 @@ use Rattle.meaning.specs.declared.Span.{Span}
 use Rattle.meaning.specs.declared.Literal.{Literal}
 use Rattle.meaning.specs.declared.LiteralExpected.the-variants as Expected
 use Rattle.meaning.specs.declared.Refusal.{Refusal}
-use Rattle.meaning.specs.declared.Refusal.the-variants.{NotUtf8, InvalidString, NoRoom}
+use Rattle.meaning.specs.declared.Refusal.the-variants.{WrongKind, MissingSource, InvalidSourceRange, NotUtf8, InvalidInteger, InvalidString}
+use Rattle.meaning.specs.declared.Refusal.the-variants.{InvalidBitString, InvalidMoney, NoRoom}
 use Rattle.meaning.specs.declared.Text.{Text}
 use Rattle.meaning.specs.declared.Text.the-variants.{Borrowed, Written, Refused}
 use Rattle.meaning.specs.Bytes.{if_then_else_, _!_, isMark}
@@ -24,6 +25,7 @@ use Rattle.meaning.specs.Kinds.{temporal}
 use Rattle.meaning.specs.Answers.{Outcome, Meets}
 use Rattle.meaning.specs.Questions.{sourceText, tested, isString, isTemporal, toldAs, stringQuestion, temporalQuestion}
 use Rattle.meaning.specs.Codes.{isKnown, literalOf, settingsOf}
+use Rattle.meaning.specs.Blocks.{refusedFour, fourOf}
 use Rattle.laws.proofs.questions.Asked.{Spans, tested-passes, stringQuestion-reads, stringQuestion-not-utf8}
 use Rattle.laws.proofs.questions.Calls.{StringCall, Shows, call-accepts}
 use Rattle.laws.proofs.cutting.Cuts.{Each}
@@ -62,7 +64,8 @@ module _ (l : Literal) (S t : List ℕ) (σ : Settings) (out : List ℕ) (k : is
           let z : _≡_ {A = ℕ} 0 1 = cc in
           absurd (omega arith)
       go true u =
-          let w = told-refused (l .span) sp (l .span .start) p out (read σ t) (ap (λ (o : Outcome Text). o .answer) (sym (stringQuestion-reads l S t σ out k h u)) ∙ e) in
+          let q = sym (stringQuestion-reads l S t σ out k h u) in
+          let w = told-refused (l .span) sp (l .span .start) p out (read σ t) (ap (λ (o : Outcome Text). o .answer) q ∙ e) in
           (w .0, u, w .1)
 
 -- THE TEMPORAL QUESTION
@@ -133,6 +136,37 @@ block-place-calls a k g s e b S f c z known string t h u p r =
     let w : Returned c (length a) (Refused (InvalidString (record { start = s; end = e }) p)) d =
     block-calls a k g s e b S f c z known (Refused (InvalidString (record { start = s; end = e }) p)) d (rw q (record { answer = refl; buffer = refl })) in
     w .told
+
+-- and back: what is told of it as a 6 is refused there
+refused-six : (r : Refusal) → refusedFour r .number ≡ 6 → (sp : Span) × (r ≡ InvalidString sp (refusedFour r .start))
+refused-six (WrongKind e k) h = absurd (omega arith)
+refused-six (MissingSource s) h = absurd (omega arith)
+refused-six (InvalidSourceRange s) h = absurd (omega arith)
+refused-six (NotUtf8 s) h = absurd (omega arith)
+refused-six (InvalidInteger s) h = absurd (omega arith)
+refused-six (InvalidString s p) h = (s, refl)
+refused-six (InvalidBitString s) h = absurd (omega arith)
+refused-six (InvalidMoney s) h = absurd (omega arith)
+refused-six (NoRoom n) h = absurd (omega arith)
+
+four-six : (b : ℕ) (r : Text) → fourOf b r .number ≡ 6 → (sp : Span) × (r ≡ Refused (InvalidString sp (fourOf b r .start)))
+four-six b (Borrowed f u) h = absurd (omega arith)
+four-six b (Written n) h = absurd (omega arith)
+four-six b (Refused r) h = let w = refused-six r h in (w .0, ap Refused (w .1))
+
+pub block-calls-place : (a : List ℕ) (k g s e : ℕ) (b S : List ℕ) (f : length a % 4 ≡ 0) (c : BlockCall (a ++ (k ∷ (g ∷ (s ∷ (e ∷ b))))) S) → c .result ≡ 0
+    → isKnown k 0 g ≡ true → isString (literalOf k 0 s e .kind) ≡ true → (t : List ℕ) → Spans (literalOf k 0 s e) S t → (how p len : ℕ)
+    → take 4 (drop (length a) (c .told)) ≡ 6 ∷ how ∷ p ∷ len ∷ [] → (utf8 t ≡ true) × (read (settingsOf g) t ≡ refused p)
+block-calls-place a k g s e b S f c z known string t h how p len m =
+    let d : List ℕ = drop (roomFrom c (length a)) (c .lent) in
+    let o : Outcome Text = stringQuestion (literalOf k 0 s e) S (settingsOf g) d in
+    let w : Returned c (length a) (o .answer) (o .buffer) =
+    block-calls a k g s e b S f c z known (o .answer) (o .buffer) (record { answer = refl; buffer = refl }) in
+    let q = sym (w .told) ∙ m in
+    let x = four-six (roomFrom c (length a)) (o .answer) (ap (_! 0) q) in
+    let y = told-place (literalOf k 0 s e) S t (settingsOf g) d string h (x .0) p
+    (x .1 ∙ ap (λ (n : ℕ). Refused (InvalidString (x .0) n)) (ap (_! 2) q)) in
+    (y .1, y .2)
 
 -- JOINED TEXT. The call on a segment was answered
 abbrev pub Taken : Settings → List ℕ → Type 0

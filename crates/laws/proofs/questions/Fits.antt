@@ -102,7 +102,8 @@ text-small : (e m used : ℕ) → e < 2 ^ 32 → used + m < 2 ^ 32 → (a : Text
 text-small e m used h r (Text′.Borrowed f u) b = record { number = omega arith; how = omega arith; range = omega arith }
 text-small e m used h r (Text′.Written n) b = record { number = omega arith; how = omega arith; range = omega arith }
 text-small e m used h r (Text′.Refused x) b =
-    subst Small (sym (refused-told x)) (refused-small (refusalNumber x) (refusedFour x .start) (refusedFour x .len) (omega (arith, refusal-below x)) (omega arith))
+    subst Small (sym (refused-told x))
+    (refused-small (refusalNumber x) (refusedFour x .start) (refusedFour x .len) (omega (arith, refusal-below x)) (omega arith))
 
 pub item-fits : (S : List ℕ) (used : ℕ) (room : List ℕ) (i : Item) → i .end < 2 ^ 32 → used + length room < 2 ^ 32 → Small (itemAsked S used room i .told)
 item-fits S used room i h r =

@@ -1,5 +1,5 @@
 -- UTF-8 texts are exactly the sequences of scalars' encodings, each of one sequence only; where such a text can be cut. Assumes nothing.
-use mathlib.Core.Path.{_≡_, refl, ap, sym, _∙_}
+use mathlib.Core.Path.{_≡_, refl, ap, sym, _∙_, subst}
 use mathlib.Core.Bool.{Bool, true, false, false≢true}
 use mathlib.Core.List.{List, [], _∷_, _++_, append-cancel-left}
 use Prim.Native.Nat.{ℕ, zero, suc, _-_}
@@ -121,3 +121,30 @@ utf8-uncut i t a b = (
   rw (take-append-drop i t) at (utf8-append (take i t) (drop i t) a ∙ b),
   rw (getD-drop i t 0 0, add-zero i) at (utf8-begins (drop i t) b),
 )
+
+-- WHAT UTF-8 TEXT CAN BEGIN WITH: bytes that break nothing can be gone on with, to whole characters
+later-completes : (n : ℕ) → (u : List ℕ) × (whole (pushes (due n 0x80 0xBF) u) ≡ true)
+unfolding within
+later-completes zero = ([], refl)
+later-completes (suc n) = let r = later-completes n in (0x80 ∷ r .0, r .1)
+
+due-completes : (d : Due) → Good d → (d ≡ broken → ⊥) → (u : List ℕ) × (whole (pushes d u) ≡ true)
+due-completes broken g h = absurd (h refl)
+due-completes (due zero lo hi) g h = ([], refl)
+due-completes (due (suc n) lo hi) g h =
+    let r = later-completes n in (
+      lo ∷ r .0,
+      subst (λ (x : Bool). whole (pushes (if x then due n 0x80 0xBF else broken) (r .0)) ≡ true)
+          (sym (within-yes lo hi lo (omega arith) (omega (arith, g .2)))) (r .1),
+    )
+
+pub front-completes : (t : List ℕ) → (pushes fresh t ≡ broken → ⊥) → (u : List ℕ) × (utf8 (t ++ u) ≡ true)
+unfolding utf8
+front-completes t h =
+    let r = due-completes (pushes fresh t) (pushes-good fresh t fresh-good) h in (r .0, rw (pushes-append fresh t (r .0)) (r .1))
+
+-- and what it begins with breaks nothing
+pub utf8-front : (t u : List ℕ) → utf8 (t ++ u) ≡ true → pushes fresh t ≡ broken → ⊥
+unfolding utf8
+utf8-front t u h e =
+    false≢true (sym (ap whole (pushes-append fresh t u ∙ ap (λ (d : Due). pushes d u) e ∙ pushes-broken u)) ∙ h)

@@ -65,10 +65,10 @@ pub low-lead : (b : ℕ) → b < 0x80 → lead b ≡ fresh
 unfolding lead
 low-lead b h = rw (within-yes 0 0x7F b (omega arith) (omega arith))
 
--- where a character begins nothing is remembered, and a later byte is due in 80 .. BF at the widest
+-- where a character begins nothing is remembered; a later byte is due in 80 .. BF at the widest, and there is one
 abbrev pub Ranged : ℕ → ℕ → ℕ → Type 0
 Ranged zero lo hi = (lo ≡ 0x80) × (hi ≡ 0xBF)
-Ranged (suc n) lo hi = (0x80 ≤ lo) × (hi ≤ 0xBF)
+Ranged (suc n) lo hi = (0x80 ≤ lo) × (hi ≤ 0xBF) × (lo ≤ hi)
 
 pub ranged-all : (n : ℕ) → Ranged n 0x80 0xBF
 ranged-all zero = (refl, refl)
