@@ -130,10 +130,6 @@ module _ {σ : Settings} {t d out : List ℕ} {i n : ℕ} (v : JoinsAt σ t d ou
           subst (λ (y : Value). Bound y (length text)) (length-fails (alone σ text) m (sym (p .answer) ∙ h)) (alone-bound σ text) in
           omega (arith, b, text-length, unit .some, unit .ends, unit .inside)
 
-      -- so that a place counted behind the values is refused for what it tells, and not for its width
-      pub values-fits : (m : ℕ) → k ≡ Joined′.Refused m → n + m ≤ length t
-      values-fits m h = omega (arith, refused-fits m h, v .short, unit .start)
-
       pub joins-refused : (m : ℕ) → k ≡ Joined′.Refused m → PutsAll (joined σ (cut σ t)) d (Joined′.Refused (s + m)) after
       unfolding cut
       joins-refused m h =

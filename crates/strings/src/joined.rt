@@ -52,8 +52,8 @@ fn put_segment(text: &[u8], settings: Settings, out: &mut [u8]) -> Joined
 
 // All segments of a text: how long their values are, or where the first that is refused stops, or a remainder begins; and the values one after the other at the
 // buffer's start, where there is room for all of them.
-// Rules out: segments not counted; a remainder passed over; a place or a remainder counted behind the values (must-fail: remainder_passed,
-// segments_not_counted, place_behind_the_values, remainder_behind_the_values).
+// Rules out: segments not counted; a remainder passed over, or told where the values end (must-fail: remainder_passed, segments_not_counted,
+// remainder_behind_the_values).
 fn put_segments(text: &[u8], settings: Settings, out: &mut [u8]) -> Joined
     ensures { λ r. ⌜ PutsAll (joined settings (cut settings (now (text .entry)))) (now (out .entry)) r (now (out .exit)) ⌝ }
 {

@@ -5,7 +5,7 @@ use Rattle.strings.proofs.Lending.{place-fits}
 use borrow.Author.Needs.{needs}
 use lib.ListN.{length}
 use Rattle.strings.proofs.Joinings.{JoinsAt, joins-start, joins-end, joins-remainder, segment-ordered, segment-inside, cursor-less, joins-turn}
-use Rattle.strings.proofs.Joinings.{joins-fits, refused-fits, values-fits, joins-refused}
+use Rattle.strings.proofs.Joinings.{joins-fits, refused-fits, joins-refused}
 use Rattle.strings.proofs.joined.put_segments.Statement.{statement}
 use Rattle.strings.proofs.joined.put_segments.Tie as tie
 
@@ -36,7 +36,7 @@ put-segments-spec =
     (λ c. search needs)
     (λ c. search (place-fits, joins-fits))
     (λ c. search needs)
-    (λ c. search (place-fits, refused-fits, values-fits))
+    (λ c. search (place-fits, refused-fits))
     (λ c. search needs)
     (λ c. search joins-refused)
     (λ c. search cursor-less)
