@@ -1,12 +1,12 @@
 /*
- * valdrabus: reads the literals of SQL dumps, and writes values as literals: plain, E'..' and U&'..'.
+ * valdrabus: reads the literals of SQL dumps, dates as days too, and writes values as literals: plain, E'..' and U&'..'.
  *
  * Link libvaldrabus.a (made by `tools/archive`, for x86-64 or Arm). No function allocates, keeps a pointer, or has any state.
  *
  * WHAT THE CALLER OWES, and no more:
  *   - a pointer with a length is valid for that many bytes, for reading, and for writing where it is not const; with the length 0 it is any pointer but NULL;
  *   - the same of a block's items and answers, whose lengths count 32-bit numbers and not bytes; these pointers are aligned, with the length 0 too;
- *   - a pointer to a number (how, first, second, place, value, len ..) is valid for writing and aligned;
+ *   - a pointer to a number (how, first, second, place, value, year, len ..) is valid for writing and aligned;
  *   - what is written through (the buffer, each lent number, a block's answers) overlaps nothing else that is given.
  * Everything else is tested: every kind, span, source, setting and buffer gets an answer or a number.
  *
@@ -30,9 +30,10 @@
  *   10  a number that is given, to a call or in a block's item, names nothing: an unknown kind, or a mark or setting that is neither 0 nor 1       first, second: 0
  *   11  a writer's value holds NUL, which a plain literal does not spell with the setting 0, and E'..' and U&'..' at neither setting
  *   12  a writer's value has more than 268435456 bytes, or the part size is below 4
+ *   14  a date literal's value is no date         first, second: its span; valdrabus_date_of_day, whose number is no day's, has no span
  *   15  a block as a whole: its items are not in fours, its answers have fewer numbers than its items, or the buffer has more than 4294967295 bytes
- * 10 is tested before all others; then 1, 2, 3, 4, then 5 to 8, then 9. The plain writers test 10, 12, 4, 11, 9; the writers of E'..' and U&'..', which take no
- * number that could name nothing, 12, 4, 11, 9. Of a block 15 is tested before any item is looked at, and of each item 10, 1, 3, 4, 6, 9.
+ * 10 is tested before all others; then 1, 2, 3, 4, then 5 to 8, then 9 or 14. The plain writers test 10, 12, 4, 11, 9; the writers of E'..' and U&'..', which
+ * take no number that could name nothing, 12, 4, 11, 9. Of a block 15 is tested before any item is looked at, and of each item 10, 1, 3, 4, 6, 9.
  *
  * WHAT STAYS UNCHANGED. A refusal, by any number but 0, and a borrowed answer change no byte of the buffer. A written answer fills the buffer's start, in a block
  * the start of what is left; the rest is unchanged. The lent numbers (how, first, second, place ..) are written by every call, with 0 where nothing else is said: so place is 0
@@ -44,9 +45,11 @@
  *   VALDRABUS_WRITTEN   the bytes first (which is 0) to second of the buffer
  * A block tells its texts by start and length instead.
  *
- * THE PLACE of a 6 says where the text broke, so that nobody has to hunt for the byte. valdrabus_as_str_in and valdrabus_as_temporal_text are lent a number for it, and a block tells it in
- * the start field of its answer; identifiers have none, and neither has any other number. It counts bytes from the literal's text's start: the byte in the source is start + place. That byte
- * always begins a character and lies inside the text; for an empty text the place is 0. Reading from the left stops:
+ * THE PLACE of a 6 says where the text broke, so that nobody has to hunt for the byte. valdrabus_as_str_in and valdrabus_as_temporal_text are lent a number
+ * for it, and a block tells it in the start field of its answer; identifiers have none, and neither has any other number. valdrabus_as_date is lent none:
+ * where it gives 6, valdrabus_as_temporal_text gives 6 for the same literal with any buffer, an empty one too, and tells the place. It counts bytes from the
+ * literal's text's start: the byte in the source is start + place. That byte always begins a character and lies inside the text; for an empty text the place
+ * is 0. Reading from the left stops:
  *   - at a lone quote;
  *   - at an escape that cannot be read, at its first byte; of a broken pair of halves, at the first half's;
  *   - in E'..' whose bytes become no UTF-8, at the escape or raw character that broke it, or at the closing quote where a sequence is left unfinished;
@@ -90,7 +93,8 @@ enum {
     VALDRABUS_EXPECTED_NULL = 5,
     VALDRABUS_EXPECTED_TEMPORAL = 6,
     VALDRABUS_EXPECTED_BIT_STRING = 7,
-    VALDRABUS_EXPECTED_MONEY = 8
+    VALDRABUS_EXPECTED_MONEY = 8,
+    VALDRABUS_EXPECTED_DATE = 9
 };
 
 enum {
@@ -107,6 +111,7 @@ enum {
     VALDRABUS_BAD_NUMBER = 10,
     VALDRABUS_HOLDS_NUL = 11,
     VALDRABUS_OVER_LIMIT = 12,
+    VALDRABUS_INVALID_DATE = 14,
     VALDRABUS_BAD_BLOCK = 15
 };
 
@@ -183,6 +188,18 @@ uint32_t valdrabus_as_null(uint32_t kind, size_t *first, size_t *second);
 
 /* Whether a literal is NULL; false for a code that names no kind. */
 bool valdrabus_is_null(uint32_t kind);
+
+/* DATES: days of the Gregorian calendar, before 1582 too as in ISO 8601, from 0001-01-01 to 9999-12-31. Each has a number: 0001-01-01 is 1, each next day has
+   one more, 9999-12-31 is 3652059. So a later day has a larger number; days since 1970-01-01 are number - 719163. */
+
+/* The day of a date literal: year, month, day and the day's number; all four 0 on a refusal. Its value is what valdrabus_as_temporal_text gives where there
+   is room, and has to be exactly ten bytes, yyyy-mm-dd. It is read to its end before it is tested, so 6 comes before 14. 1 (time, timestamp, interval too),
+   2, 3, 4, 6, 10, 14. */
+uint32_t valdrabus_as_date(uint32_t kind, uint32_t synthetic, uint32_t start, uint32_t end, const uint8_t *source, size_t source_len,
+                           uint32_t *year, uint32_t *month, uint32_t *day, uint32_t *number, size_t *first, size_t *second);
+
+/* The day that has a number; all three 0 on a refusal, which is of 0 and of what is past 3652059. 14. */
+uint32_t valdrabus_date_of_day(uint32_t number, uint32_t *year, uint32_t *month, uint32_t *day);
 
 /* THE VIEW of an answer by how, first and second, for a source and a buffer of these lengths: it returns which of the two it shows (VALDRABUS_NONE, _BORROWED, _WRITTEN) and the
    range in it, an empty one that fits included. A range that does not fit, or a refusal, shows an empty part: VALDRABUS_NONE, 0, 0. */

@@ -4,23 +4,23 @@
     tools/replay.py            writes crates/replay/stdin, the rows, and crates/replay/stdout, what the program has to say of them
     tools/replay.py --check    exits 1 if the two files are not what the vectors say
 
-A row is a head of 44 bytes, then the text with its padding, the value and the name. Numbers have their lowest byte first. The head:
+A row is a head of 48 bytes, then the text with its padding, the value and the name. Numbers have their lowest byte first. The head:
 
     0       the question, see QUESTIONS; 0 ends a stratum, which the name names; 255 fills a block of 65,536 bytes, which holds whole rows
     1       the kind's code; of the writer 1 if a part size is given; of a form 1 for E, 2 for U&
     2, 3    the setting; 1 for a synthetic literal
-    4-11    start and end, four bytes each; of the writer the start is the part size
+    4-11    start and end, four bytes each; of the writer the start is the part size, of a day its number
     12, 13  how many bytes of padding stand before the source; 1 if it is asked with its padding too
     14      how long the buffer is in the first asking
     15, 16  what is due: a letter for the case, the number
     18-27   places of the row, two bytes each: where the source begins and ends, the padding ends and the value begins, the value ends and the name begins, the row ends
-    28-43   what is due: three values, of eight bytes and twice of four; the third is the place of a 6
+    28-47   what is due: four values, of eight bytes and three times of four; the third is the place of a 6; of a day they are year, month, day and number
 
 Of a block of literals in one call the value is the items, the answer slice as it is lent and the answer slice as it is due, all by numbers of four bytes, and the
 bytes that are written:
 
     4-9     places of the row, two bytes each: where the items end, the slice as lent ends, the slice as due ends
-    28-43   what is due: that no number of the answer slice differs, told as the place behind the last that is compared, and 0 twice
+    28-47   what is due: that no number of the answer slice differs, told as the place behind the last that is compared, and 0 three times
 """
 import pathlib
 import re
@@ -29,15 +29,16 @@ import sys
 
 ROOT = pathlib.Path(__file__).resolve().parent.parent
 # the first eight lend a buffer
-QUESTIONS = 'string plain decimal bits temporal ident writer form money source charset i64 bool null evalid uvalid uescape nul isident radix block'.split()
+QUESTIONS = ('string plain decimal bits temporal ident writer form money source charset i64 bool null evalid uvalid uescape nul isident radix block '
+             'date day').split()
 LENDS = set(QUESTIONS[:8])
-SPANNED = set('string plain decimal bits temporal money source charset i64'.split())
+SPANNED = set('string plain decimal bits temporal money source charset i64 date'.split())
 # how the texts of the two forms begin, in the order of their numbers
 OPENING = {'escape': "E'", 'unicode': "U&'"}
 LONG = 200  # the buffer of the first asking; no value is as long
 NUMBERS = 128  # as many numbers of an answer slice are compared; none is as long
 OTHER = 0xA5A5A5A5  # an answer slice is lent full of this number and those behind it
-HEAD = 44
+HEAD = 48
 BLOCK = 65536
 # Bytes that would change an answer if they were read. The first byte behind a text never is 80 to BF, so a place that cut no character still cuts none.
 BEFORE = ["'", 'E', '\\', '"a', '$$', 'é', "U&'", '-', '0x', '_a', '\n', "'b' "]
@@ -86,7 +87,7 @@ class Row:
         assert len(self.value) < LONG, self.name
         parts = [before, self.source, behind, self.value, self.name.encode()]
         places = [HEAD + sum(map(len, parts[:n])) for n in (1, 2, 3, 4, 5)]
-        head = struct.pack('<4B2I5Bx5HQ2I', QUESTIONS.index(self.question) + 1, self.kind, self.setting, self.synthetic, self.start, self.end, len(before),
+        head = struct.pack('<4B2I5Bx5HQ3I', QUESTIONS.index(self.question) + 1, self.kind, self.setting, self.synthetic, self.start, self.end, len(before),
                            self.is_padded(index), self.room, ord(self.letter), self.number, *places, *self.values)
         return head + b''.join(parts)
 
@@ -132,38 +133,38 @@ class Call:
         parts = [b'', self.source, b'', b''.join(numbers) + self.written, self.name.encode()]
         places = [HEAD + sum(map(len, parts[:n])) for n in (1, 2, 3, 4, 5)]
         inner = [places[2] + sum(map(len, numbers[:n])) for n in (1, 2, 3)]
-        head = struct.pack('<B3x3H4x3Bx5HQ8x', QUESTIONS.index(self.question) + 1, *inner, self.room, ord('c'), self.number, *places, NUMBERS)
+        head = struct.pack('<B3x3H4x3Bx5HQ12x', QUESTIONS.index(self.question) + 1, *inner, self.room, ord('c'), self.number, *places, NUMBERS)
         return head + b''.join(parts)
 
 
 def ending(stratum):
     """the row that ends a stratum"""
     name = stratum.encode()
-    return struct.pack('<24x2H16x', HEAD, HEAD + len(name)) + name
+    return struct.pack('<24x2H20x', HEAD, HEAD + len(name)) + name
 
 
 def due(source, answer):
-    """(number, letter, three values, the bytes shown) of an answer"""
+    """(number, letter, four values, the bytes shown) of an answer"""
     case, *values = answer.split()
     if case == 'b':
         start, end = map(int, values)
-        return 0, 'b', (start, end, 0), source[start:end]
+        return 0, 'b', (start, end, 0, 0), source[start:end]
     if case == 'w':
         value = unhex(values[0])
-        return 0, 'w', (len(value), 0, 0), value
+        return 0, 'w', (len(value), 0, 0, 0), value
     if case == 'r':
-        return int(values[0]), 'r', three(values[1:]), b''
+        return int(values[0]), 'r', four(values[1:]), b''
     if case in ('yes', 'no'):
-        return 0, 'y', (int(case == 'yes'), 0, 0), b''
+        return 0, 'y', (int(case == 'yes'), 0, 0, 0), b''
     if case == 'i':
         value = int(values[0])
-        return 0, 'i', (-1 - value, 1, 0) if value < 0 else (value, 0, 0), b''
-    return 0, case, three(values), b''
+        return 0, 'i', (-1 - value, 1, 0, 0) if value < 0 else (value, 0, 0, 0), b''
+    return 0, case, four(values), b''
 
 
-def three(values):
-    """three numbers, 0 where none is told"""
-    return (*map(int, values), 0, 0, 0)[:3]
+def four(values):
+    """four numbers, 0 where none is told"""
+    return (*map(int, values), 0, 0, 0, 0)[:4]
 
 
 def lines(name):
@@ -173,7 +174,7 @@ def lines(name):
 
 
 def listed(name):
-    """(stratum, row) of oracle.tsv, clarified.tsv, parts.tsv or places.tsv; the records are no question's, and `litrec` answers them"""
+    """(stratum, row) of oracle.tsv, clarified.tsv, parts.tsv, places.tsv or dates.tsv; the records are no question's, and `litrec` answers them"""
     for identity, question, kind, setting, start, end, source, room, answer, *_ in lines(name):
         if question == 'record':
             continue
@@ -359,6 +360,7 @@ def all_rows():
     yield from parts_asked()
     yield from sorted(listed('places'), key=lambda r: QUESTIONS.index(r[1].question))
     yield from blocks_asked()
+    yield from sorted(listed('dates'), key=lambda r: QUESTIONS.index(r[1].question))
 
 
 def in_blocks(rows):

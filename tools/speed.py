@@ -6,7 +6,8 @@
 Needs cargo, valgrind, the archive (as tools/archive finds it) and the Rust's source (VALDRABUS_RUST_SRC, see tools/oracle/oracle.py). Times are those of
 `bench`, the best of its rounds. Instructions are counted by callgrind: a case is run once and eleven times, and a tenth of the difference is what one run
 costs, so that start and end of the program do not count. The page has a section for each machine, one more on blocks, of which only this one's are written
-anew, and a summary of both. With --blocks it is the one on blocks alone. With --print the sections go to standard output and the page stays as it is.
+anew, and a summary of both. A machine's section tells how much longer a date takes than the temporal text of the same literal. With --blocks it is the one on
+blocks alone. With --print the sections go to standard output and the page stays as it is.
 """
 import os
 import platform
@@ -109,6 +110,12 @@ def slower(table, first, other):
     return '; '.join(f'{name} ({by:.2f} times)' for name, by in times if by > 1) or 'nowhere'
 
 
+def of_dates(table):
+    """Ours: a date's time beside that of its literal's text, which it has to read."""
+    times = {row[0]: float(row[OURS]) for row in table}
+    return f'A date takes {times["date"] / times["temporal text"]:.2f} times what the temporal text of the same literal takes, both ours.\n'
+
+
 def head(machine):
     return f'### {MACHINES[machine]}\n\n{model()}; {output("rustc", "--version").strip()}, release builds; {output("valgrind", "--version").strip()}.\n\n'
 
@@ -119,6 +126,7 @@ def section(machine):
     text = head(machine) + TIMES + times
     for at, than in ((RUST, 'the Rust'), (RUST_STR, 'the Rust without `from_utf8`')):
         text += f'\nWhere ours takes longer than {than}: {slower(table, OURS, at)}.\n'
+    text += '\n' + of_dates(table)
     text += '\nInstructions for one literal:\n\n| case | ours | Rust | ratio | Rust, no `from_utf8` | ratio |\n|---|---|---|---|---|---|\n'
     for row in table:
         ours, *others = counted(row[0], int(row[1]), SIDES)

@@ -3,7 +3,7 @@
 //! What the header asks of a caller, Rust's references give: a slice's pointer is never null and is valid for the slice's length, also when that is 0; a `&mut` is
 //! aligned, valid for writing and overlaps nothing else that is borrowed. No function keeps a pointer. The `SAFETY` comments name this as "slices".
 
-use crate::items::{Item, Told};
+use crate::items::{INVALID_STRING, Item, Told};
 use crate::literal::Literal;
 use crate::said::Said;
 use crate::settings::Settings;
@@ -130,6 +130,41 @@ pub(crate) fn as_i64(literal: &Literal, source: &[u8]) -> (Said, i64) {
         )
     };
     (said, value)
+}
+
+/// Year, month, day and the day's number beside what is said; each 0 on a refusal. The call tells no place: what it refuses by 6, the temporal question refuses
+/// so with any buffer, and tells the place.
+pub(crate) fn as_date(literal: &Literal, source: &[u8]) -> (Said, [u32; 4]) {
+    let (mut said, [mut year, mut month, mut day, mut number]) = (Said::default(), [0; 4]);
+    // SAFETY: slices.
+    said.number = unsafe {
+        sys::valdrabus_as_date(
+            literal.kind.code(),
+            literal.synthetic.into(),
+            literal.span.start,
+            literal.span.end,
+            source.as_ptr(),
+            source.len(),
+            &mut year,
+            &mut month,
+            &mut day,
+            &mut number,
+            &mut said.first,
+            &mut said.second,
+        )
+    };
+    if said.number == INVALID_STRING {
+        said.place = text(TextQuestion::Temporal, literal, source, &mut []).place;
+    }
+    (said, [year, month, day, number])
+}
+
+/// What is returned, and year, month and day beside it; each 0 on a refusal.
+pub(crate) fn date_of_day(number: u32) -> (u32, [u32; 3]) {
+    let [mut year, mut month, mut day] = [0; 3];
+    // SAFETY: each lent number is a `&mut`.
+    let returned = unsafe { sys::valdrabus_date_of_day(number, &mut year, &mut month, &mut day) };
+    (returned, [year, month, day])
 }
 
 /// The value beside what is said; 0 on a refusal.

@@ -9,8 +9,8 @@ use std::fmt;
 
 /// Why a call, or an item of a block, is refused. Each case has its [number](Error::number); a refusal changes no byte of the lent buffer.
 ///
-/// A span is the literal's own; a call on bare text, which has no literal, gives none. A string or temporal text that cannot be read tells the [place](Error::place) where reading stops, and every
-/// refusal of a literal's text its [line and column](Error::position) in the source.
+/// A span is the literal's own; a call on bare text, which has no literal, gives none. A string, temporal text or date that cannot be read tells the
+/// [place](Error::place) where reading stops, and every refusal of a literal's text its [line and column](Error::position) in the source.
 ///
 /// ```
 /// use valdrabus::{Error, Kind, Literal};
@@ -79,12 +79,17 @@ pub enum Error {
     HoldsNul,
     /// 12: a value longer than [`LONGEST_VALUE`](crate::LONGEST_VALUE), or parts smaller than [`LEAST_PART`](crate::LEAST_PART).
     OverLimit,
+    /// 14: a date literal whose value is not ten bytes, `yyyy-mm-dd`, of a day from 0001-01-01 to 9999-12-31.
+    InvalidDate {
+        /// The literal's span.
+        span: Span,
+    },
     /// 15: a block with fewer answers than items, or with a buffer that is, or would have to be, longer than [`LONGEST_BUFFER`](crate::LONGEST_BUFFER).
     BadBlock,
 }
 
 impl Error {
-    /// The refusal's number, 1 to 12 or 15, as `include/valdrabus.h` lists them.
+    /// The refusal's number, 1 to 12, 14 or 15, as `include/valdrabus.h` lists them.
     pub const fn number(&self) -> u32 {
         match self {
             Error::WrongKind { .. } => 1,
@@ -99,6 +104,7 @@ impl Error {
             Error::BadNumber => 10,
             Error::HoldsNul => 11,
             Error::OverLimit => 12,
+            Error::InvalidDate { .. } => 14,
             Error::BadBlock => 15,
         }
     }
@@ -111,12 +117,13 @@ impl Error {
             | Error::InvalidSourceRange { span }
             | Error::InvalidInteger { span }
             | Error::InvalidBitString { span }
-            | Error::InvalidMoney { span } => Some(span),
+            | Error::InvalidMoney { span }
+            | Error::InvalidDate { span } => Some(span),
             _ => None,
         }
     }
 
-    /// Where reading a string or temporal text from the left stops, in bytes from the literal's start: 6 alone has it, and not that of an identifier.
+    /// Where reading a string, temporal text or date from the left stops, in bytes from the literal's start: 6 alone has it, and not that of an identifier.
     ///
     /// It is the lone quote, or the first byte of the escape that cannot be read; in `E'..'` that becomes no UTF-8 the escape or character that broke it, or the closing quote where a sequence is
     /// unfinished. A segment with a raw NUL, or of no spelling, gives its own start, and so does what is no segment in joined text. The byte there begins a character, and lies inside the literal;
@@ -170,6 +177,7 @@ impl Error {
             6 => Error::InvalidString { span: Some(span), place: Some(said.place) },
             7 => Error::InvalidBitString { span },
             8 => Error::InvalidMoney { span },
+            14 => Error::InvalidDate { span },
             number => Error::of_bare(number, said.second),
         }
     }
@@ -209,6 +217,7 @@ impl fmt::Display for Error {
             Error::BadNumber => write!(f, "the linked archive is of another version"),
             Error::HoldsNul => write!(f, "the value holds a NUL: only plain literals with backslash escapes spell it"),
             Error::OverLimit => write!(f, "the value is too long to be written, or the part size too small"),
+            Error::InvalidDate { .. } => write!(f, "{text} is not a date, yyyy-mm-dd from 0001-01-01 to 9999-12-31"),
             Error::BadBlock => {
                 write!(
                     f,
@@ -246,7 +255,7 @@ mod tests {
 
     #[test]
     fn every_number_of_a_literal_comes_back_as_its_error() {
-        for number in (1..=12).chain([15]) {
+        for number in (1..=12).chain([14, 15]) {
             let error = of_literal(number, 1, 2);
             assert_eq!((error.number(), error.place()), (number, (number == 6).then_some(4)));
         }
@@ -254,9 +263,9 @@ mod tests {
 
     #[test]
     fn what_the_header_does_not_know_is_a_bad_number() {
-        assert_eq!([13, 14, 16].map(|number| of_literal(number, 0, 0)), [Error::BadNumber; 3]);
-        assert_eq!(of_literal(1, 9, 14), Error::BadNumber);
-        assert_eq!(Error::of_bare(5, 0), Error::BadNumber);
+        assert_eq!([13, 16, 17].map(|number| of_literal(number, 0, 0)), [Error::BadNumber; 3]);
+        assert_eq!(of_literal(1, 10, 14), Error::BadNumber);
+        assert_eq!([5, 14].map(|number| Error::of_bare(number, 0)), [Error::BadNumber; 2]);
     }
 
     #[test]

@@ -1,6 +1,7 @@
 //! The questions on a literal's text, over a source that may not be UTF-8 throughout.
 
 use crate::calls::{self, PartQuestion, TextQuestion};
+use crate::dates::Date;
 use crate::errors::Error;
 use crate::literal::Literal;
 use crate::settings::Settings;
@@ -38,6 +39,11 @@ impl<'s> InBytes<'s> {
     pub fn as_i64(&self) -> Result<i64, Error> {
         let (said, value) = calls::as_i64(&self.literal, self.source);
         said.accepted(Some(&self.literal)).map(|()| value)
+    }
+
+    /// As [`Literal::as_date`]. Refusals: 1, 2, 3, 4, 6, 14.
+    pub fn as_date(&self) -> Result<Date, Error> {
+        Date::of_literal(&self.literal, self.source)
     }
 
     /// As [`Literal::as_str`]. Refusals: 1, 2, 3, 4, 6, 9.

@@ -8,7 +8,7 @@ use crate::span::Span;
 
 const WRONG_KIND: u32 = 1;
 const MISSING_SOURCE: u32 = 2;
-const INVALID_STRING: u32 = 6;
+pub(crate) const INVALID_STRING: u32 = 6;
 const NO_ROOM: u32 = 9;
 const BAD_NUMBER: u32 = 10;
 

@@ -211,10 +211,12 @@ pub enum Expected {
     BitString,
     /// [`Kind::Money`]
     Money,
+    /// [`Kind::Date`] alone
+    Date,
 }
 
 impl Expected {
-    const ALL: [Expected; 8] = [
+    const ALL: [Expected; 9] = [
         Expected::Integer,
         Expected::DecimalText,
         Expected::String,
@@ -223,9 +225,10 @@ impl Expected {
         Expected::Temporal,
         Expected::BitString,
         Expected::Money,
+        Expected::Date,
     ];
 
-    /// The family's code, 1 to 8, as `include/valdrabus.h` lists them.
+    /// The family's code, 1 to 9, as `include/valdrabus.h` lists them.
     pub const fn code(self) -> u32 {
         self as u32 + 1
     }
@@ -247,6 +250,7 @@ impl fmt::Display for Expected {
             Expected::Temporal => "a date, time, timestamp or interval",
             Expected::BitString => "a bit string",
             Expected::Money => "a money text",
+            Expected::Date => "a date",
         })
     }
 }
@@ -268,6 +272,6 @@ mod tests {
         for expected in Expected::ALL {
             assert_eq!(Expected::of_code(expected.code() as usize), Some(expected));
         }
-        assert_eq!([0, 9, usize::MAX].map(Expected::of_code), [None; 3]);
+        assert_eq!([0, 10, usize::MAX].map(Expected::of_code), [None; 3]);
     }
 }

@@ -1,4 +1,4 @@
-//! Reads the literals of SQL dumps, and writes values as literals.
+//! Reads the literals of SQL dumps, dates as days too, and writes values as literals.
 //!
 //! A string of a dump has many spellings: doubled quotes, `E'..'` and `U&'..'` escapes, dollar quotes, MySQL's backslashes, names that arrive in parts. This crate says what a
 //! literal *means*, so that a table can be keyed by it:
@@ -27,6 +27,7 @@
 //!
 //! - [`Literal`]: a kind and a span; the questions are its methods. [`InBytes`]: the same over bytes that may not be UTF-8.
 //! - [`Text`]: an answer that is a part of the source, or written into the buffer that was lent.
+//! - [`Date`]: the day of a date literal, [`Literal::as_date`], with its number: for sorting, and for other crates' dates.
 //! - [`read_block`]: many string literals of one source in one call, each an [`Item`]; [`Block`] shows their answers. [`to_block`]: the same with memory of its own.
 //! - [`Error`]: why a call, or an item of a block, is refused, with its number. A refusal changes no byte of the buffer. That of a string has the [place](Error::place) where reading stops;
 //!   [`Error::in_source`] tells the line and column of it.
@@ -44,6 +45,7 @@
 
 mod blocks;
 mod calls;
+mod dates;
 mod errors;
 mod helpers;
 mod in_bytes;
@@ -64,6 +66,7 @@ mod texts;
 mod writer;
 
 pub use blocks::{Block, LONGEST_BUFFER, Texts, read_block, read_block_bytes};
+pub use dates::{Date, ParseDateError};
 pub use errors::Error;
 pub use helpers::{
     is_unicode_ident, materialize_unicode_ident, materialize_unicode_ident_bytes, postgres_escape_string_is_valid,

@@ -1,6 +1,7 @@
 //! The questions on a literal's text, over a source that is text.
 
 use crate::calls::{self, PartQuestion, TextQuestion};
+use crate::dates::Date;
 use crate::errors::Error;
 use crate::literal::Literal;
 use crate::owned;
@@ -8,7 +9,7 @@ use crate::settings::Settings;
 use crate::texts::Text;
 use std::borrow::Cow;
 
-/// Parts of the source, and a number's value.
+/// Parts of the source, a number's value and a date's day.
 impl Literal {
     /// The literal's text, of any kind. Refusals: 2, 3.
     ///
@@ -56,6 +57,28 @@ impl Literal {
     pub fn as_i64(&self, source: &str) -> Result<i64, Error> {
         let (said, value) = calls::as_i64(self, source.as_bytes());
         said.accepted(Some(self)).map(|()| value)
+    }
+
+    /// The day of a date literal, from 0001-01-01 to 9999-12-31. Its value is that of [`as_temporal_text`](Literal::as_temporal_text), in all its spellings and
+    /// joined from parts too, and has to be exactly ten bytes, `yyyy-mm-dd`. Nothing is allocated. Refusals: 1 (for a time, timestamp or interval too), 2, 3, 6
+    /// with its [place](Error::place), 14.
+    ///
+    /// ```
+    /// use valdrabus::{Date, Kind, Literal};
+    ///
+    /// let row = "('Aspirin', DATE '2027-01-31'), ('Balm', DATE '2026-' '12-24'), ('Gauze', DATE '2027-02-29')";
+    /// let aspirin = Literal::new(Kind::Date, 12..29).as_date(row)?;
+    /// let balm = Literal::new(Kind::Date, 41..61).as_date(row)?;
+    /// assert_eq!((aspirin.year(), aspirin.month(), aspirin.day()), (2027, 1, 31));
+    /// assert_eq!(balm, Date::new(2026, 12, 24).unwrap());
+    /// assert!(balm < aspirin);
+    ///
+    /// let gauze = Literal::new(Kind::Date, 74..91).as_date(row).unwrap_err();
+    /// assert_eq!(gauze.number(), 14);
+    /// # Ok::<(), valdrabus::Error>(())
+    /// ```
+    pub fn as_date(&self, source: &str) -> Result<Date, Error> {
+        Date::of_literal(self, source.as_bytes())
     }
 }
 

@@ -113,6 +113,21 @@ unsafe extern "C" {
     pub fn valdrabus_as_bool(kind: u32, value: *mut u32, first: *mut usize, second: *mut usize) -> u32;
     pub fn valdrabus_as_null(kind: u32, first: *mut usize, second: *mut usize) -> u32;
     pub fn valdrabus_is_null(kind: u32) -> bool;
+    pub fn valdrabus_as_date(
+        kind: u32,
+        synthetic: u32,
+        start: u32,
+        end: u32,
+        source: *const u8,
+        source_len: usize,
+        year: *mut u32,
+        month: *mut u32,
+        day: *mut u32,
+        number: *mut u32,
+        first: *mut usize,
+        second: *mut usize,
+    ) -> u32;
+    pub fn valdrabus_date_of_day(number: u32, year: *mut u32, month: *mut u32, day: *mut u32) -> u32;
     pub fn valdrabus_view(
         how: u32,
         first: usize,

@@ -102,6 +102,22 @@ fn places_allocate_nothing() {
     assert_eq!((position.is_some(), made), (true, 0));
 }
 
+/// Neither days nor their refusals, nor what is made of texts and numbers.
+#[test]
+fn dates_allocate_nothing() {
+    let source = "DATE '2027-01-31' DATE '2027-' '02-28' DATE '2027-02-29' DATE 'a'b'";
+    let literals = [0..17, 18..38, 39..56, 57..67].map(|span| Literal::new(Kind::Date, span));
+    let (days, made) = counted(|| literals.map(|literal| literal.as_date(source).map_err(|error| error.number())));
+    assert_eq!(days.map(|day| day.map(Date::day_number)), [Ok(740_012), Ok(740_040), Err(14), Err(6)]);
+    assert_eq!(made, 0);
+    let (days, made) = counted(|| {
+        let parsed = ["2027-01-31", "2027-02-29"].map(|text| text.parse().ok());
+        [Date::new(2027, 1, 31), Date::new(2027, 2, 29), Date::from_day_number(740_012), parsed[0], parsed[1]]
+    });
+    assert_eq!(days.map(|day| day.is_some()), [true, false, true, true, false]);
+    assert_eq!(made, 0);
+}
+
 #[test]
 fn single_calls_allocate_nothing() {
     let (text, rows, long) = wholesale();

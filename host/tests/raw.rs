@@ -1,8 +1,10 @@
-//! What the safe functions never meet: numbers that name nothing, items that are not in fours, and the view. Through the C functions themselves.
+//! What the safe functions never meet: numbers that name nothing, what is lent of dates, items that are not in fours, and the view. Through the C functions
+//! themselves.
 
 use valdrabus::sys;
 
 const BAD_NUMBER: u32 = 10;
+const INVALID_DATE: u32 = 14;
 const BAD_BLOCK: u32 = 15;
 
 /// A string read by its raw numbers: what is returned, how, first, second and place, which all begin as 77.
@@ -43,6 +45,7 @@ fn number_10_for_what_names_nothing() {
     assert_eq!(as_str(1, 2, 0)[0], BAD_NUMBER as usize);
 }
 
+/// The date's is below.
 #[test]
 fn number_10_of_every_function_that_takes_a_number() {
     let (source, mut out) = (b"1", [0xA5; 8]);
@@ -82,6 +85,59 @@ fn number_10_of_every_function_that_takes_a_number() {
     assert_eq!(out, [0xA5; 8]);
     // SAFETY: no pointer is given.
     assert!(unsafe { !sys::valdrabus_is_null(0) && !sys::valdrabus_is_null(99) && sys::valdrabus_is_null(7) });
+}
+
+/// A date read by its raw numbers: what is returned, the day, first and second, which all begin as 77.
+fn as_date(kind: u32, synthetic: u32, end: u32) -> (u32, [u32; 4], [usize; 2]) {
+    let source = b"'2027-01-31'";
+    let ([mut year, mut month, mut day, mut number], [mut first, mut second]) = ([77; 4], [77; 2]);
+    // SAFETY: slices and references of this function.
+    let returned = unsafe {
+        sys::valdrabus_as_date(
+            kind,
+            synthetic,
+            0,
+            end,
+            source.as_ptr(),
+            source.len(),
+            &mut year,
+            &mut month,
+            &mut day,
+            &mut number,
+            &mut first,
+            &mut second,
+        )
+    };
+    (returned, [year, month, day, number], [first, second])
+}
+
+#[test]
+fn a_dates_numbers() {
+    assert_eq!(as_date(8, 0, 12), (0, [2027, 1, 31, 740_012], [0; 2]));
+    for (kind, synthetic) in [(0, 0), (15, 0), (u32::MAX, 0), (8, 2), (8, u32::MAX), (9, 2), (15, 1)] {
+        assert_eq!(as_date(kind, synthetic, 99), (BAD_NUMBER, [0; 4], [0; 2]), "{kind} {synthetic}");
+    }
+    assert_eq!(as_date(9, 1, 99), (1, [0; 4], [9, 9]));
+    assert_eq!(as_date(8, 1, 99), (2, [0; 4], [0, 99]));
+    assert_eq!(as_date(8, 0, 99), (3, [0; 4], [0, 99]));
+    assert_eq!(as_date(8, 0, 11), (6, [0; 4], [0, 11]));
+}
+
+#[test]
+fn a_days_numbers() {
+    for (number, due) in [
+        (740_012, (0, [2027, 1, 31])),
+        (1, (0, [1, 1, 1])),
+        (3_652_059, (0, [9999, 12, 31])),
+        (0, (INVALID_DATE, [0; 3])),
+        (3_652_060, (INVALID_DATE, [0; 3])),
+        (u32::MAX, (INVALID_DATE, [0; 3])),
+    ] {
+        let [mut year, mut month, mut day] = [77; 3];
+        // SAFETY: references of this function.
+        let returned = unsafe { sys::valdrabus_date_of_day(number, &mut year, &mut month, &mut day) };
+        assert_eq!((returned, [year, month, day]), due, "{number}");
+    }
 }
 
 /// A block over `'a''b'` by its raw numbers: what is returned, and the answers, which all begin as 77.

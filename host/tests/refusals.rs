@@ -33,6 +33,7 @@ fn number_1_gives_the_family_and_the_kind_with_its_data() {
     assert_eq!(expected(Kind::String, |it| it.to_temporal_text("1").err()), Expected::Temporal);
     assert_eq!(expected(Kind::String, |it| it.to_bit_text("1").err()), Expected::BitString);
     assert_eq!(expected(HEX, |it| it.as_money_text("1").err()), Expected::Money);
+    assert_eq!(expected(interval, |it| it.as_date("1").err()), Expected::Date);
 }
 
 #[test]
@@ -176,9 +177,10 @@ fn no_other_number_has_a_place() {
         Literal::new(Kind::String, 0..7).as_str("'a' 'b'", &mut []).unwrap_err(),
         Literal::new(BINARY, 0..5).as_bit_text(text, &mut []).unwrap_err(),
         materialize_unicode_ident(text, &mut []).unwrap_err(),
+        Literal::new(Kind::Date, 0..3).as_date(text).unwrap_err(),
     ];
-    assert_eq!(others.map(|error| error.number()), [1, 2, 3, 4, 9, 7, 6]);
-    assert_eq!(others.map(|error| (error.place(), error.place_in_source())), [(None, None); 7]);
+    assert_eq!(others.map(|error| error.number()), [1, 2, 3, 4, 9, 7, 6, 14]);
+    assert_eq!(others.map(|error| (error.place(), error.place_in_source())), [(None, None); 8]);
 }
 
 #[test]

@@ -1,5 +1,5 @@
-//! Rows of `vectors/`, all that a caller of this crate can ask: the Rust original's own answers, how document 01 is read, and the facts of the writers' two forms, of values in parts and of places.
-//! `tests/blocks.rs` has those of blocks. docs/VECTORS.md says what a row holds.
+//! Rows of `vectors/`, all that a caller of this crate can ask: the Rust original's own answers, how document 01 is read, and the facts of the writers' two
+//! forms, of values in parts, of places and of dates. `tests/blocks.rs` has those of blocks. docs/VECTORS.md says what a row holds.
 
 mod common;
 
@@ -128,6 +128,10 @@ fn written(text: &str) -> String {
     format!("w {}", hex(text.as_bytes()))
 }
 
+fn day(date: Date) -> String {
+    format!("d {} {} {} {}", date.year(), date.month(), date.day(), date.day_number())
+}
+
 fn yes(truth: bool) -> String {
     if truth { "yes" } else { "no" }.to_owned()
 }
@@ -151,6 +155,7 @@ fn in_bytes(row: &Row, out: &mut [u8]) -> String {
         "source" => told_part(source, asked.source_text().map(Some)),
         "charset" => told_part(source, asked.charset_introducer()),
         "i64" => asked.as_i64().map_or_else(refused, |value| format!("i {value}")),
+        "date" => asked.as_date().map_or_else(refused, day),
         "bool" => literal.as_bool().map_or_else(refused, yes),
         "null" => literal.as_null().map_or_else(refused, |()| yes(literal.is_null())),
         other => panic!("no question {other}"),
@@ -166,6 +171,8 @@ fn on_bare_text(row: &Row, question: &str, out: &mut [u8]) -> Option<String> {
         "uvalid" => yes(unicode_escape_string_is_valid(source)),
         "uescape" => yes(uescape_argument_is_legal(source)),
         "nul" => yes(string_literal_embeds_nul(source)),
+        // The start is the number; 14 comes without a literal here.
+        "day" => Date::from_day_number(row.start.parse().expect("a number")).map_or("r 14".to_owned(), day),
         "radix" => {
             let (base, rest) = split_radix_prefix_bytes(source);
             format!("p {base} {}", source.len() - rest.len())
@@ -195,6 +202,7 @@ fn in_text(row: &Row, text: &str, out: &mut [u8]) -> Option<String> {
         "source" => told_part(source, literal().source_text(text).map(Some)),
         "charset" => told_part(source, literal().charset_introducer(text)),
         "i64" => literal().as_i64(text).map_or_else(refused, |value| format!("i {value}")),
+        "date" => literal().as_date(text).map_or_else(refused, day),
         "ident" => told(source, materialize_unicode_ident(text, out)),
         "radix" => {
             let (base, rest) = split_radix_prefix(text);
@@ -265,6 +273,12 @@ fn how_document_01_is_read() {
 #[test]
 fn the_facts_of_places() {
     assert_eq!(replay("places"), 250);
+}
+
+/// The tables of request T-05 have 87.
+#[test]
+fn the_facts_of_dates() {
+    assert_eq!(replay("dates"), 495);
 }
 
 #[test]

@@ -1,6 +1,7 @@
 /*
  * Calls each function of valdrabus.h but the block's, which blocks.c calls, and compares what it answers, the lent numbers and every byte of the buffer with what
- * document 01's examples, the tables of its reading and those of requests T-01 and T-04 say. Prints one line; ends with status 1 at the first difference, having said where it stands.
+ * document 01's examples, the tables of its reading and those of requests T-01, T-04 and T-05 say. Prints one line; ends with status 1 at the first difference,
+ * having said where it stands.
  */
 #include "valdrabus.h"
 
@@ -276,6 +277,138 @@ static void values(void)
     CHECK(valdrabus_is_null(VALDRABUS_KIND_NULL) && !valdrabus_is_null(VALDRABUS_KIND_STRING) && !valdrabus_is_null(99));
 }
 
+/* What a date is lent, and what the call left. */
+struct dated {
+    uint32_t returned;
+    uint32_t year, month, day, number;
+    size_t first, second;
+};
+
+static struct dated date_of(uint32_t kind, uint32_t synthetic, uint32_t start, uint32_t end, const char *source, size_t len)
+{
+    struct dated d = {77, 77, 77, 77, 77, 77, 77};
+    d.returned = valdrabus_as_date(kind, synthetic, start, end, bytes(source), len, &d.year, &d.month, &d.day, &d.number, &d.first, &d.second);
+    return d;
+}
+
+static struct dated date(const char *source)
+{
+    size_t len = strlen(source);
+    return date_of(VALDRABUS_KIND_DATE, 0, 0, (uint32_t)len, source, len);
+}
+
+static int is_on(struct dated d, uint32_t year, uint32_t month, uint32_t day, uint32_t number)
+{
+    return d.returned == VALDRABUS_OK && d.year == year && d.month == month && d.day == day && d.number == number
+        && d.first == 0 && d.second == 0;
+}
+
+static int is_none(struct dated d, uint32_t number, size_t first, size_t second)
+{
+    return d.returned == number && d.year == 0 && d.month == 0 && d.day == 0 && d.number == 0
+        && d.first == first && d.second == second;
+}
+
+/* Whether a date is refused by 6, which is lent no place, and the temporal question with an empty buffer by the same, with its place. */
+static int is_unreadable(uint32_t start, uint32_t end, const char *source, size_t len, size_t place)
+{
+    struct call c = lent_place();
+    c.number = valdrabus_as_temporal_text(VALDRABUS_KIND_DATE, 0, start, end, bytes(source), len, c.out, 0, &c.how, &c.first, &c.second, &c.place);
+    return is_none(date_of(VALDRABUS_KIND_DATE, 0, start, end, source, len), VALDRABUS_INVALID_STRING, start, end) && broken(c, start, end, place);
+}
+
+/* Whether a number gives a day, which of a number that is no day's is 0, 0, 0. */
+static int gives(uint32_t number, uint32_t returned, uint32_t year, uint32_t month, uint32_t day)
+{
+    uint32_t y = 77, m = 77, d = 77;
+    return valdrabus_date_of_day(number, &y, &m, &d) == returned && y == year && m == month && d == day;
+}
+
+/* A literal with its day. */
+struct day {
+    const char *text;
+    uint32_t year, month, day, number;
+};
+
+/* Facts of request T-05: days, by their literals and by their numbers. */
+static void dates(void)
+{
+    static const struct day rows[] = {
+        {"'0001-01-01'", 1, 1, 1, 1},
+        {"'0001-12-31'", 1, 12, 31, 365},
+        {"'0002-01-01'", 2, 1, 1, 366},
+        {"'0004-02-29'", 4, 2, 29, 1155},
+        {"'0100-12-31'", 100, 12, 31, 36524},
+        {"'0400-02-29'", 400, 2, 29, 145791},
+        {"'0400-12-31'", 400, 12, 31, 146097},
+        {"'1582-10-10'", 1582, 10, 10, 577731},
+        {"'1900-03-01'", 1900, 3, 1, 693655},
+        {"'1970-01-01'", 1970, 1, 1, 719163},
+        {"'2000-02-29'", 2000, 2, 29, 730179},
+        {"'2024-02-29'", 2024, 2, 29, 738945},
+        {"'2024-12-31'", 2024, 12, 31, 739251},
+        {"'2025-01-01'", 2025, 1, 1, 739252},
+        {"'9999-12-31'", 9999, 12, 31, 3652059},
+        {"DATE '2024-01-02'", 2024, 1, 2, 738887},
+        {"TIMESTAMP '2024-01-02' DAY", 2024, 1, 2, 738887},
+        {"E'2024\\x2d01-02'", 2024, 1, 2, 738887},
+        {"E'\\062024-01-02'", 2024, 1, 2, 738887},
+        {"DATE $$2024-01-02$$", 2024, 1, 2, 738887},
+        {"$$2024-01-02$$x$$", 2024, 1, 2, 738887},
+        {"DATE '2024-' '01-02'", 2024, 1, 2, 738887},
+        {"'2024' '-01-' E'\\x30\\x32'", 2024, 1, 2, 738887},
+        {"'2024-01-02' ''", 2024, 1, 2, 738887},
+    };
+    size_t at;
+
+    for (at = 0; at < sizeof rows / sizeof rows[0]; at++) {
+        CHECK_ROW(is_on(date(rows[at].text), rows[at].year, rows[at].month, rows[at].day, rows[at].number), rows[at].text);
+        CHECK_ROW(gives(rows[at].number, VALDRABUS_OK, rows[at].year, rows[at].month, rows[at].day), rows[at].text);
+    }
+    CHECK(is_on(date_of(VALDRABUS_KIND_DATE, 0, 1, 13, "a'2024-01-02'b", 14), 2024, 1, 2, 738887));
+    CHECK(gives(0, VALDRABUS_INVALID_DATE, 0, 0, 0));
+    CHECK(gives(3652060, VALDRABUS_INVALID_DATE, 0, 0, 0));
+    CHECK(gives(UINT32_MAX, VALDRABUS_INVALID_DATE, 0, 0, 0));
+}
+
+/* The same: values that are no date, and each refusal before. */
+static void no_dates(void)
+{
+    static const char *const values[] = {
+        "''", "'x'", "'0000-01-01'", "'0100-02-29'", "'1500-02-29'", "'1900-02-29'", "'2023-02-29'", "'2024-00-01'", "'2024-13-01'", "'2024-01-00'",
+        "'2024-01-32'", "'2024-04-31'", "'2024-01-0'", "'2024-01-021'", "'2024-01-02 '", "'10000-01-01'", "'2024-1-002'", "'2024/01/02'", "'+024-01-02'",
+        "'\xD9\xA2\xD9\xA0\xD9\xA2\xD9\xA4-1'", "'2024\\x2d01-02'", "U&'2024\\002d01-02'", "'2024-''01-02'",
+    };
+    const char *day = "'2024-01-02'";
+    uint32_t kind;
+    size_t at;
+
+    for (at = 0; at < sizeof values / sizeof values[0]; at++)
+        CHECK_ROW(is_none(date(values[at]), VALDRABUS_INVALID_DATE, 0, strlen(values[at])), values[at]);
+    CHECK(is_none(date_of(VALDRABUS_KIND_DATE, 0, 1, 4, "a'x'", 4), VALDRABUS_INVALID_DATE, 1, 4));
+
+    CHECK(is_unreadable(0, 0, "", 0, 0));
+    CHECK(is_unreadable(0, 17, "DATE \"2024-01-02\"", 17, 0));
+    CHECK(is_unreadable(0, 14, "''2024-01-02''", 14, 1));
+    CHECK(is_unreadable(0, 22, "'2024-01-02' 'x' E'\\0'", 22, 19));
+    CHECK(is_unreadable(0, 17, "E'2024-01-02\\xC3'", 17, 16));
+    CHECK(is_unreadable(0, 13, "'2024-01-02\0'", 13, 0));
+    CHECK(is_unreadable(2, 12, "xxDATE 'a'b'yy", 14, 7));
+
+    CHECK(is_none(date("'2024-01-0\xFF"), VALDRABUS_NOT_UTF8, 0, 11));
+    CHECK(is_none(date("'\xFF'"), VALDRABUS_NOT_UTF8, 0, 3));
+    CHECK(is_none(date_of(VALDRABUS_KIND_DATE, 0, 12, 0, day, 12), VALDRABUS_INVALID_SOURCE_RANGE, 12, 0));
+    CHECK(is_none(date_of(VALDRABUS_KIND_DATE, 0, 0, 13, day, 12), VALDRABUS_INVALID_SOURCE_RANGE, 0, 13));
+    CHECK(is_none(date_of(VALDRABUS_KIND_DATE, 1, 12, 0, day, 12), VALDRABUS_MISSING_SOURCE, 12, 0));
+    for (kind = VALDRABUS_KIND_INTEGER; kind <= VALDRABUS_KIND_MONEY; kind++)
+        if (kind != VALDRABUS_KIND_DATE)
+            CHECK(is_none(date_of(kind, 1, 12, 0, day, 12), VALDRABUS_WRONG_KIND, VALDRABUS_EXPECTED_DATE, kind));
+    CHECK(is_none(date_of(0, 1, 12, 0, day, 12), VALDRABUS_BAD_NUMBER, 0, 0));
+    CHECK(is_none(date_of(15, 0, 0, 12, day, 12), VALDRABUS_BAD_NUMBER, 0, 0));
+    CHECK(is_none(date_of(VALDRABUS_KIND_DATE, 2, 12, 0, day, 12), VALDRABUS_BAD_NUMBER, 0, 0));
+    CHECK(is_none(date_of(VALDRABUS_KIND_TIME, 2, 12, 0, day, 12), VALDRABUS_BAD_NUMBER, 0, 0));
+}
+
 static int view(uint32_t how, size_t first, size_t second, uint32_t shown, size_t start, size_t end)
 {
     size_t from = 77, until = 77;
@@ -452,6 +585,8 @@ int main(void)
     other_texts();
     parts();
     values();
+    dates();
+    no_dates();
     views();
     writer();
     spellings();

@@ -1,10 +1,10 @@
 #!/usr/bin/env python3
-"""Turns vectors/oracle.tsv, clarified.tsv, forms.tsv, parts.tsv, places.tsv and blocks.tsv into tables of antt, proved by one computation.
+"""Turns vectors/oracle.tsv, clarified.tsv, forms.tsv, parts.tsv, places.tsv, blocks.tsv and dates.tsv into tables of antt, proved by one computation.
 
     tools/oracle/tables.py
 
-writes crates/meaning/proofs/Oracle1.antt and on, Clarified.antt, FormRows.antt, PartRows.antt, PlaceRows.antt, BlockRows.antt, Tables.antt that proves them,
-and Lib.antt with their names and those of the tables written by hand. The forms of the rows are those of crates/meaning/proofs/Rows.antt.
+writes crates/meaning/proofs/Oracle1.antt and on, Clarified.antt, FormRows.antt, PartRows.antt, PlaceRows.antt, BlockRows.antt, DateRows.antt, Tables.antt that
+proves them, and Lib.antt with their names and those of the tables written by hand. The forms of the rows are those of crates/meaning/proofs/Rows.antt.
 """
 import glob
 import os
@@ -21,16 +21,16 @@ SPECS = os.path.join(ROOT, 'crates', 'meaning', 'specs')
 SIZE = 500  # rows in a file, about
 WIDTH = 160  # characters in a line, except in rows
 # the tables written by hand
-BY_HAND = ['BlockLimits', 'Further', 'Unseen']
+BY_HAND = ['BlockLimits', 'CalendarFacts', 'Further', 'Unseen']
 # the definitions that no row reaches
-UNREACHED = {'Halves': None, 'Cutting': {'complete'}}
+UNREACHED = {'Halves': None, 'Cutting': {'complete'}, 'Dates': {'spelledDay'}}
 
 QUESTION = {'plain': 'plain', 'decimal': 'decimal-text', 'bits': 'bit-text', 'temporal': 'temporal-text', 'money': 'money-text', 'source': 'source-text',
-            'charset': 'charset', 'i64': 'i64', 'bool': 'bool', 'null': 'null'}
+            'charset': 'charset', 'i64': 'i64', 'bool': 'bool', 'null': 'null', 'date': 'date'}
 # the words that rows are made of
-WORDS = ('asks spans detached helps names prefixed spells forms prints block wrote needs refused tells declines string plain decimal-text bit-text temporal-text money-text '
-         'source-text charset i64 bool null uescape-legal escape-valid unicode-valid embeds-nul is-ident borrows writes cramped plus minus unnamed says '
-         'refuses breaks unfit').split()
+WORDS = ('asks spans detached helps names prefixed spells forms prints block numbered wrote needs refused tells declines string plain decimal-text '
+         'bit-text temporal-text money-text source-text charset i64 bool null date uescape-legal escape-valid unicode-valid embeds-nul is-ident '
+         'borrows writes cramped plus minus unnamed says refuses breaks unfit dated').split()
 HELPER = {'uescape': 'uescape-legal', 'evalid': 'escape-valid', 'uvalid': 'unicode-valid', 'nul': 'embeds-nul', 'isident': 'is-ident'}
 
 
@@ -64,9 +64,17 @@ def told(source, room, answer):
     if word == 'i':
         value = int(values[0])
         return f'(minus {-value})' if value < 0 else f'(plus {value})'
+    if word == 'd':
+        return f'(dated {" ".join(values)})'
     if word == 'r':
         return refusal(room, *values)
     return 'unnamed' if word == 'n' else f'(says {truth(word)})'
+
+
+def found(answer):
+    """what is told of a day's number: 0 and the day, or a refusal's number alone"""
+    word, *values = answer.split(' ')
+    return [*(['0'] if word == 'd' else []), *values]
 
 
 def flag(setting):
@@ -102,6 +110,8 @@ def row(question, kind, setting, start, end, source, room, answer):
         return f'spells {flag(setting)} {size} {quoted(data)} {room} {made(answer)}'
     if question == 'record':
         return printed([data], [answer])
+    if question == 'day':
+        return f'numbered {start} {listing(found(answer))}'
     synthetic = question.endswith('/synthetic')
     question, start, end = question.removesuffix('/synthetic'), int(start), int(end)
     asked = f'(string {flag(setting)})' if question == 'string' else QUESTION[question]
@@ -234,7 +244,8 @@ def main():
     table('PartRows', 'values in parts, and these and other texts read.', 'parts.tsv', list(part_rows()), sizes)
     table('PlaceRows', 'where reading a string stops.', 'places.tsv', [row(*r[1:9]) for r in read('places.tsv')])
     table('BlockRows', 'blocks of string literals read in one call.', 'blocks.tsv', list(block_rows()))
-    modules += ['Clarified', 'FormRows', 'PartRows', 'PlaceRows', 'BlockRows']
+    table('DateRows', 'the day of a date literal, and of a number.', 'dates.tsv', [row(*r[1:9]) for r in read('dates.tsv')])
+    modules += ['Clarified', 'FormRows', 'PartRows', 'PlaceRows', 'BlockRows', 'DateRows']
     proof_of(modules[1:])
     modules += ['Tables'] + BY_HAND
     with open(os.path.join(PROOFS, 'Lib.antt'), 'w') as f:

@@ -6,6 +6,7 @@ pub mod walking
 pub mod cutting
 pub mod joining
 pub mod places
+pub mod dates
 pub mod writing
 pub mod questions
 pub mod tables

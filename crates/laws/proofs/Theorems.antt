@@ -16,10 +16,16 @@ use Rattle.meaning.specs.declared.Form.{Form}
 use Rattle.meaning.specs.declared.LiteralKind.{LiteralKind}
 use Rattle.meaning.specs.declared.Span.{Span}
 use Rattle.meaning.specs.declared.Literal.{Literal}
-use Rattle.meaning.specs.declared.Refusal.the-variants.{NotUtf8, InvalidString}
+use Rattle.meaning.specs.declared.Refusal.{Refusal}
+use Rattle.meaning.specs.declared.LiteralExpected.the-variants as Expected
+use Rattle.meaning.specs.declared.Refusal.the-variants.{WrongKind, NotUtf8, InvalidString, InvalidDate}
 use Rattle.meaning.specs.declared.Text.{Text}
 use Rattle.meaning.specs.declared.Text.the-variants as Text
 use Rattle.meaning.specs.declared.Writing.the-variants as Writing
+use Rattle.meaning.specs.declared.CalendarDay.{CalendarDay}
+use Rattle.meaning.specs.declared.Day.{Day}
+use Rattle.meaning.specs.declared.Day.the-variants as Day
+use Rattle.meaning.specs.declared.Dated.the-variants as Dated
 use Rattle.meaning.specs.declared.Read.{Read}
 use Rattle.meaning.specs.declared.Item.{Item}
 use Rattle.meaning.specs.declared.Four.{Four}
@@ -30,11 +36,12 @@ use Rattle.meaning.specs.Steps.{standardStep, escapeStep, unicodeStep, checked,
 use Rattle.meaning.specs.Cutting.{off, opening, segment, cut, complete, continues}
 use Rattle.meaning.specs.Spelling.{spelling}
 use Rattle.meaning.specs.Kinds.{token, noToken, temporalToken, temporal}
-use Rattle.meaning.specs.Reading.{Answer, written, refused, one, alone, read, means, fails, meaning}
+use Rattle.meaning.specs.Reading.{Answer, written, refused, one, alone, read, means, fails, valueOf, meaning}
 use Rattle.meaning.specs.Numbers.{fits, printed}
 use Rattle.meaning.specs.Halves.{joinedHalves, negatedHigh, negatedLow, bitsOf, textOf}
 use Rattle.meaning.specs.Helpers.{uescapeLegal, escapeValid, unicodeValid}
-use Rattle.meaning.specs.Answers.{Outcome, Meets, IsPart, textNumber, truthNumber, nullnessNumber, kindCode, partShown, partPlace, shown}
+use Rattle.meaning.specs.Answers.{Outcome, Meets, IsPart, textNumber, truthNumber, nullnessNumber, refusalNumber, datedNumber, kindCode, partShown}
+use Rattle.meaning.specs.Answers.{partPlace, shown}
 use Rattle.meaning.specs.Reads.{Reads}
 use Rattle.meaning.specs.Questions.{badSpan, isString, isTemporal, stringQuestion, decimalQuestion, bitsQuestion, temporalQuestion, i64Question, moneyQuestion}
 use Rattle.meaning.specs.Questions.{charsetQuestion, sourceQuestion, boolQuestion, nullQuestion, identifierQuestion}
@@ -43,6 +50,8 @@ use Rattle.meaning.specs.Forms.{formOpening, formText, formQuestion}
 use Rattle.meaning.specs.Records.{recordLine, output}
 use Rattle.meaning.specs.Codes.{isKnown, literalOf, settingsOf}
 use Rattle.meaning.specs.Blocks.{itemsOf, numbersOf, four, fourOf, itemQuestion, askedAs, itemAsked, blockAt, badBlock, BlockOutcome, blockCall, Blocks}
+use Rattle.meaning.specs.Dates.{monthLength, dayNumber, isDay, calendarDay, dateOf, lastDay, dayQuestion, isDate, spelledDay, dayIn, isDateKind, datedOn}
+use Rattle.meaning.specs.Dates.{dateQuestion}
 use Rattle.meaning.proofs.Rows.{all}
 use Rattle.laws.proofs.basics.Digits as Digits
 use Rattle.laws.proofs.basics.Digits.{DigitsTo}
@@ -118,6 +127,17 @@ use Rattle.laws.proofs.places.Whole.{Refusing}
 use Rattle.laws.proofs.places.Temporal as PlaceTemporal
 use Rattle.laws.proofs.places.Told as PlaceTold
 use Rattle.laws.proofs.places.Told.{stopped-at, TemporalCall, Taken}
+use Rattle.laws.proofs.dates.Calendar as Calendar
+use Rattle.laws.proofs.dates.Calendar.{Earlier}
+use Rattle.laws.proofs.dates.Spelt as DateSpelt
+use Rattle.laws.proofs.dates.Asked as DateAsked
+use Rattle.laws.proofs.dates.Asked.{DayOf, dateNumbers}
+use Rattle.laws.proofs.dates.Ordered as DateOrdered
+use Rattle.laws.proofs.dates.Ordered.{bytesBelow}
+use Rattle.laws.proofs.dates.Joined as DateJoined
+use Rattle.laws.proofs.dates.Joined.{quoted, TwoOf}
+use Rattle.laws.proofs.dates.Called as DateCalled
+use Rattle.laws.proofs.dates.Called.{DateCall}
 use Rattle.laws.proofs.tables.Starred as Starred
 use Rattle.laws.proofs.tables.Controls as Controls
 use Rattle.laws.proofs.tables.Controls.{Program, Telling, WritesAt, ShutOut}
@@ -723,3 +743,133 @@ pub block-calls-place : (a : List ℕ) (k g s e : ℕ) (b S : List ℕ) (f : len
     → isKnown k 0 g ≡ true → isString (literalOf k 0 s e .kind) ≡ true → (t : List ℕ) → Spans (literalOf k 0 s e) S t → (how p len : ℕ)
     → take 4 (drop (length a) (c .told)) ≡ 6 ∷ how ∷ p ∷ len ∷ [] → (utf8 t ≡ true) × (read (settingsOf g) t ≡ refused p)
 block-calls-place = PlaceTold.block-calls-place
+
+-- DOCUMENT 02, T-05
+-- "Day 1 is 0001-01-01; 9999-12-31 is 3652059."
+pub first-day : dayNumber 1 1 1 ≡ 1
+first-day = Calendar.first-day
+
+pub last-day : dayNumber 9999 12 31 ≡ lastDay
+last-day = Calendar.last-day
+
+-- "Prove that later dates have larger numbers": by year, then month, then day, both ways
+module _ (y m d y′ m′ d′ : ℕ) (a : isDay y m d ≡ true) (b : isDay y′ m′ d′ ≡ true) where
+  pub later-larger : Earlier y m d y′ m′ d′ → dayNumber y m d < dayNumber y′ m′ d′
+  later-larger = Calendar.later-larger y m d y′ m′ d′ a b
+
+  pub larger-later : dayNumber y m d < dayNumber y′ m′ d′ → Earlier y m d y′ m′ d′
+  larger-later = Calendar.larger-later y m d y′ m′ d′ a b
+
+-- and so are their ten bytes, byte by byte
+pub earlier-below : (y m d y′ m′ d′ : ℕ) → isDay y m d ≡ true → isDay y′ m′ d′ ≡ true
+    → Earlier y m d y′ m′ d′ ↔ (bytesBelow (spelledDay y m d) (spelledDay y′ m′ d′) ≡ true)
+earlier-below = DateOrdered.earlier-below
+
+-- the next day's is one more: in a month, behind a month, behind a year
+pub next-day : (y m d : ℕ) → isDay y m d ≡ true → d < monthLength y m → (isDay y m (suc d) ≡ true) × (dayNumber y m (suc d) ≡ suc (dayNumber y m d))
+next-day = Calendar.next-day
+
+pub next-month : (y m : ℕ) → isDay y m (monthLength y m) ≡ true → m < 12
+    → (isDay y (suc m) 1 ≡ true) × (dayNumber y (suc m) 1 ≡ suc (dayNumber y m (monthLength y m)))
+next-month = Calendar.next-month
+
+pub next-year : (y : ℕ) → isDay y 12 31 ≡ true → y < 9999 → (isDay (suc y) 1 1 ≡ true) × (dayNumber (suc y) 1 1 ≡ suc (dayNumber y 12 31))
+next-year = Calendar.next-year
+
+-- "and that the number gives the date back": for every day, and every number from 1 to 3652059 is one day's
+pub number-back : (y m d : ℕ) → isDay y m d ≡ true → dateOf (dayNumber y m d) ≡ calendarDay y m d
+number-back = Calendar.number-back
+
+pub number-within : (y m d : ℕ) → isDay y m d ≡ true → (1 ≤ dayNumber y m d) × (dayNumber y m d ≤ lastDay)
+number-within = Calendar.number-within
+
+pub back-number : (n : ℕ) → 1 ≤ n → n ≤ lastDay
+    → (isDay (dateOf n .year) (dateOf n .month) (dateOf n .day) ≡ true) × (dayNumber (dateOf n .year) (dateOf n .month) (dateOf n .day) ≡ n)
+    × (dateOf n .number ≡ n)
+back-number = Calendar.back-number
+
+pub number-found : (n : ℕ) → 1 ≤ n → n ≤ lastDay → dayQuestion n ≡ Day.On (dateOf n)
+number-found = Calendar.day-found
+
+pub number-outside : (n : ℕ) → (n ≡ 0) ⊎ (lastDay < n) → dayQuestion n ≡ Day.InvalidDate
+number-outside = Calendar.day-outside
+
+-- "exactly ten bytes, yyyy-mm-dd, years 0001 to 9999": a value is a date exactly if it is the ten bytes of a day
+pub spelled-date : (y m d : ℕ) → isDay y m d ≡ true → dayIn (spelledDay y m d) ≡ Day.On (calendarDay y m d)
+spelled-date = DateSpelt.spelled-date
+
+pub date-spelled : (v : List ℕ) (c : CalendarDay) → dayIn v ≡ Day.On c
+    → (isDay (c .year) (c .month) (c .day) ≡ true) × (v ≡ spelledDay (c .year) (c .month) (c .day)) × (c ≡ calendarDay (c .year) (c .month) (c .day))
+date-spelled = DateSpelt.date-spelled
+
+-- "For Date literals, answer year, month, day and a day number, from the decoded value [..] then 14 for a value that is no such date"
+module _ (l : Literal) (S t : List ℕ) (k : isDateKind (l .kind) ≡ true) (h : Spans l S t) (u : utf8 t ≡ true) where
+  pub date-on : (c : CalendarDay) → (dateQuestion l S ≡ Dated.On c) ↔ DayOf t c
+  date-on = DateAsked.date-on l S t k h u
+
+  pub date-fourteen : (sp : Span)
+      → (dateQuestion l S ≡ Dated.Refused (InvalidDate sp))
+      ↔ ((sp ≡ l .span) × (v : List ℕ) × (valueOf t (temporal off t) ≡ means v) × (isDate v ≡ false))
+  date-fourteen = DateAsked.date-fourteen l S t k h u
+
+-- "Refusals: 1 (kind not Date), 2, 3, 4, 6, then 14": no other; 2 to 6 where the temporal question gives them, whatever buffer it is lent, at the same place
+pub date-wrong-kind : (l : Literal) (S : List ℕ) → isDateKind (l .kind) ≡ false → dateQuestion l S ≡ Dated.Refused (WrongKind Expected.Date (l .kind))
+date-wrong-kind = DateAsked.date-wrong-kind
+
+pub date-numbers : (l : Literal) (S : List ℕ) → has (datedNumber (dateQuestion l S)) dateNumbers ≡ true
+date-numbers = DateAsked.date-numbers
+
+module _ (l : Literal) (S out : List ℕ) (k : isDateKind (l .kind) ≡ true) where
+  pub date-shared : (r : Refusal) → refusalNumber r ≤ 8 → (dateQuestion l S ≡ Dated.Refused r) ↔ (temporalQuestion l S out .answer ≡ Text.Refused r)
+  date-shared = DateAsked.date-shared l S out k
+
+  pub date-six : (sp : Span) (p : ℕ)
+      → (dateQuestion l S ≡ Dated.Refused (InvalidString sp p)) ↔ (temporalQuestion l S out .answer ≡ Text.Refused (InvalidString sp p))
+  date-six = DateAsked.date-six l S out k
+
+  pub date-shown : textNumber (temporalQuestion l S out .answer) ≡ 0
+      → dateQuestion l S ≡ datedOn (l .span) (dayIn (shown S (temporalQuestion l S out .buffer) (temporalQuestion l S out .answer)))
+  date-shown = DateAsked.date-temporal-shown l S out k
+
+-- "Joined segments count as one value": the same value gives the same day, and a token that is joined has the joined value
+pub date-same-value : (l l′ : Literal) (S S′ t t′ : List ℕ) → isDateKind (l .kind) ≡ true → isDateKind (l′ .kind) ≡ true → Spans l S t → Spans l′ S′ t′
+    → utf8 t ≡ true → utf8 t′ ≡ true → valueOf t (temporal off t) ≡ valueOf t′ (temporal off t′) → (c : CalendarDay)
+    → (dateQuestion l S ≡ Dated.On c) ↔ (dateQuestion l′ S′ ≡ Dated.On c)
+date-same-value = DateAsked.date-same-value
+
+pub date-joined : (t : List ℕ) (f u : ℕ) (A G B v w : List ℕ) → temporalToken t ≡ token f u → part f u t ≡ A ++ (G ++ B) → Complete off A v → Gap G
+    → Complete off B w → isMark (B ! 0) ≡ true → (l : Literal) (S : List ℕ) → isDateKind (l .kind) ≡ true → Spans l S t → utf8 t ≡ true
+    → dateQuestion l S ≡ datedOn (l .span) (dayIn (v ++ w))
+date-joined = DateJoined.date-joined
+
+pub date-same-day : (w a g b : List ℕ) → TwoOf w a g b → (l l′ : Literal) (S S′ : List ℕ) → isDateKind (l .kind) ≡ true → isDateKind (l′ .kind) ≡ true
+    → Spans l S (w ++ (quoted a ++ (g ++ quoted b))) → Spans l′ S′ (w ++ quoted (a ++ b)) → utf8 (w ++ (quoted a ++ (g ++ quoted b))) ≡ true
+    → utf8 (w ++ quoted (a ++ b)) ≡ true → (c : CalendarDay) → (dateQuestion l S ≡ Dated.On c) ↔ (dateQuestion l′ S′ ≡ Dated.On c)
+date-same-day = DateJoined.same-day
+
+-- two sources in neither of which the span gives 3, agreeing inside it, get the same answer
+pub date-sources : (l : Literal) (S S′ : List ℕ) → Agree l S S′ → dateQuestion l S ≡ dateQuestion l S′
+date-sources = Sources.dateQuestion-same
+
+-- the same of what calls return; of the C exports: `valdrabus`, `DateExports`
+pub order-calls : {t t′ : List ℕ} (a : DateCall t) (b : DateCall t′) (c d : CalendarDay) → a .result ≡ Dated.On c → b .result ≡ Dated.On d
+    → Earlier (c .year) (c .month) (c .day) (d .year) (d .month) (d .day) ↔ (c .number < d .number)
+order-calls = DateCalled.order-calls
+
+pub back-calls : {t : List ℕ} (a : DateCall t) (c : CalendarDay) → a .result ≡ Dated.On c → (r : Day) → r ≡ dayQuestion (c .number) → r ≡ Day.On c
+back-calls = DateCalled.back-calls
+
+pub six-calls : {t : List ℕ} (a : DateCall t) (lent : List ℕ) (r : Text) (after : List ℕ)
+    → Meets (temporalQuestion (a .literal) (a .source) lent) r after → (sp : Span) (p : ℕ)
+    → (a .result ≡ Dated.Refused (InvalidString sp p)) ↔ (r ≡ Text.Refused (InvalidString sp p))
+six-calls = DateCalled.six-calls
+
+pub shown-calls : {t : List ℕ} (a : DateCall t) (lent : List ℕ) (r : Text) (after : List ℕ)
+    → Meets (temporalQuestion (a .literal) (a .source) lent) r after → textNumber r ≡ 0
+    → a .result ≡ datedOn (a .literal .span) (dayIn (shown (a .source) after r))
+shown-calls = DateCalled.shown-calls
+
+pub joined-date-calls : (w a g b : List ℕ) → TwoOf w a g b → (x : DateCall (w ++ (quoted a ++ (g ++ quoted b)))) (y : DateCall (w ++ quoted (a ++ b)))
+    → utf8 (w ++ (quoted a ++ (g ++ quoted b))) ≡ true → utf8 (w ++ quoted (a ++ b)) ≡ true
+    → (c : CalendarDay) → (x .result ≡ Dated.On c) ↔ (y .result ≡ Dated.On c)
+joined-date-calls = DateCalled.joined-calls

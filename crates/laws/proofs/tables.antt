@@ -5,4 +5,5 @@ pub mod Witnesses
 pub mod BlockWitnesses
 pub mod BlockControls
 pub mod PlaceWitnesses
+pub mod DateWitnesses
 pub mod Starred

@@ -9,7 +9,9 @@ pub mod FormRows
 pub mod PartRows
 pub mod PlaceRows
 pub mod BlockRows
+pub mod DateRows
 pub mod Tables
 pub mod BlockLimits
+pub mod CalendarFacts
 pub mod Further
 pub mod Unseen

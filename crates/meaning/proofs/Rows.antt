@@ -23,10 +23,13 @@ use Rattle.meaning.specs.declared.Identifier.{Identifier}
 use Rattle.meaning.specs.declared.Identifier.the-variants as Identifier′
 use Rattle.meaning.specs.declared.Writing.{Writing}
 use Rattle.meaning.specs.declared.Writing.the-variants as Writing′
+use Rattle.meaning.specs.declared.Day.{Day}
+use Rattle.meaning.specs.declared.Dated.{Dated}
 use Rattle.meaning.specs.Bytes.{ascii, same}
 use Rattle.meaning.specs.Answers.{Outcome, kindCode, payload, refusalValues, textNumber, textValues, rangeNumber, rangeValues, charsetNumber}
 use Rattle.meaning.specs.Answers.{charsetValues, integerNumber, integerValues, truthNumber, truthValues, nullnessNumber, nullnessValues, identifierNumber}
-use Rattle.meaning.specs.Answers.{identifierValues, writingNumber, writingValues, partShown, shown, rangeShown, charsetShown}
+use Rattle.meaning.specs.Answers.{identifierValues, writingNumber, writingValues, foundNumber, foundValues, datedNumber, datedValues, partShown, shown}
+use Rattle.meaning.specs.Answers.{rangeShown, charsetShown}
 use Rattle.meaning.specs.Numbers.{radixPrefix}
 use Rattle.meaning.specs.Helpers.{uescapeLegal, escapeValid, unicodeValid, embedsNul, isUnicodeIdent}
 use Rattle.meaning.specs.Questions.{stringQuestion, plainQuestion, decimalQuestion, bitsQuestion, temporalQuestion, sourceQuestion, moneyQuestion}
@@ -36,13 +39,14 @@ use Rattle.meaning.specs.Forms.{formQuestion}
 use Rattle.meaning.specs.Codes.{kindOf}
 use Rattle.meaning.specs.Records.{output}
 use Rattle.meaning.specs.Blocks.{BlockOutcome, blockCall}
+use Rattle.meaning.specs.Dates.{dateQuestion, dayQuestion}
 
 -- Texts stand in quotes, one character for each byte: `ascii` turns a character into the byte of its code, also from 80 to FF
 
 -- WHAT IS ASKED of a literal; the Bool is the backslash setting
 pub data Question : Type 0 where
   string : Bool → Question
-  plain decimal-text bit-text temporal-text money-text source-text charset i64 bool null : Question
+  plain decimal-text bit-text temporal-text money-text source-text charset i64 bool null date : Question
 
 -- of a bare text
 pub data Helper : Type 0 where
@@ -51,7 +55,7 @@ pub data Helper : Type 0 where
 -- WHAT IS ANSWERED. A part of the source, from .. to .., and its bytes; bytes that are written, with some bytes of room left over;
 -- the same bytes, where the room is one byte short; an integer, and its negative; no charset name; yes or no; a refusal by its number,
 -- which gives back the span; refusal 6 with some bytes of room, which gives back the span and a place of the text; a wrong kind, where
--- the question expects another family
+-- the question expects another family; a year, a month, a day and the day's number
 pub data Told : Type 0 where
   borrows : ℕ → ℕ → String → Told
   writes : ℕ → String → Told
@@ -62,6 +66,7 @@ pub data Told : Type 0 where
   refuses : ℕ → Told
   breaks : ℕ → ℕ → Told
   unfit : ℕ → Told
+  dated : ℕ → ℕ → ℕ → ℕ → Told
 
 -- what a row compares: the number and the values, the bytes shown, and the buffer behind the call
 pub record Seen : Type 0 where
@@ -85,6 +90,7 @@ lent (says b) = fill 3
 lent (refuses n) = fill 3
 lent (breaks n p) = fill n
 lent (unfit e) = fill 3
+lent (dated y m d n) = fill 3
 
 abbrev pub yes-no : Bool → ℕ
 yes-no true = 1
@@ -102,6 +108,7 @@ due l (says b) = record { values = 0 ∷ yes-no b ∷ []; bytes = []; buffer = f
 due l (refuses n) = record { values = n ∷ l .span .start ∷ l .span .end ∷ []; bytes = []; buffer = fill 3 }
 due l (breaks n p) = record { values = 6 ∷ l .span .start ∷ l .span .end ∷ p ∷ []; bytes = []; buffer = fill n }
 due l (unfit e) = record { values = 1 ∷ e ∷ kindCode (l .kind) ∷ payload (l .kind); bytes = []; buffer = fill 3 }
+due l (dated y m d n) = record { values = 0 ∷ y ∷ m ∷ d ∷ n ∷ []; bytes = []; buffer = fill 3 }
 
 -- what is seen of each kind of answer
 abbrev pub textSeen : List ℕ → Outcome Text → Seen
@@ -132,6 +139,13 @@ abbrev pub nullnessTold : Nullness → List ℕ
 nullnessTold Nullness′.IsNull = nullnessNumber Nullness′.IsNull ∷ 1 ∷ nullnessValues Nullness′.IsNull
 nullnessTold (Nullness′.Refused r) = nullnessNumber (Nullness′.Refused r) ∷ nullnessValues (Nullness′.Refused r)
 
+-- the day of a date, or of a number
+abbrev pub datedTold : Dated → List ℕ
+datedTold a = datedNumber a ∷ datedValues a
+
+abbrev pub foundTold : Day → List ℕ
+foundTold a = foundNumber a ∷ foundValues a
+
 abbrev pub valuesSeen : List ℕ → List ℕ → Seen
 valuesSeen out vs = record { values = vs; bytes = []; buffer = out }
 
@@ -148,6 +162,7 @@ seen charset l t out = charsetSeen t out (charsetQuestion l t)
 seen i64 l t out = valuesSeen out (integerTold (i64Question l t))
 seen bool l t out = valuesSeen out (truthTold (boolQuestion (l .kind)))
 seen null l t out = valuesSeen out (nullnessTold (nullQuestion (l .kind)))
+seen date l t out = valuesSeen out (datedTold (dateQuestion l t))
 
 abbrev pub helperSays : Helper → List ℕ → Bool
 helperSays uescape-legal t = uescapeLegal t
@@ -168,6 +183,7 @@ identifierDue (says b) = valuesSeen [] []
 identifierDue (refuses n) = record { values = n ∷ []; bytes = []; buffer = fill 3 }
 identifierDue (breaks n p) = valuesSeen [] []
 identifierDue (unfit e) = valuesSeen [] []
+identifierDue (dated y m d n) = valuesSeen [] []
 
 abbrev pub identifierShown : List ℕ → List ℕ → Identifier → List ℕ
 identifierShown t out (Identifier′.Borrowed f u) = partShown f u t
@@ -223,7 +239,8 @@ sameCall a b = eqb (a .number) (b .number) && same (a .answers) (b .answers) && 
 -- THE ROWS. A literal by its kind's code, the bytes of the source before it, its text, and the bytes behind it; a literal by a span
 -- of a source; one without a source; a helper; an identifier; a radix prefix; a value that the writer is given, with a setting, a part
 -- size and a buffer's length; one that it is given with a form, and a buffer's length; what the record program is given, with zero
--- bytes between a head and a tail, and the lines it prints; a block's items and source, and the lengths of the answer slice and the buffer
+-- bytes between a head and a tail, and the lines it prints; a block's items and source, and the lengths of the answer slice and the buffer;
+-- the number of a day, and what is told of it
 pub data Row : Type 0 where
   asks : Question → ℕ → String → String → String → Told → Row
   spans : Question → ℕ → ℕ → ℕ → String → Told → Row
@@ -235,6 +252,7 @@ pub data Row : Type 0 where
   forms : Form → String → ℕ → Wrote → Row
   prints : String → ℕ → String → String → Row
   block : List ℕ → String → ℕ → ℕ → Called → Row
+  numbered : ℕ → List ℕ → Row
 
 abbrev pub sameSeen : Seen → Seen → Bool
 sameSeen a b = same (a .values) (b .values) && same (a .bytes) (b .bytes) && same (a .buffer) (b .buffer)
@@ -264,6 +282,7 @@ right (spells b size v n w) = sameSeen (wroteSeen (writeQuestion (record { backs
 right (forms f v n w) = sameSeen (wroteSeen (formQuestion f (ascii v) (fill n))) (wroteDue n w)
 right (prints head n tail lines) = same (output (ascii head ++ (replicate n 0 ++ ascii tail))) (ascii lines)
 right (block is t n m w) = sameCall (blockCall is (ascii t) (others 0 n) (fill m)) (callDue n m w)
+right (numbered n vs) = same (foundTold (dayQuestion n)) vs
 
 abbrev pub all : List Row → Bool
 all [] = true

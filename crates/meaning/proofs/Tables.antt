@@ -16,6 +16,8 @@ use Rattle.meaning.specs.Writer.{spell, writtenText, overLimit, unwritab
 use Rattle.meaning.specs.Forms.{figure, isDoubled, escapeForm, unicodeFigures, formText, formQuestion}
 use Rattle.meaning.specs.Records.{line, goodRecord, recordLine, output}
 use Rattle.meaning.specs.Blocks.{itemAsked, badBlock, blockCall}
+use Rattle.meaning.specs.Dates.{isLeap, monthLength, yearLength, dayNumber, isDay, calendarDay, dateOf, dayQuestion, isTenBytes, isDate, dayIn}
+use Rattle.meaning.specs.Dates.{dateQuestion}
 use Rattle.meaning.proofs.Rows.{all}
 use Rattle.meaning.proofs.Oracle1 as Oracle1
 use Rattle.meaning.proofs.Oracle2 as Oracle2
@@ -27,14 +29,15 @@ use Rattle.meaning.proofs.FormRows as FormRows
 use Rattle.meaning.proofs.PartRows as PartRows
 use Rattle.meaning.proofs.PlaceRows as PlaceRows
 use Rattle.meaning.proofs.BlockRows as BlockRows
+use Rattle.meaning.proofs.DateRows as DateRows
 
 pub rows-right : T (all Oracle1.rows) × T (all Oracle2.rows) × T (all Oracle3.rows) × T (all Oracle4.rows) × T (all Oracle5.rows) × T (all Clarified.rows)
-    × T (all FormRows.rows) × T (all PartRows.rows) × T (all PlaceRows.rows) × T (all BlockRows.rows)
+    × T (all FormRows.rows) × T (all PartRows.rows) × T (all PlaceRows.rows) × T (all BlockRows.rows) × T (all DateRows.rows)
 unfolding within isMark isLetter isDecimal inName startsTag inTag digit allDigits lead utf8 more encode isScalar width isSpace doubled oneByte mayEscape
     scalarBy pair lowHalf uescaped named segment segmentStep cut continues encloses argument upper isUnicode unicodeSpelling delimiter spelling answer one
     read signLength isMinus baseBy radixPrefix parsed separated radixValue i64Of digitsBy digitsOf decimalOf bitBody bits money tokenStart quoteToken
     temporalToken temporal charsetEnd uescapeLegal escapeValid unicodeValid ident partShown filled cutsCharacter badSpan sourceText tested stringQuestion
     decimalQuestion bitsQuestion temporalQuestion sourceQuestion moneyQuestion charsetQuestion i64Question identifierQuestion spell writtenText overLimit
     unwritableNul writeQuestion figure isDoubled escapeForm unicodeFigures formText formQuestion line goodRecord recordLine output itemAsked badBlock
-    blockCall
-rows-right = (tt, tt, tt, tt, tt, tt, tt, tt, tt, tt)
+    blockCall isLeap monthLength yearLength dayNumber isDay calendarDay dateOf dayQuestion isTenBytes isDate dayIn dateQuestion
+rows-right = (tt, tt, tt, tt, tt, tt, tt, tt, tt, tt, tt)

@@ -21,7 +21,7 @@ use Rattle.meaning.specs.declared.LiteralExpected.the-variants as Expect
 use Rattle.meaning.specs.declared.Span.{Span}
 use Rattle.meaning.specs.declared.Refusal.{Refusal}
 use Rattle.meaning.specs.declared.Refusal.the-variants.{WrongKind, MissingSource, InvalidSourceRange, NotUtf8, InvalidInteger, InvalidString}
-use Rattle.meaning.specs.declared.Refusal.the-variants.{InvalidBitString, InvalidMoney, NoRoom}
+use Rattle.meaning.specs.declared.Refusal.the-variants.{InvalidBitString, InvalidMoney, NoRoom, InvalidDate}
 use Rattle.meaning.specs.declared.Read.the-variants as Read′
 use Rattle.meaning.specs.declared.Text.{Text}
 use Rattle.meaning.specs.declared.Text.the-variants as Text′
@@ -150,18 +150,19 @@ here = record { start = 7; end = 5 }
 abbrev pub refusals : List Refusal
 refusals =
     WrongKind Expected.Money Kind.Null ∷ MissingSource here ∷ InvalidSourceRange here ∷ NotUtf8 here ∷ InvalidInteger here ∷ InvalidString here 4 ∷
-    InvalidBitString here ∷ InvalidMoney here ∷ NoRoom 3 ∷ []
+    InvalidBitString here ∷ InvalidMoney here ∷ NoRoom 3 ∷ InvalidDate here ∷ []
 
 abbrev pub numbers : List Fact
 numbers =
     gives (map fieldCode fields) (1 ∷ 2 ∷ 3 ∷ 4 ∷ 5 ∷ 6 ∷ 7 ∷ 8 ∷ 9 ∷ 10 ∷ 11 ∷ 12 ∷ 13 ∷ 14 ∷ 15 ∷ 16 ∷ 17 ∷ 18 ∷ 19 ∷ 20 ∷ 21 ∷ 22 ∷ 23 ∷ 24 ∷ []) ∷
-    gives (map refusalNumber refusals) (1 ∷ 2 ∷ 3 ∷ 4 ∷ 5 ∷ 6 ∷ 7 ∷ 8 ∷ 9 ∷ []) ∷
+    gives (map refusalNumber refusals) (1 ∷ 2 ∷ 3 ∷ 4 ∷ 5 ∷ 6 ∷ 7 ∷ 8 ∷ 9 ∷ 14 ∷ []) ∷
     gives (refusalValues (WrongKind Expected.Money (Kind.Time Zone.WithTimeZone))) (8 ∷ 9 ∷ 1 ∷ []) ∷ gives (refusalValues (MissingSource here)) (7 ∷ 5 ∷ []) ∷
     gives (refusalValues (NoRoom 3)) (3 ∷ []) ∷ gives (refusalValues (InvalidString here 4)) (7 ∷ 5 ∷ 4 ∷ []) ∷
-    gives (refusalValues (InvalidBitString here)) (7 ∷ 5 ∷ []) ∷
+    gives (refusalValues (InvalidBitString here)) (7 ∷ 5 ∷ []) ∷ gives (refusalValues (InvalidDate here)) (7 ∷ 5 ∷ []) ∷
+    gives (refusalValues (WrongKind Expected.Date Kind.Null)) (9 ∷ 7 ∷ []) ∷
     gives
     (numbersOf (map refusedFour refusals))
-    (1 ∷ 0 ∷ 0 ∷ 0 ∷ 2 ∷ 0 ∷ 0 ∷ 0 ∷ 3 ∷ 0 ∷ 0 ∷ 0 ∷ 4 ∷ 0 ∷ 0 ∷ 0 ∷ 5 ∷ 0 ∷ 0 ∷ 0 ∷ 6 ∷ 0 ∷ 4 ∷ 0 ∷ 7 ∷ 0 ∷ 0 ∷ 0 ∷ 8 ∷ 0 ∷ 0 ∷ 0 ∷ 9 ∷ 0 ∷ 0 ∷ 3 ∷ []) ∷
+    (1 ∷ 0 ∷ 0 ∷ 0 ∷ 2 ∷ 0 ∷ 0 ∷ 0 ∷ 3 ∷ 0 ∷ 0 ∷ 0 ∷ 4 ∷ 0 ∷ 0 ∷ 0 ∷ 5 ∷ 0 ∷ 0 ∷ 0 ∷ 6 ∷ 0 ∷ 4 ∷ 0 ∷ 7 ∷ 0 ∷ 0 ∷ 0 ∷ 8 ∷ 0 ∷ 0 ∷ 0 ∷ 9 ∷ 0 ∷ 0 ∷ 3 ∷ 14 ∷ 0 ∷ 0 ∷ 0 ∷ []) ∷
     gives (map (λ r. textNumber (Text′.Refused r)) refusals) (map refusalNumber refusals) ∷
     gives (map (λ r. rangeNumber (Range′.Refused r)) refusals) (map refusalNumber refusals) ∷
     gives (map (λ r. charsetNumber (Charset′.Refused r)) refusals) (map refusalNumber refusals) ∷

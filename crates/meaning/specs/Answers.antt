@@ -24,7 +24,7 @@ use Rattle.meaning.specs.declared.LiteralExpected.the-variants as Expect
 use Rattle.meaning.specs.declared.Span.{Span}
 use Rattle.meaning.specs.declared.Refusal.{Refusal}
 use Rattle.meaning.specs.declared.Refusal.the-variants.{WrongKind, MissingSource, InvalidSourceRange, NotUtf8, InvalidInteger, InvalidString}
-use Rattle.meaning.specs.declared.Refusal.the-variants.{InvalidBitString, InvalidMoney, NoRoom}
+use Rattle.meaning.specs.declared.Refusal.the-variants.{InvalidBitString, InvalidMoney, NoRoom, InvalidDate}
 use Rattle.meaning.specs.declared.Text.{Text}
 use Rattle.meaning.specs.declared.Text.the-variants as Text′
 use Rattle.meaning.specs.declared.Range.{Range}
@@ -41,6 +41,11 @@ use Rattle.meaning.specs.declared.Identifier.{Identifier}
 use Rattle.meaning.specs.declared.Identifier.the-variants as Identifier′
 use Rattle.meaning.specs.declared.Writing.{Writing}
 use Rattle.meaning.specs.declared.Writing.the-variants as Writing′
+use Rattle.meaning.specs.declared.CalendarDay.{CalendarDay}
+use Rattle.meaning.specs.declared.Day.{Day}
+use Rattle.meaning.specs.declared.Day.the-variants as Day′
+use Rattle.meaning.specs.declared.Dated.{Dated}
+use Rattle.meaning.specs.declared.Dated.the-variants as Dated′
 use Rattle.meaning.specs.Bytes.{if_then_else_, part}
 
 -- VALUES. A literal's kind by the record program's code, and what it holds besides
@@ -60,7 +65,7 @@ kindCode (Kind.BitString Binary) = 12
 kindCode (Kind.BitString Hex) = 13
 kindCode Kind.Money = 14
 
--- the families a question expects, in the order of `LiteralExpected`
+-- the families a question expects, in the order of `LiteralExpected`. [02 T-05] dates, behind those of 01
 abbrev pub expectedCode : LiteralExpected → ℕ
 expectedCode Expected.Integer = 1
 expectedCode Expected.DecimalText = 2
@@ -70,6 +75,7 @@ expectedCode Expected.Null = 5
 expectedCode Expected.Temporal = 6
 expectedCode Expected.BitString = 7
 expectedCode Expected.Money = 8
+expectedCode Expected.Date = 9
 
 abbrev pub zoneCode : TimeZone → ℕ
 zoneCode Zone.Unspecified = 0
@@ -129,7 +135,7 @@ payload Kind.Money = []
 abbrev pub spanValues : Span → List ℕ
 spanValues s = s .start ∷ s .end ∷ []
 
--- REFUSALS 1 to 9: the number, and what it returns. [02 T-04] "6 gains the place"
+-- REFUSALS 1 to 9: the number, and what it returns. [02 T-04] "6 gains the place". [02 T-05] 14
 abbrev pub refusalNumber : Refusal → ℕ
 refusalNumber (WrongKind e k) = 1
 refusalNumber (MissingSource s) = 2
@@ -140,6 +146,7 @@ refusalNumber (InvalidString s p) = 6
 refusalNumber (InvalidBitString s) = 7
 refusalNumber (InvalidMoney s) = 8
 refusalNumber (NoRoom n) = 9
+refusalNumber (InvalidDate s) = 14
 
 abbrev pub refusalValues : Refusal → List ℕ
 refusalValues (WrongKind e k) = expectedCode e ∷ kindCode k ∷ payload k
@@ -151,6 +158,7 @@ refusalValues (InvalidString s p) = s .start ∷ s .end ∷ p ∷ []
 refusalValues (InvalidBitString s) = spanValues s
 refusalValues (InvalidMoney s) = spanValues s
 refusalValues (NoRoom n) = n ∷ []
+refusalValues (InvalidDate s) = spanValues s
 
 -- EVERY ANSWER's number, and its values
 abbrev pub textNumber : Text → ℕ
@@ -237,6 +245,26 @@ writingValues Writing′.OverLimit = []
 writingValues Writing′.NotUtf8 = []
 writingValues Writing′.HoldsNul = []
 writingValues (Writing′.NoRoom n) = n ∷ []
+
+-- [02 T-05] "year, month, day and a day number"; without a literal 14 returns the number alone
+abbrev pub dayValues : CalendarDay → List ℕ
+dayValues d = d .year ∷ d .month ∷ d .day ∷ d .number ∷ []
+
+abbrev pub foundNumber : Day → ℕ
+foundNumber (Day′.On d) = 0
+foundNumber Day′.InvalidDate = 14
+
+abbrev pub foundValues : Day → List ℕ
+foundValues (Day′.On d) = dayValues d
+foundValues Day′.InvalidDate = []
+
+abbrev pub datedNumber : Dated → ℕ
+datedNumber (Dated′.On d) = 0
+datedNumber (Dated′.Refused r) = refusalNumber r
+
+abbrev pub datedValues : Dated → List ℕ
+datedValues (Dated′.On d) = dayValues d
+datedValues (Dated′.Refused r) = refusalValues r
 
 -- THE VIEW. "a range that doesn't fit its slice, or a refusal, shows an empty part"
 unfoldable pub partShown : ℕ → ℕ → List ℕ → List ℕ

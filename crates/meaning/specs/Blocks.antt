@@ -9,7 +9,7 @@ use Rattle.meaning.specs.declared.Item.{Item}
 use Rattle.meaning.specs.declared.Four.{Four}
 use Rattle.meaning.specs.declared.Refusal.{Refusal}
 use Rattle.meaning.specs.declared.Refusal.the-variants.{WrongKind, MissingSource, InvalidSourceRange, NotUtf8, InvalidInteger, InvalidString}
-use Rattle.meaning.specs.declared.Refusal.the-variants.{InvalidBitString, InvalidMoney, NoRoom}
+use Rattle.meaning.specs.declared.Refusal.the-variants.{InvalidBitString, InvalidMoney, NoRoom, InvalidDate}
 use Rattle.meaning.specs.declared.Text.{Text}
 use Rattle.meaning.specs.declared.Text.the-variants as Text′
 use Rattle.meaning.specs.Bytes.{if_then_else_}
@@ -34,7 +34,7 @@ abbrev pub four : ℕ → ℕ → ℕ → ℕ → Four
 four number how start len = record { number = number; how = how; start = start; len = len }
 
 -- "on 9 the length is the length needed, and where nothing else is said a field is zero". [02 T-04] "T-03 puts the place in its start field". (No item is
--- refused by 2, 5, 7 or 8)
+-- refused by 2, 5, 7, 8 or 14)
 abbrev pub refusedFour : Refusal → Four
 refusedFour (WrongKind e k) = four 1 0 0 0
 refusedFour (MissingSource s) = four 2 0 0 0
@@ -45,6 +45,7 @@ refusedFour (InvalidString s p) = four 6 0 p 0
 refusedFour (InvalidBitString s) = four 7 0 0 0
 refusedFour (InvalidMoney s) = four 8 0 0 0
 refusedFour (NoRoom n) = four 9 0 0 n
+refusedFour (InvalidDate s) = four 14 0 0 0
 
 -- "A borrowed start is in the source, a written one in the buffer", of which `used` bytes are taken
 abbrev pub fourOf : ℕ → Text → Four

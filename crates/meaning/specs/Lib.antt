@@ -18,3 +18,4 @@ pub mod Forms
 pub mod Codes
 pub mod Records
 pub mod Blocks
+pub mod Dates

@@ -85,6 +85,7 @@ pub enum LiteralExpected {
     Temporal,
     BitString,
     Money,
+    Date,
 }
 
 // From a place of the source up to another.
@@ -100,7 +101,8 @@ pub struct Literal {
     pub span: Span,
 }
 
-// Why a question on a literal is refused: numbers 1 to 9. [02 T-04] 6 carries the place where reading stops, counted from the text's start.
+// Why a question on a literal is refused: numbers 1 to 9. [02 T-04] 6 carries the place where reading stops, counted from the text's start. [02 T-05] 14: the
+// value is no date.
 pub enum Refusal {
     WrongKind(LiteralExpected, LiteralKind),
     MissingSource(Span),
@@ -111,6 +113,7 @@ pub enum Refusal {
     InvalidBitString(Span),
     InvalidMoney(Span),
     NoRoom { needed: usize },
+    InvalidDate(Span),
 }
 
 // A text that was read, before any span or kind is known: a part of it, the first bytes of the buffer, the place where reading stops, or the
@@ -208,4 +211,24 @@ pub struct Four {
     pub how: u32,
     pub start: u32,
     pub len: u32,
+}
+
+// [02 T-05] A day of the calendar, years 1 to 9999, and its number: 0001-01-01 has 1.
+pub struct CalendarDay {
+    pub year: u32,
+    pub month: u32,
+    pub day: u32,
+    pub number: u32,
+}
+
+// The day that a value or a number stands for; or that it is none.
+pub enum Day {
+    On(CalendarDay),
+    InvalidDate,
+}
+
+// The day of a date literal.
+pub enum Dated {
+    On(CalendarDay),
+    Refused(Refusal),
 }

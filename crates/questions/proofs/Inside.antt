@@ -1,20 +1,18 @@
--- What each reader borrows lies in its text. Those of strings and bits are Ranges' read-inside and bits' own, a charset's name is AgreedParts' charset-inside.
--- Assumes nothing.
+-- What each reader borrows lies in its text. Of strings and temporal texts this is Ranges' read-inside and temporal-inside, of bits their own, of a charset's name
+-- AgreedParts' charset-inside. Assumes nothing.
 use mathlib.Core.Path.{_≡_, refl}
 use mathlib.Core.Bool.{Bool, true, false, not}
 use mathlib.Core.List.{List, [], _∷_}
-use Prim.Native.Nat.{ℕ, _+_, _-_, _≤_}
+use Prim.Native.Nat.{ℕ, _≤_}
 use Prim.Native.Char.{code}
 use native.Mathlib.Omega.{arith}
 use lib.Dec.{eqb}
-use lib.ListN.{length, drop, length-drop, length-take}
-use Rattle.meaning.specs.declared.Settings.{Settings}
-use Rattle.meaning.specs.Bytes.{if_then_else_, _!_, part, has}
-use Rattle.meaning.specs.Reading.{Answer, borrowed, written, refused, read}
+use lib.ListN.{length}
+use Rattle.meaning.specs.Bytes.{if_then_else_, _!_, has}
+use Rattle.meaning.specs.Reading.{borrowed, written, refused}
 use Rattle.meaning.specs.Numbers.{Parsed, none, int, baseOf, separated, strip, radixValue, printedBy, decimalOf}
-use Rattle.meaning.specs.Kinds.{money, Token, token, noToken, temporalToken, behind, readToken, temporal}
-use Rattle.laws.proofs.questions.Ranges.{Bounds, AnswerIn, read-inside}
-use Rattle.kinds.proofs.Bounding.{TokenIn, token-in}
+use Rattle.meaning.specs.Kinds.{money}
+use Rattle.laws.proofs.questions.Ranges.{AnswerIn}
 
 pub decimal-inside : (t : List ℕ) → AnswerIn (length t) (decimalOf t)
 unfolding decimalOf
@@ -27,21 +25,6 @@ decimal-inside t = go (not (separated t)) (eqb (baseOf t) 10) (has (code "_") t)
     go false true false p = record { ordered = omega arith; inside = omega arith }
     go false false z none = tt
     go false false z (int i) = tt
-
-behind-inside : (t : List ℕ) (f u : ℕ) → Bounds (length t) f u → (a : Answer) → AnswerIn (length (part f u t)) a → AnswerIn (length t) (behind f a)
-behind-inside t f u h (borrowed g w) i =
-    let m : f + length (part f u t) ≤ length t = omega (arith, length-take (u - f) (drop f t), length-drop f t, h .ordered, h .inside) in
-    record { ordered = omega (arith, i .ordered); inside = omega (arith, i .inside) }
-behind-inside t f u h (written v) i = tt
-behind-inside t f u h (refused p) i = tt
-
-pub temporal-inside : (σ : Settings) (t : List ℕ) → AnswerIn (length t) (temporal σ t)
-unfolding temporal
-temporal-inside σ t = go (temporalToken t) (token-in t)
-  where
-    go : (k : Token) → TokenIn (length t) k → AnswerIn (length t) (readToken σ t k)
-    go (token f u) h = behind-inside t f u h (read σ (part f u t)) (read-inside σ (part f u t))
-    go noToken h = tt
 
 -- a byte that is not 0 stands in the text
 byte-inside : (t : List ℕ) → eqb (t ! 0) (code "$") ≡ true → 1 ≤ length t

@@ -5,3 +5,4 @@ pub mod Telling
 pub mod Ranging
 pub mod Counting
 pub mod Viewing
+pub mod Dating

@@ -27,7 +27,7 @@ use Rattle.meaning.specs.Kinds.{bits, temporal}
 use Rattle.meaning.specs.Answers.{Meets, kindCode}
 use Rattle.meaning.specs.Questions as Definition
 use Rattle.meaning.specs.Questions.{tested, stringQuestion, decimalQuestion, bitsQuestion, temporalQuestion}
-use Rattle.laws.proofs.questions.Ranges.{read-inside}
+use Rattle.laws.proofs.questions.Ranges.{read-inside, temporal-inside}
 use Rattle.admitting.specs.declared.tests.Tested.{Tested}
 use Rattle.admitting.specs.declared.tests.Tested.the-variants.{Passes, Barred}
 use Rattle.admitting.specs.Tests.{Tests, Locates}
@@ -41,7 +41,7 @@ use Rattle.strings.proofs.Fits.{ascii-long, ascii-reads}
 use Rattle.questions.specs.Told.{placeOf, toldBy, InText, bitBaseBy}
 use Rattle.questions.proofs.Moved.{fits-text, told-meets, told-barred}
 use Rattle.bits.proofs.Inside.{bits-inside}
-use Rattle.questions.proofs.Inside.{decimal-inside, temporal-inside}
+use Rattle.questions.proofs.Inside.{decimal-inside}
 
 -- NO SUM WRAPS
 module _ {l : Literal} {S : List ℕ} {r : Tested} {x : Definition.Tested} (v : Tests l S r x) (s e : ℕ) (q : r ≡ Passes s e) (h : length S < 2 ^ 64)

@@ -1,5 +1,6 @@
 -- A reading of a part of the source, told of the source. Assumes nothing.
 use mathlib.Core.Path.{_≡_}
+use mathlib.Core.Bool.{Bool, true, false}
 use Prim.Native.Nat.{ℕ, _+_, _<_, _^_}
 use lib.Dec.{eqb}
 use Rattle.meaning.specs.declared.Read.{Read}
@@ -25,6 +26,13 @@ placeOf (Borrowed f u) = 0
 placeOf (Written n) = 0
 placeOf (Refused p) = p
 placeOf (NoRoom n) = 0
+
+-- whether it stops
+abbrev pub isRefused : Read → Bool
+isRefused (Borrowed f u) = false
+isRefused (Written n) = false
+isRefused (Refused p) = true
+isRefused (NoRoom n) = false
 
 -- as a range. (No reading that is asked for one is written)
 abbrev pub rangeBy : Refusal → ℕ → Read → Range

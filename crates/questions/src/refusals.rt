@@ -3,7 +3,7 @@ use meaning::Refusal;
 ghost use mathlib.Core.Path.{_≡_};
 ghost use Rattle.meaning.specs.Answers.{refusalNumber};
 
-// 1 to 9.
+// 1 to 9, and 14.
 // Rules out: 6 for 7; 3 for 4 (must-fail: one_for_another, another_reason_told).
 pub fn refusal_number(refusal: Refusal) -> u32
     ensures { λ r. ⌜ r ≡ refusalNumber refusal ⌝ }
@@ -18,5 +18,6 @@ pub fn refusal_number(refusal: Refusal) -> u32
         Refusal::InvalidBitString(_) => 7,
         Refusal::InvalidMoney(_) => 8,
         Refusal::NoRoom { needed: _ } => 9,
+        Refusal::InvalidDate(_) => 14,
     }
 }

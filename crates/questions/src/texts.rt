@@ -24,7 +24,7 @@ ghost use Rattle.questions.specs.Told.{InText, placeOf, toldBy, bitBaseB
 
 // The place where a reading stops; 0 where it goes through.
 // Rules out: no place told; the length that is needed told for it (must-fail: place_left_out, length_for_place).
-fn place_of(read: Read) -> usize
+pub(crate) fn place_of(read: Read) -> usize
     ensures { λ r. ⌜ r ≡ placeOf read ⌝ }
 {
     match read {

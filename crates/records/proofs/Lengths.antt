@@ -14,7 +14,7 @@ use Rattle.meaning.specs.declared.Literal.{Literal}
 use Rattle.meaning.specs.declared.LiteralExpected.the-variants as Expected
 use Rattle.meaning.specs.declared.Refusal.{Refusal}
 use Rattle.meaning.specs.declared.Refusal.the-variants.{WrongKind, MissingSource, InvalidSourceRange, NotUtf8, InvalidInteger, InvalidString}
-use Rattle.meaning.specs.declared.Refusal.the-variants.{InvalidBitString, InvalidMoney, NoRoom}
+use Rattle.meaning.specs.declared.Refusal.the-variants.{InvalidBitString, InvalidMoney, NoRoom, InvalidDate}
 use Rattle.meaning.specs.declared.Text.{Text}
 use Rattle.meaning.specs.declared.Text.the-variants as Text′
 use Rattle.meaning.specs.declared.Range.{Range}
@@ -61,6 +61,7 @@ refused-length r = line-length (refusalNumber r) 45 (48 ∷ []) [] (small r) (om
     small (InvalidBitString s) = omega arith
     small (InvalidMoney s) = omega arith
     small (NoRoom n) = omega arith
+    small (InvalidDate s) = omega arith
 
 -- a part that is shown
 shown-length : (how f u : ℕ) (t : List ℕ) → length t ≤ 64 → length (shownLine how (partShown f u t)) ≤ 192

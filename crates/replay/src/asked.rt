@@ -1,5 +1,6 @@
 // The question that a row asks, of a source and with a buffer. The literal's span is moved by so many bytes.
 use crate::rows::QUESTION;
+use crate::rows::day_number_of;
 use crate::rows::due_in;
 use crate::rows::form_of;
 use crate::rows::literal_of;
@@ -12,12 +13,15 @@ use crate::told::agreed;
 use crate::told::answered;
 use crate::told::bool_told;
 use crate::told::charset_told;
+use crate::told::dated_told;
+use crate::told::found_told;
 use crate::told::identifier_told;
 use crate::told::integer_told;
 use crate::told::null_told;
 use crate::told::range_told;
 use crate::told::text_told;
 use crate::told::writing_told;
+use calendar::numbers::date_of_day;
 use check::same;
 use helpers::is_unicode_ident;
 use helpers::materialize_unicode_ident;
@@ -29,6 +33,7 @@ use leaves::texts::string_literal_embeds_nul;
 use meaning::Literal;
 use meaning::Text;
 use numbers::prefix::split_radix_prefix;
+use questions::dates::as_date;
 use questions::parts::as_money_text;
 use questions::parts::charset_introducer;
 use questions::parts::charset_range;
@@ -152,6 +157,14 @@ fn ask_bare(question: u8, text: &[u8]) -> Told {
     answered(TRUTH, is_so(question, text) as usize, 0)
 }
 
+// 22 and 23: the day of a date literal, and of a number.
+fn ask_day(row: &[u8], by: u8, source: &[u8]) -> Told {
+    if byte_at(row, QUESTION) == 23 {
+        return found_told(date_of_day(day_number_of(row)));
+    }
+    dated_told(as_date(literal_of(row, by), source))
+}
+
 // The questions from 9 on are lent no buffer.
 pub(crate) fn lends(row: &[u8]) -> bool {
     byte_at(row, QUESTION) <= 8
@@ -162,6 +175,9 @@ pub(crate) fn ask(row: &[u8], by: u8, source: &[u8], out: &mut [u8]) -> Told {
         return ask_lent(row, by, source, out);
     }
     let question = byte_at(row, QUESTION);
+    if 22 <= question {
+        return ask_day(row, by, source);
+    }
     if 15 <= question {
         return ask_bare(question, source);
     }

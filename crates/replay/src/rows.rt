@@ -1,4 +1,4 @@
-// A row of the input: a head of 44 bytes, then the text with its padding, the value, the name. tools/replay.py says what stands where.
+// A row of the input: a head of 48 bytes, then the text with its padding, the value, the name. tools/replay.py says what stands where.
 use crate::told::Told;
 use leaves::bytes::byte_at;
 use leaves::views::part_of;
@@ -48,7 +48,7 @@ pub(crate) fn source_of(row: &[u8]) -> &[u8] {
 }
 
 pub(crate) fn padded_of(row: &[u8]) -> &[u8] {
-    part_of(row, 44, two(part_of(row, 22, 24)) as usize)
+    part_of(row, 48, two(part_of(row, 22, 24)) as usize)
 }
 
 pub(crate) fn value_of(row: &[u8]) -> &[u8] {
@@ -165,13 +165,19 @@ pub(crate) fn front_of(row: &[u8]) -> u8 {
     byte_at(row, 12)
 }
 
-// What is due: a letter, a number, two values and the place of a 6.
+// The number of a day, where the start stands in other rows.
+pub(crate) fn day_number_of(row: &[u8]) -> u32 {
+    four(part_of(row, 4, 8))
+}
+
+// What is due: a letter, a number and four values.
 pub(crate) fn due_in(row: &[u8]) -> Told {
     Told {
         number: byte_at(row, 16) as u32,
         letter: byte_at(row, 15),
         first: eight(part_of(row, 28, 36)) as usize,
         second: four(part_of(row, 36, 40)) as usize,
-        place: four(part_of(row, 40, 44)) as usize,
+        third: four(part_of(row, 40, 44)) as usize,
+        fourth: four(part_of(row, 44, 48)) as usize,
     }
 }

@@ -13,7 +13,7 @@ pub(crate) fn say_number(before: &[u8], n: u64) {
     io::print_decimal(STDOUT_FILENO, n);
 }
 
-// An answer in the order of vectors/: its letter, number and values, and the place.
+// An answer in the order of vectors/: its letter, number and values.
 fn say_told(before: &[u8], told: Told) {
     let letter = [told.letter];
     say(before);
@@ -21,7 +21,8 @@ fn say_told(before: &[u8], told: Told) {
     say_number(b" ", told.number as u64);
     say_number(b" ", told.first as u64);
     say_number(b" ", told.second as u64);
-    say_number(b" ", told.place as u64);
+    say_number(b" ", told.third as u64);
+    say_number(b" ", told.fourth as u64);
 }
 
 // Which row differs, in which asking, and what is due.

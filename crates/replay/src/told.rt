@@ -1,6 +1,10 @@
-// What any answer tells: its number, a letter for its case, two values, and the place of a 6, 0 where there is none.
+// What any answer tells: its number, a letter for its case, and up to four values, 0 where there is none. The third is the place of a 6; of a date they are
+// the year, the month, the day and the number.
 use admitting::kinds::kind_code;
+use meaning::CalendarDay;
 use meaning::Charset;
+use meaning::Dated;
+use meaning::Day;
 use meaning::Identifier;
 use meaning::Integer;
 use meaning::LiteralExpected;
@@ -18,10 +22,11 @@ pub(crate) struct Told {
     pub letter: u8,
     pub first: usize,
     pub second: usize,
-    pub place: usize,
+    pub third: usize,
+    pub fourth: usize,
 }
 
-// The letters: b borrowed, w written, i an integer, n no name, y a yes or no, p a prefix, r refused, c a call on a block.
+// The letters: b borrowed, w written, i an integer, n no name, y a yes or no, p a prefix, d a day, r refused, c a call on a block.
 const BORROWED: u8 = 98;
 
 const WRITTEN: u8 = 119;
@@ -34,6 +39,8 @@ pub(crate) const TRUTH: u8 = 121;
 
 pub(crate) const PREFIX: u8 = 112;
 
+const DAY: u8 = 100;
+
 const REFUSED: u8 = 114;
 
 const CALLED: u8 = 99;
@@ -44,7 +51,8 @@ pub(crate) fn answered(letter: u8, first: usize, second: usize) -> Told {
         letter,
         first,
         second,
-        place: 0,
+        third: 0,
+        fourth: 0,
     }
 }
 
@@ -54,7 +62,8 @@ pub(crate) fn refused(number: u32, first: usize, second: usize) -> Told {
         letter: REFUSED,
         first,
         second,
-        place: 0,
+        third: 0,
+        fourth: 0,
     }
 }
 
@@ -65,7 +74,8 @@ pub(crate) fn called(number: u32, place: usize, found: u32) -> Told {
         letter: CALLED,
         first: place,
         second: found as usize,
-        place: 0,
+        third: 0,
+        fourth: 0,
     }
 }
 
@@ -88,6 +98,7 @@ fn family_of(expected: LiteralExpected) -> usize {
         LiteralExpected::Temporal => 6,
         LiteralExpected::BitString => 7,
         LiteralExpected::Money => 8,
+        LiteralExpected::Date => 9,
     }
 }
 
@@ -102,7 +113,8 @@ fn refused_at(number: u32, span: Span, place: usize) -> Told {
         letter: REFUSED,
         first: span.start as usize,
         second: span.end as usize,
-        place,
+        third: place,
+        fourth: 0,
     }
 }
 
@@ -122,6 +134,7 @@ fn refusal_told(refusal: Refusal) -> Told {
         Refusal::InvalidBitString(span) => refused_span(number, span),
         Refusal::InvalidMoney(span) => refused_span(number, span),
         Refusal::NoRoom { needed } => refused(number, needed, 0),
+        Refusal::InvalidDate(span) => refused_span(number, span),
     }
 }
 
@@ -217,6 +230,32 @@ pub(crate) fn writing_told(answer: Writing) -> Told {
     }
 }
 
+// The day of a literal, and of a number: without a literal 14 is told alone.
+fn day_told(day: CalendarDay) -> Told {
+    Told {
+        number: 0,
+        letter: DAY,
+        first: day.year as usize,
+        second: day.month as usize,
+        third: day.day as usize,
+        fourth: day.number as usize,
+    }
+}
+
+pub(crate) fn dated_told(answer: Dated) -> Told {
+    match answer {
+        Dated::On(day) => day_told(day),
+        Dated::Refused(refusal) => refusal_told(refusal),
+    }
+}
+
+pub(crate) fn found_told(answer: Day) -> Told {
+    match answer {
+        Day::On(day) => day_told(day),
+        Day::InvalidDate => refused(14, 0, 0),
+    }
+}
+
 // How many bytes of the buffer an answer fills.
 pub(crate) fn filled_by(told: Told) -> usize {
     if told.letter == WRITTEN {
@@ -230,19 +269,21 @@ pub(crate) fn is_same(told: Told, due: Told) -> bool {
         & (told.letter == due.letter)
         & (told.first == due.first)
         & (told.second == due.second)
-        & (told.place == due.place)
+        & (told.third == due.third)
+        & (told.fourth == due.fourth)
 }
 
 // An answer's places in the source moved: a borrowed range, or the span of a refusal. Lengths and kinds stay, and so does the place of a 6, which counts from
 // the text's start.
 pub(crate) fn moved(told: Told, by: u8) -> Told {
-    if (told.letter == BORROWED) | ((2 <= told.number) & (told.number <= 8)) {
+    if (told.letter == BORROWED) | ((2 <= told.number) & (told.number <= 8)) | (told.number == 14) {
         return Told {
             number: told.number,
             letter: told.letter,
             first: std::num::wrapping_add_usize(told.first, by as usize),
             second: std::num::wrapping_add_usize(told.second, by as usize),
-            place: told.place,
+            third: told.third,
+            fourth: told.fourth,
         };
     }
     told

@@ -41,6 +41,7 @@ four-by b (Text′.Refused (Refusal′.InvalidString s p)) = refl
 four-by b (Text′.Refused (Refusal′.InvalidBitString s)) = refl
 four-by b (Text′.Refused (Refusal′.InvalidMoney s)) = refl
 four-by b (Text′.Refused (Refusal′.NoRoom n)) = refl
+four-by b (Text′.Refused (Refusal′.InvalidDate s)) = refl
 
 -- how many bytes a single call wrote
 abbrev pub wrote : Told → ℕ
@@ -58,6 +59,7 @@ takes-by (Text′.Refused (Refusal′.InvalidString s p)) = refl
 takes-by (Text′.Refused (Refusal′.InvalidBitString s)) = refl
 takes-by (Text′.Refused (Refusal′.InvalidMoney s)) = refl
 takes-by (Text′.Refused (Refusal′.NoRoom n)) = refl
+takes-by (Text′.Refused (Refusal′.InvalidDate s)) = refl
 
 -- the item behind n numbers of a block got what a single call told and wrote
 pub record Gives {items S : List ℕ} (c : BlockCall items S) (n : ℕ) (t : Told) (after : List ℕ) : Type 0 where

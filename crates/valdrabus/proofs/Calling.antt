@@ -12,6 +12,8 @@ use Rattle.meaning.specs.declared.Text.{Text}
 use Rattle.meaning.specs.declared.Range.{Range}
 use Rattle.meaning.specs.declared.Charset.{Charset}
 use Rattle.meaning.specs.declared.Integer.{Integer}
+use Rattle.meaning.specs.declared.CalendarDay.{CalendarDay}
+use Rattle.meaning.specs.declared.Dated.{Dated}
 use Rattle.meaning.specs.declared.Truth.{Truth}
 use Rattle.meaning.specs.declared.Nullness.{Nullness}
 use Rattle.meaning.specs.declared.Writing.{Writing}
@@ -20,12 +22,15 @@ use Rattle.meaning.specs.Answers.{Outcome, Meets}
 use Rattle.meaning.specs.Questions.{stringQuestion, decimalQuestion, bitsQuestion, temporalQuestion, sourceQuestion, moneyQuestion, charsetQuestion}
 use Rattle.meaning.specs.Questions.{i64Question, boolQuestion, nullQuestion, isNull}
 use Rattle.meaning.specs.Writer.{writeQuestion}
+use Rattle.meaning.specs.Dates.{dateQuestion}
 use Rattle.valdrabus.specs.declared.told.Told.{Told}
 use Rattle.valdrabus.specs.declared.counted.Counted.{Counted}
+use Rattle.valdrabus.specs.declared.dated.DayTold.{DayTold}
 use Rattle.meaning.specs.Codes.{kindOf, isKnown, literalOf, settingsOf}
 use Rattle.valdrabus.specs.Numbers.{numberTold, textTold, rangeTold, charsetTold, truthTold, nullnessTold, writingTold}
 use Rattle.valdrabus.specs.Calls.{outcomeTold, called, calledBare, calledCount, countedOf, stringCall, decimalCall, bitsCall, temporalCall, sourceCall}
 use Rattle.valdrabus.specs.Calls.{moneyCall, charsetCall, i64Call, boolCall, nullCall, isNullCall, writeCall}
+use Rattle.valdrabus.specs.Calls.{noDay, dayTold, datedTold, calledDay, dateCall}
 
 -- WITH A BUFFER
 unknown : (b known : Bool) → b ≡ known → not b ≡ true → (out : List ℕ) (o : Outcome Told) (t : Told) → t ≡ numberTold 10 → Meets (called known out o) t out
@@ -56,6 +61,15 @@ unknown-count b false e h t n p = ap (λ (x : Told). record { told = x; value = 
 answered-count : (b known : Bool) → b ≡ known → not b ≡ false → (n o : Counted) → n ≡ o → n ≡ calledCount known o
 answered-count b true e h n o p = p
 answered-count b false e h n o p = absurd (false≢true (sym h ∙ ap not e))
+
+unknown-day : (b known : Bool) → b ≡ known → not b ≡ true → (o : DayTold) (t : Told) → t ≡ numberTold 10 → (n : CalendarDay) → n ≡ noDay
+    → _≡_ {A = DayTold} (record { told = t; on = n }) (calledDay known o)
+unknown-day b true e h o t p n z = absurd (false≢true (sym (ap not e) ∙ h))
+unknown-day b false e h o t p n z = ap (dayTold t) z ∙ ap (λ (x : Told). dayTold x noDay) p
+
+answered-day : (b known : Bool) → b ≡ known → not b ≡ false → (n o : DayTold) → n ≡ o → n ≡ calledDay known o
+answered-day b true e h n o p = p
+answered-day b false e h n o p = absurd (false≢true (sym h ∙ ap not e))
 
 module _ (k y s e σ : ℕ) (S out : List ℕ) (b : Bool) (known : b ≡ isKnown k y σ) where
   pub string-unknown : not b ≡ true → (t : Told) → t ≡ numberTold 10 → Meets (stringCall k y s e S σ out) t out
@@ -138,6 +152,18 @@ module _ (k y s e : ℕ) (S : List ℕ) (b : Bool) (known : b ≡ isKnown k y 0)
   i64-answered h l p a q n w =
       answered-count b (isKnown k y 0) known h n (countedOf (i64Question (literalOf k y s e) S))
       (w ∙ ap countedOf q ∙ ap (λ (x : Literal). countedOf (i64Question x S)) p)
+
+  pub date-unknown : not b ≡ true → (t : Told) → t ≡ numberTold 10 → (n : CalendarDay) → n ≡ noDay
+      → _≡_ {A = DayTold} (record { told = t; on = n }) (dateCall k y s e S)
+  unfolding dateCall
+  date-unknown h t p n z = unknown-day b (isKnown k y 0) known h (datedTold (dateQuestion (literalOf k y s e) S)) t p n z
+
+  pub date-answered : not b ≡ false → (l : Literal) → l ≡ literalOf k y s e → (a : Dated) → a ≡ dateQuestion l S → (n : DayTold) → n ≡ datedTold a
+      → n ≡ dateCall k y s e S
+  unfolding dateCall
+  date-answered h l p a q n w =
+      answered-day b (isKnown k y 0) known h n (datedTold (dateQuestion (literalOf k y s e) S))
+      (w ∙ ap datedTold q ∙ ap (λ (x : Literal). datedTold (dateQuestion x S)) p)
 
 -- BY THE KIND ALONE
 module _ (k : ℕ) (b : Bool) (known : b ≡ isKnown k 0 0) where

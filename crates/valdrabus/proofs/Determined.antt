@@ -7,9 +7,10 @@ use Rattle.meaning.specs.declared.RadixPrefix.{RadixPrefix}
 use Rattle.meaning.specs.Answers.{Outcome}
 use Rattle.valdrabus.specs.declared.told.Told.{Told}
 use Rattle.valdrabus.specs.declared.counted.Counted.{Counted}
+use Rattle.valdrabus.specs.declared.dated.DayTold.{DayTold}
 use Rattle.valdrabus.specs.declared.views.View.{View}
 use Rattle.valdrabus.specs.Numbers.{Says, Tells, TellsPlace}
-use Rattle.valdrabus.specs.Calls.{Counts, Bare, Lengths, Splits}
+use Rattle.valdrabus.specs.Calls.{Counts, Bare, Lengths, Splits, Dates, Finds}
 use Rattle.valdrabus.specs.Views.{Shows}
 
 same : {A : Type 0} {x y z : A} → x ≡ z → y ≡ z → x ≡ y
@@ -41,3 +42,20 @@ module _ {r r′ : ℕ} {out out′ : List ℕ} {o : Outcome Told} where
 
 pub splits-unique : {p : RadixPrefix} {r r′ s s′ : ℕ} → Splits p r s → Splits p r′ s′ → (r ≡ r′) × (s ≡ s′)
 splits-unique a b = (same (a .base) (b .base), same (a .digits) (b .digits))
+
+-- [02 T-05]
+module _ {t : DayTold} {r r′ y y′ m m′ d d′ : ℕ} where
+  pub dates-unique : {n n′ f f′ s s′ : ℕ} → Dates t r y m d n f s → Dates t r′ y′ m′ d′ n′ f′ s′
+      → (r ≡ r′) × (y ≡ y′) × (m ≡ m′) × (d ≡ d′) × (n ≡ n′) × (f ≡ f′) × (s ≡ s′)
+  dates-unique a b = (
+    same (a .result) (b .result),
+    same (a .years) (b .years),
+    same (a .months) (b .months),
+    same (a .days) (b .days),
+    same (a .counted) (b .counted),
+    same (a .one) (b .one),
+    same (a .two) (b .two),
+  )
+
+  pub finds-unique : Finds t r y m d → Finds t r′ y′ m′ d′ → (r ≡ r′) × (y ≡ y′) × (m ≡ m′) × (d ≡ d′)
+  finds-unique a b = (same (a .result) (b .result), same (a .years) (b .years), same (a .months) (b .months), same (a .days) (b .days))

@@ -6,17 +6,20 @@ use mir.Syntax.{w64}
 use mir.Val.{SFits, toZ, ofZ}
 use mir.Facts.{toZ-ofZ}
 use Rattle.meaning.specs.declared.Form.{Form}
+use Rattle.meaning.specs.declared.Day.{Day}
 use Rattle.meaning.specs.declared.Identifier.{Identifier}
 use Rattle.meaning.specs.declared.RadixPrefix.{RadixPrefix}
 use Rattle.meaning.specs.declared.Writing.{Writing}
 use Rattle.meaning.specs.Answers.{Outcome, Meets}
 use Rattle.meaning.specs.Questions.{identifierQuestion}
 use Rattle.meaning.specs.Forms.{formQuestion}
+use Rattle.meaning.specs.Dates.{dayQuestion}
 use Rattle.valdrabus.specs.declared.told.Told.{Told}
 use Rattle.valdrabus.specs.declared.counted.Counted.{Counted}
+use Rattle.valdrabus.specs.declared.dated.DayTold.{DayTold}
 use Rattle.valdrabus.specs.declared.views.View.{View}
 use Rattle.valdrabus.specs.Numbers.{identifierTold, writingTold, Says, Tells, SaysPlace, TellsPlace}
-use Rattle.valdrabus.specs.Calls.{outcomeTold, identifierCall, formCall, Counts, Bare, Lengths, Splits}
+use Rattle.valdrabus.specs.Calls.{outcomeTold, identifierCall, formCall, Counts, Bare, Lengths, Splits, foundTold, dayCall, Dates, Finds}
 use Rattle.valdrabus.specs.Views.{Shows}
 
 module _ (t : Told) where
@@ -69,3 +72,29 @@ splits-of p p′ e = record { base = ap (λ (x : RadixPrefix). x .base) e; digit
 
 pub shows-of : (v v′ : View) → v ≡ v′ → Shows v′ (v .which) (v .from) (v .until)
 shows-of v v′ e = record { result = ap (λ (x : View). x .which) e; first = ap (λ (x : View). x .from) e; last = ap (λ (x : View). x .until) e }
+
+-- [02 T-05] a day's numbers
+pub dates-of : (t t′ : DayTold) → t ≡ t′
+    → Dates t′ (t .told .number) (t .on .year) (t .on .month) (t .on .day) (t .on .number) (t .told .first) (t .told .second)
+dates-of t t′ p =
+    record {
+      result = ap (λ (x : DayTold). x .told .number) p;
+      years = ap (λ (x : DayTold). x .on .year) p;
+      months = ap (λ (x : DayTold). x .on .month) p;
+      days = ap (λ (x : DayTold). x .on .day) p;
+      counted = ap (λ (x : DayTold). x .on .number) p;
+      one = ap (λ (x : DayTold). x .told .first) p;
+      two = ap (λ (x : DayTold). x .told .second) p;
+    }
+
+pub finds-of : (n : ℕ) (a : Day) → a ≡ dayQuestion n → (t : DayTold) → t ≡ foundTold a
+    → Finds (dayCall n) (t .told .number) (t .on .year) (t .on .month) (t .on .day)
+unfolding dayCall
+finds-of n a q t p =
+    let e : t ≡ foundTold (dayQuestion n) = p ∙ ap foundTold q in
+    record {
+      result = ap (λ (x : DayTold). x .told .number) e;
+      years = ap (λ (x : DayTold). x .on .year) e;
+      months = ap (λ (x : DayTold). x .on .month) e;
+      days = ap (λ (x : DayTold). x .on .day) e;
+    }

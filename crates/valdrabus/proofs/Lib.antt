@@ -8,6 +8,8 @@ mod Determined
 mod Demands
 mod BlockExports
 mod PlaceExports
+mod DateExports
 mod Witnesses
 mod BlockWitnesses
 mod PlaceWitnesses
+mod DateWitnesses

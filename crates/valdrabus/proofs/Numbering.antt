@@ -6,7 +6,7 @@ use Prim.Native.Nat.{ℕ}
 use lib.IntN.{ℤ}
 use Rattle.meaning.specs.declared.Refusal.{Refusal}
 use Rattle.meaning.specs.declared.Refusal.the-variants.{WrongKind, MissingSource, InvalidSourceRange, NotUtf8, InvalidInteger, InvalidString, InvalidBitString}
-use Rattle.meaning.specs.declared.Refusal.the-variants.{InvalidMoney, NoRoom}
+use Rattle.meaning.specs.declared.Refusal.the-variants.{InvalidMoney, NoRoom, InvalidDate}
 use Rattle.meaning.specs.declared.Text.{Text}
 use Rattle.meaning.specs.declared.Text.the-variants as Text′
 use Rattle.meaning.specs.declared.Range.{Range}
@@ -23,12 +23,17 @@ use Rattle.meaning.specs.declared.Identifier.{Identifier}
 use Rattle.meaning.specs.declared.Identifier.the-variants as Identifier′
 use Rattle.meaning.specs.declared.Writing.{Writing}
 use Rattle.meaning.specs.declared.Writing.the-variants as Writing′
+use Rattle.meaning.specs.declared.CalendarDay.{CalendarDay}
+use Rattle.meaning.specs.declared.Day.{Day}
+use Rattle.meaning.specs.declared.Day.the-variants as Day′
+use Rattle.meaning.specs.declared.Dated.{Dated}
+use Rattle.meaning.specs.declared.Dated.the-variants as Dated′
 use Rattle.meaning.specs.Answers.{payload, refusalNumber, refusalValues, textNumber, textValues, rangeNumber, rangeValues, charsetNumber, charsetValues}
 use Rattle.meaning.specs.Answers.{integerNumber, integerValues, truthNumber, truthValues, nullnessNumber, identifierNumber, identifierValues, writingNumber}
-use Rattle.meaning.specs.Answers.{writingValues}
+use Rattle.meaning.specs.Answers.{writingValues, foundNumber, foundValues, datedNumber, datedValues}
 use Rattle.valdrabus.specs.declared.told.Told.{Told}
 use Rattle.valdrabus.specs.Numbers.{refusalTold, textTold, rangeTold, charsetTold, truthTold, nullnessTold, identifierTold, writingTold}
-use Rattle.valdrabus.specs.Calls.{integerTold, integerValue}
+use Rattle.valdrabus.specs.Calls.{integerTold, integerValue, datedTold, foundTold}
 
 -- NUMBERS
 pub refusal-number : (r : Refusal) → refusalTold r .number ≡ refusalNumber r
@@ -41,6 +46,7 @@ refusal-number (InvalidString s p) = refl
 refusal-number (InvalidBitString s) = refl
 refusal-number (InvalidMoney s) = refl
 refusal-number (NoRoom n) = refl
+refusal-number (InvalidDate s) = refl
 
 pub text-number : (a : Text) → textTold a .number ≡ textNumber a
 text-number (Text′.Borrowed f u) = refl
@@ -83,6 +89,15 @@ writing-number Writing′.NotUtf8 = refl
 writing-number Writing′.HoldsNul = refl
 writing-number (Writing′.NoRoom n) = refl
 
+-- [02 T-05]
+pub dated-number : (a : Dated) → datedTold a .told .number ≡ datedNumber a
+dated-number (Dated′.On d) = refl
+dated-number (Dated′.Refused r) = refusal-number r
+
+pub found-number : (a : Day) → foundTold a .told .number ≡ foundNumber a
+found-number (Day′.On d) = refl
+found-number Day′.InvalidDate = refl
+
 -- VALUES: first and second, or second alone where one is given; and a 6's place. The actual kind's own data stay with the caller
 abbrev both : Told → List ℕ
 both t = t .first ∷ t .second ∷ []
@@ -104,6 +119,7 @@ kept (InvalidString s p) = []
 kept (InvalidBitString s) = []
 kept (InvalidMoney s) = []
 kept (NoRoom n) = []
+kept (InvalidDate s) = []
 
 abbrev valuesTold : Refusal → List ℕ
 valuesTold (NoRoom n) = last (refusalTold (NoRoom n))
@@ -115,6 +131,7 @@ valuesTold (InvalidInteger s) = both (refusalTold (InvalidInteger s))
 valuesTold (InvalidString s p) = all (refusalTold (InvalidString s p))
 valuesTold (InvalidBitString s) = both (refusalTold (InvalidBitString s))
 valuesTold (InvalidMoney s) = both (refusalTold (InvalidMoney s))
+valuesTold (InvalidDate s) = both (refusalTold (InvalidDate s))
 
 pub refusal-values : (r : Refusal) → valuesTold r ++ kept r ≡ refusalValues r
 refusal-values (WrongKind e k) = refl
@@ -126,6 +143,7 @@ refusal-values (InvalidString s p) = refl
 refusal-values (InvalidBitString s) = refl
 refusal-values (InvalidMoney s) = refl
 refusal-values (NoRoom n) = refl
+refusal-values (InvalidDate s) = refl
 
 -- a text's range, or its length
 pub borrowed-values : (f u : ℕ) → both (textTold (Text′.Borrowed f u)) ≡ textValues (Text′.Borrowed f u)
@@ -165,3 +183,13 @@ false-values = refl
 -- an integer's value stands in a number of its own
 pub integer-values : (z : ℤ) → integerValue (Integer′.Value z) ∷ [] ≡ integerValues (Integer′.Value z)
 integer-values z = refl
+
+-- [02 T-05] a day's four
+abbrev four : CalendarDay → List ℕ
+four d = d .year ∷ d .month ∷ d .day ∷ d .number ∷ []
+
+pub dated-values : (d : CalendarDay) → four (datedTold (Dated′.On d) .on) ≡ datedValues (Dated′.On d)
+dated-values d = refl
+
+pub day-values : (d : CalendarDay) → four (foundTold (Day′.On d) .on) ≡ foundValues (Day′.On d)
+day-values d = refl

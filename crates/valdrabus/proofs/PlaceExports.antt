@@ -33,7 +33,7 @@ pub record Stopped (start end p : ℕ) (lent : List ℕ) (result how first secon
   pub buffer : after ≡ lent
 
 -- WHAT THE NUMBERS SAY of a refusal, of an answer
-refused-six : (r : Refusal) → textTold (Text′.Refused r) .number ≡ 6 → (sp : Span) × (r ≡ Refusal′.InvalidString sp (textTold (Text′.Refused r) .place))
+pub refused-six : (r : Refusal) → textTold (Text′.Refused r) .number ≡ 6 → (sp : Span) × (r ≡ Refusal′.InvalidString sp (textTold (Text′.Refused r) .place))
 refused-six (Refusal′.WrongKind e k) h = absurd (omega arith)
 refused-six (Refusal′.MissingSource s) h = absurd (omega arith)
 refused-six (Refusal′.InvalidSourceRange s) h = absurd (omega arith)
@@ -43,8 +43,9 @@ refused-six (Refusal′.InvalidString s p) h = (s, refl)
 refused-six (Refusal′.InvalidBitString s) h = absurd (omega arith)
 refused-six (Refusal′.InvalidMoney s) h = absurd (omega arith)
 refused-six (Refusal′.NoRoom n) h = absurd (omega arith)
+refused-six (Refusal′.InvalidDate s) h = absurd (omega arith)
 
-six : (a : Text) → textTold a .number ≡ 6 → (sp : Span) × (a ≡ Text′.Refused (Refusal′.InvalidString sp (textTold a .place)))
+pub six : (a : Text) → textTold a .number ≡ 6 → (sp : Span) × (a ≡ Text′.Refused (Refusal′.InvalidString sp (textTold a .place)))
 six (Text′.Borrowed f u) h = absurd (omega arith)
 six (Text′.Written n) h = absurd (omega arith)
 six (Text′.Refused r) h = let w = refused-six r h in (w .0, ap Text′.Refused (w .1))
@@ -59,6 +60,7 @@ refused-other (Refusal′.InvalidString s p) h = absurd (h refl)
 refused-other (Refusal′.InvalidBitString s) h = refl
 refused-other (Refusal′.InvalidMoney s) h = refl
 refused-other (Refusal′.NoRoom n) h = refl
+refused-other (Refusal′.InvalidDate s) h = refl
 
 other : (a : Text) → (textTold a .number ≡ 6 → ⊥) → textTold a .place ≡ 0
 other (Text′.Borrowed f u) h = refl

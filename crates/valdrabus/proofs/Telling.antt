@@ -18,14 +18,20 @@ use Rattle.meaning.specs.declared.Truth.the-variants as Truth′
 use Rattle.meaning.specs.declared.Nullness.{Nullness}
 use Rattle.meaning.specs.declared.Identifier.{Identifier}
 use Rattle.meaning.specs.declared.Writing.{Writing}
+use Rattle.meaning.specs.declared.CalendarDay.{CalendarDay}
+use Rattle.meaning.specs.declared.Day.{Day}
+use Rattle.meaning.specs.declared.Day.the-variants as Day′
+use Rattle.meaning.specs.declared.Dated.{Dated}
+use Rattle.meaning.specs.declared.Dated.the-variants as Dated′
 use Rattle.meaning.specs.declared.Integer.{Integer}
 use Rattle.meaning.specs.declared.Integer.the-variants as Integer′
 use Rattle.meaning.specs.Answers.{expectedCode, kindCode}
 use Rattle.valdrabus.specs.declared.told.Told.{Told}
 use Rattle.valdrabus.specs.declared.counted.Counted.{Counted}
+use Rattle.valdrabus.specs.declared.dated.DayTold.{DayTold}
 use Rattle.valdrabus.specs.Numbers.{fourTold, numberTold, refusalTold, textTold, rangeTold, charsetTold}
 use Rattle.valdrabus.specs.Numbers.{truthTold, nullnessTold, identifierTold, writingTold}
-use Rattle.valdrabus.specs.Calls.{countedOf}
+use Rattle.valdrabus.specs.Calls.{countedOf, noDay, dayTold, datedTold, foundTold}
 
 -- REFUSALS
 module _ (w : Refusal) where
@@ -76,3 +82,20 @@ module _ (a : Integer) where
   pub integer-refused : (w : Refusal) → a ≡ Integer′.Refused w → (t : Told) → t ≡ refusalTold w
       → _≡_ {A = Counted} (record { told = t; value = pos 0 }) (countedOf a)
   integer-refused w q t p = ap (λ (x : Told). record { told = x; value = pos 0 }) p ∙ ap countedOf (sym q)
+
+-- [02 T-05] DAYS
+module _ (a : Dated) (t : Told) where
+  pub dated-day : (d : CalendarDay) → a ≡ Dated′.On d → t ≡ numberTold 0 → _≡_ {A = DayTold} (record { told = t; on = d }) (datedTold a)
+  dated-day d q p = ap (λ (x : Told). dayTold x d) p ∙ ap datedTold (sym q)
+
+  pub dated-refused : (w : Refusal) → a ≡ Dated′.Refused w → t ≡ refusalTold w → (n : CalendarDay) → n ≡ noDay
+      → _≡_ {A = DayTold} (record { told = t; on = n }) (datedTold a)
+  dated-refused w q p n z = ap (dayTold t) z ∙ ap (λ (x : Told). dayTold x noDay) p ∙ ap datedTold (sym q)
+
+module _ (a : Day) (t : Told) where
+  pub found-day : (d : CalendarDay) → a ≡ Day′.On d → t ≡ numberTold 0 → _≡_ {A = DayTold} (record { told = t; on = d }) (foundTold a)
+  found-day d q p = ap (λ (x : Told). dayTold x d) p ∙ ap foundTold (sym q)
+
+  pub found-none : a ≡ Day′.InvalidDate → t ≡ numberTold 14 → (n : CalendarDay) → n ≡ noDay
+      → _≡_ {A = DayTold} (record { told = t; on = n }) (foundTold a)
+  found-none q p n z = ap (dayTold t) z ∙ ap (λ (x : Told). dayTold x noDay) p ∙ ap foundTold (sym q)

@@ -55,6 +55,7 @@ module _ (S out : List ℕ) where
   refused (Refusal′.InvalidBitString s) = refl
   refused (Refusal′.InvalidMoney s) = refl
   refused (Refusal′.NoRoom n) = refl
+  refused (Refusal′.InvalidDate s) = refl
 
   pub view-shows : (a : Text) → seen (textTold a) ≡ shown S out a
   unfolding viewCall partShown

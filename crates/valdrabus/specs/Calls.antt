@@ -7,6 +7,11 @@ use lib.Dec.{leb}
 use lib.IntN.{ℤ, pos}
 use Rattle.meaning.specs.declared.Integer.{Integer}
 use Rattle.meaning.specs.declared.Integer.the-variants as Integer′
+use Rattle.meaning.specs.declared.CalendarDay.{CalendarDay}
+use Rattle.meaning.specs.declared.Day.{Day}
+use Rattle.meaning.specs.declared.Day.the-variants as Day′
+use Rattle.meaning.specs.declared.Dated.{Dated}
+use Rattle.meaning.specs.declared.Dated.the-variants as Dated′
 use Rattle.meaning.specs.declared.PartSize.{PartSize}
 use Rattle.meaning.specs.declared.Form.{Form}
 use Rattle.meaning.specs.declared.RadixPrefix.{RadixPrefix}
@@ -15,8 +20,10 @@ use Rattle.meaning.specs.Questions.{stringQuestion, decimalQuestion, bitsQuesti
 use Rattle.meaning.specs.Questions.{i64Question, boolQuestion, nullQuestion, isNull, identifierQuestion}
 use Rattle.meaning.specs.Writer.{writeQuestion}
 use Rattle.meaning.specs.Forms.{formQuestion}
+use Rattle.meaning.specs.Dates.{dateQuestion, dayQuestion}
 use Rattle.valdrabus.specs.declared.told.Told.{Told}
 use Rattle.valdrabus.specs.declared.counted.Counted.{Counted}
+use Rattle.valdrabus.specs.declared.dated.DayTold.{DayTold}
 use Rattle.meaning.specs.Codes.{kindOf, isKnown, literalOf, settingsOf}
 use Rattle.valdrabus.specs.Numbers.{numberTold, refusalTold, textTold, rangeTold, charsetTold, truthTold, nullnessTold, identifierTold, writingTold}
 
@@ -84,6 +91,32 @@ nullCall k = calledBare (isKnown k 0 0) (nullnessTold (nullQuestion (kindOf k)))
 unfoldable pub isNullCall : ℕ → Bool
 isNullCall k = isKnown k 0 0 && isNull (kindOf k)
 
+-- [02 T-05] DAYS: year, month, day and number, all 0 on a refusal
+abbrev pub noDay : CalendarDay
+noDay = record { year = 0; month = 0; day = 0; number = 0 }
+
+abbrev pub dayTold : Told → CalendarDay → DayTold
+dayTold t d = record { told = t; on = d }
+
+abbrev pub datedTold : Dated → DayTold
+datedTold (Dated′.On d) = dayTold (numberTold 0) d
+datedTold (Dated′.Refused r) = dayTold (refusalTold r) noDay
+
+abbrev pub foundTold : Day → DayTold
+foundTold (Day′.On d) = dayTold (numberTold 0) d
+foundTold Day′.InvalidDate = dayTold (numberTold 14) noDay
+
+abbrev pub calledDay : Bool → DayTold → DayTold
+calledDay true t = t
+calledDay false t = dayTold (numberTold 10) noDay
+
+unfoldable pub dateCall : ℕ → ℕ → ℕ → ℕ → List ℕ → DayTold
+dateCall k y s e source = calledDay (isKnown k y 0) (datedTold (dateQuestion (literalOf k y s e) source))
+
+-- of a number: none is given that could name nothing
+unfoldable pub dayCall : ℕ → DayTold
+dayCall n = foundTold (dayQuestion n)
+
 -- THE WRITERS, and an identifier: no literal
 unfoldable pub writeCall : PartSize → List ℕ → ℕ → List ℕ → Outcome Told
 writeCall p v σ out = called (leb σ 1) out (outcomeTold writingTold (writeQuestion (settingsOf σ) p v out))
@@ -95,7 +128,7 @@ formCall f v out = outcomeTold writingTold (formQuestion f v out)
 unfoldable pub identifierCall : List ℕ → List ℕ → Outcome Told
 identifierCall t out = outcomeTold identifierTold (identifierQuestion t out)
 
--- WHAT A CONTRACT SAYS of an integer, of NULL and of the writer, which lend fewer numbers
+-- WHAT A CONTRACT SAYS of an integer, of NULL, of the writer and of a day, which lend other numbers
 pub record Counts (n : Counted) (r : ℕ) (value : ℤ) (first second : ℕ) : Type 0 where
   pub result : r ≡ n .told .number
   pub counted : value ≡ n .value
@@ -115,3 +148,19 @@ pub record Lengths (o : Outcome Told) (r len : ℕ) (after : List ℕ) : Type 0 
 pub record Splits (p : RadixPrefix) (r start : ℕ) : Type 0 where
   pub base : r ≡ p .base
   pub digits : start ≡ p .start
+
+-- [02 T-05] of a day, and of a number's day, which the caller has
+pub record Dates (t : DayTold) (r year month day number first second : ℕ) : Type 0 where
+  pub result : r ≡ t .told .number
+  pub years : year ≡ t .on .year
+  pub months : month ≡ t .on .month
+  pub days : day ≡ t .on .day
+  pub counted : number ≡ t .on .number
+  pub one : first ≡ t .told .first
+  pub two : second ≡ t .told .second
+
+pub record Finds (t : DayTold) (r year month day : ℕ) : Type 0 where
+  pub result : r ≡ t .told .number
+  pub years : year ≡ t .on .year
+  pub months : month ≡ t .on .month
+  pub days : day ≡ t .on .day

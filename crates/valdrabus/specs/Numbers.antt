@@ -7,7 +7,7 @@ use Prim.Native.Nat.{ℕ}
 use Rattle.meaning.specs.declared.Span.{Span}
 use Rattle.meaning.specs.declared.Refusal.{Refusal}
 use Rattle.meaning.specs.declared.Refusal.the-variants.{WrongKind, MissingSource, InvalidSourceRange, NotUtf8, InvalidInteger, InvalidString, InvalidBitString}
-use Rattle.meaning.specs.declared.Refusal.the-variants.{InvalidMoney, NoRoom}
+use Rattle.meaning.specs.declared.Refusal.the-variants.{InvalidMoney, NoRoom, InvalidDate}
 use Rattle.meaning.specs.declared.Text.{Text}
 use Rattle.meaning.specs.declared.Text.the-variants as Text′
 use Rattle.meaning.specs.declared.Range.{Range}
@@ -51,7 +51,7 @@ spanTold n s = fourTold n 0 (s .start) (s .end)
 abbrev pub placeTold : Span → ℕ → Told
 placeTold s p = fiveTold 6 0 (s .start) (s .end) p
 
--- REFUSALS 1 to 9, and what each returns
+-- REFUSALS 1 to 9 and 14, and what each returns
 abbrev pub refusalTold : Refusal → Told
 refusalTold (WrongKind e k) = fourTold 1 0 (expectedCode e) (kindCode k)
 refusalTold (MissingSource s) = spanTold 2 s
@@ -62,6 +62,7 @@ refusalTold (InvalidString s p) = placeTold s p
 refusalTold (InvalidBitString s) = spanTold 7 s
 refusalTold (InvalidMoney s) = spanTold 8 s
 refusalTold (NoRoom n) = roomTold n
+refusalTold (InvalidDate s) = spanTold 14 s
 
 -- ANSWERS
 abbrev pub textTold : Text → Told

@@ -4,6 +4,8 @@
 pub mod bare;
 pub mod block;
 mod counted;
+mod dated;
+pub mod dates;
 pub mod parts;
 pub mod texts;
 mod told;

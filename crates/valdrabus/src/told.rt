@@ -37,6 +37,7 @@ fn expected_code(expected: LiteralExpected) -> u32
         LiteralExpected::Temporal => 6,
         LiteralExpected::BitString => 7,
         LiteralExpected::Money => 8,
+        LiteralExpected::Date => 9,
     }
 }
 
@@ -145,6 +146,7 @@ pub(crate) fn refusal_told(refusal: Refusal) -> Told
         Refusal::InvalidBitString(span) => span_told(7, span),
         Refusal::InvalidMoney(span) => span_told(8, span),
         Refusal::NoRoom { needed } => room_told(needed),
+        Refusal::InvalidDate(span) => span_told(14, span),
     }
 }
 

@@ -2,7 +2,7 @@
 
 use crate::cases::{Case, Place, Question, Task};
 use crate::timing::Timed;
-use crate::writing;
+use crate::{dates, writing};
 use original::ast::literal::Literal;
 use original::codes;
 use original::dialect::StringLiteralSyntax;
@@ -30,21 +30,26 @@ pub struct Ready {
     /// The literals in the source, and each in a text of its own; none where values are written.
     within: Vec<Literal>,
     alone: Vec<Literal>,
+    /// The numbers whose days are asked for.
+    numbers: Vec<u32>,
 }
 
 impl Ready {
     pub fn new(case: Case) -> Ready {
         let longest = case.places.iter().map(|place| place.end - place.start).max().unwrap_or(0) as usize;
+        let none = Ready { out: Vec::new(), within: Vec::new(), alone: Vec::new(), numbers: Vec::new(), case };
+        let case = &none.case;
         match case.task {
             Task::Read(question) => {
                 let kind = codes::kind(question.kind());
                 let over = |start, end| Literal { kind: kind.clone(), meta: Meta { span: Span::over(start, end) } };
                 let within = case.places.iter().map(|place| over(place.start, place.end)).collect();
                 let alone = case.places.iter().map(|place| over(0, place.end - place.start)).collect();
-                Ready { out: vec![0; longest.max(40)], within, alone, case }
+                Ready { out: vec![0; longest.max(40)], within, alone, ..none }
             }
-            Task::Write(_) => {
-                Ready { out: vec![0; writing::most(longest)], within: Vec::new(), alone: Vec::new(), case }
+            Task::Write(_) => Ready { out: vec![0; writing::most(longest)], ..none },
+            Task::Days => {
+                Ready { numbers: case.source.lines().map(|text| text.parse().expect("a number")).collect(), ..none }
             }
         }
     }
@@ -53,6 +58,7 @@ impl Ready {
         match (side, question) {
             (Side::Ours, Question::I64) => self.ours_i64(),
             (Side::Ours, Question::Refused) => self.ours_refused(),
+            (Side::Ours, Question::Date) => dates::ours(&self.case),
             (Side::Ours, question) => self.ours_text(question),
             (Side::Rust, question) => self.rust(question),
             (Side::RustStr, question) => self.rust_str(question),
@@ -69,14 +75,16 @@ impl Ready {
             let place_to = &raw mut place;
             // SAFETY: source and buffer are valid for their lengths; the numbers are ours alone.
             let number = unsafe {
-                if question == Question::Str {
-                    sys::valdrabus_as_str_in(
+                match question {
+                    Question::Str => sys::valdrabus_as_str_in(
                         kind, 0, start, end, from, long, setting, to, room, how_to, first_to, second_to, place_to,
-                    )
-                } else {
-                    sys::valdrabus_as_decimal_text(
+                    ),
+                    Question::Temporal => sys::valdrabus_as_temporal_text(
+                        kind, 0, start, end, from, long, to, room, how_to, first_to, second_to, place_to,
+                    ),
+                    _ => sys::valdrabus_as_decimal_text(
                         kind, 0, start, end, from, long, to, room, how_to, first_to, second_to,
-                    )
+                    ),
                 }
             };
             assert!(number == 0, "refused by {number}");
@@ -156,12 +164,14 @@ impl Timed for Ready {
                 writing::each(&self.case, spelling, side, &mut self.out, |text| sum += digest(black_box(text)));
                 sum
             }
+            Task::Days if side == Side::Ours => dates::ours_of_numbers(&self.numbers),
+            Task::Days => dates::plain_of_numbers(&self.numbers),
         }
     }
 
     fn agrees(&mut self) -> bool {
         let [ours, rust, rust_str] = SIDES.map(|(side, _)| match self.case.task {
-            Task::Read(_) => self.run(side).to_le_bytes().to_vec(),
+            Task::Read(_) | Task::Days => self.run(side).to_le_bytes().to_vec(),
             Task::Write(spelling) => {
                 let mut all = Vec::new();
                 writing::each(&self.case, spelling, side, &mut self.out, |text| all.extend_from_slice(text));
@@ -181,8 +191,13 @@ fn answer(literal: &Literal, source: &str, question: Question, setting: u32) -> 
             let error = literal.as_str_in(source, syntax).expect_err("a refusal");
             return codes::refusal(black_box(&error)).0.into();
         }
+        Question::Date => {
+            let text = literal.as_temporal_text(source).expect("a text");
+            return dates::seen(black_box(dates::of_text(&text).expect("a day")));
+        }
         Question::Str => literal.as_str_in(source, syntax),
         Question::Decimal => literal.as_decimal_text(source),
+        Question::Temporal => literal.as_temporal_text(source),
     };
     digest(black_box(text.expect("a text").as_bytes()))
 }

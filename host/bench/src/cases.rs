@@ -12,6 +12,8 @@ pub enum Question {
     Refused,
     Decimal,
     I64,
+    Temporal,
+    Date,
 }
 
 impl Question {
@@ -20,6 +22,7 @@ impl Question {
         match self {
             Question::Str | Question::Refused => 4,
             Question::Decimal | Question::I64 => 1,
+            Question::Temporal | Question::Date => 8,
         }
     }
 }
@@ -39,6 +42,8 @@ const SPELLINGS: [(Spelling, &str); 3] =
 pub enum Task {
     Read(Question),
     Write(Spelling),
+    /// The day of a number, each number a text of the source.
+    Days,
 }
 
 /// Where a literal, or a value to write, stands in the source, and at which setting it is read.
@@ -115,6 +120,10 @@ impl Case {
     }
 }
 
+/// The two cases of one text; tools/speed.py knows them by these names.
+const TEMPORAL: &str = "temporal text";
+const DATE: &str = "date";
+
 const LONG: usize = 65_536;
 const NUMBERS: usize = 1000;
 const SHORT_VALUES: usize = 1000;
@@ -177,6 +186,7 @@ fn read() -> Vec<Case> {
         Case::numbers("i64, any length", Question::I64, signed),
         Case::numbers("i64, hex", Question::I64, |rng| format!("0x{:x}", rng.next() >> (1 + rng.below(62)))),
     ];
+    cases.extend(dates());
     cases.extend(sparse());
     cases.extend(
         [1, 3, 6, 9, 12, 15, 18, 19].map(|digits| {
@@ -184,6 +194,24 @@ fn read() -> Vec<Case> {
         }),
     );
     cases
+}
+
+/// One text read as a temporal text and as a date, so that their times can be compared; dates and numbers of any day.
+fn dates() -> [Case; 4] {
+    let one = |name, question| {
+        let texts = std::iter::repeat_n("DATE '2027-01-31'".to_owned(), NUMBERS);
+        Case::of(name, Task::Read(question), 0, texts)
+    };
+    let any =
+        |rng: &mut Rng| format!("DATE '{:04}-{:02}-{:02}'", rng.within(1, 9999), rng.within(1, 12), rng.within(1, 28));
+    let mut rng = Rng::new(127);
+    let numbers = (0..NUMBERS).map(|_| rng.within(1, 3_652_059).to_string());
+    [
+        one(TEMPORAL, Question::Temporal),
+        one(DATE, Question::Date),
+        Case::numbers("date, any day", Question::Date, any),
+        Case::of("day of a number", Task::Days, 0, numbers),
+    ]
 }
 
 /// Names with a quote that is not doubled, some 20 bytes before it and as many behind: reading stops halfway.

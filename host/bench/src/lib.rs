@@ -5,6 +5,7 @@ mod asking;
 mod block_asking;
 mod blocks;
 mod cases;
+mod dates;
 // the same numbers from the same seed; not all of it is asked for here
 #[allow(dead_code)]
 #[path = "../../compare/src/rng.rs"]

@@ -1,11 +1,12 @@
 //! One question asked of both, with each of several buffers.
 
 use crate::blocks::Gathered;
+use crate::dates::NO_DATE;
 use crate::frames::PADDING;
 use crate::lent::Lent;
 use crate::question::{Asked, BORROWED, Question, Said, Told, UNREADABLE, WRITTEN, due};
 use crate::rng::Rng;
-use crate::tally::{Row, Tally, outcome};
+use crate::tally::{Row, Tally, VALUE, outcome};
 use crate::{ours, rules, rust};
 use std::str::from_utf8;
 
@@ -55,7 +56,8 @@ impl Comparing {
             Judge::LeftOut => self.tally.left_out += 1,
         }
         if !asked.question.lends() {
-            return self.ask_with(asked, source, &said, 0, 0);
+            self.ask_with(asked, source, &said, 0, 0)?;
+            return if asked.question == Question::Date { self.date(asked, source, &said) } else { Ok(()) };
         }
         let place = self.place(asked, source, &said)?;
         let long = self.rng.within(1, 40);
@@ -119,6 +121,27 @@ impl Comparing {
         Ok(())
     }
 
+    /// Counts an answer of the date question. A day's number has to give the day back; a 6 has to be the temporal question's, which tells its place.
+    fn date(&mut self, asked: &Asked, source: &[u8], said: &Said) -> Outcome {
+        match *said {
+            Said::Day([year, month, day, number]) => {
+                let (told, due) = (ours::date_of_day(number), (0, [year, month, day]));
+                if told != due {
+                    let (due, told) = (format!("{due:?}"), format!("{told:?}"));
+                    return Err(self.difference("date_of_day".into(), asked, source, 0, due, told));
+                }
+                self.tally.count(Row::Day, VALUE);
+                self.tally.dates.days += 1;
+            }
+            Said::Refused(NO_DATE, ..) => self.tally.dates.none(asked.text(source)),
+            Said::Refused(UNREADABLE, ..) => {
+                return self.ask(&Asked { question: Question::Temporal, ..*asked }, source);
+            }
+            _ => {}
+        }
+        Ok(())
+    }
+
     /// The view shows just what was answered.
     fn view(&mut self, asked: &Asked, source: &[u8], told: &Told, room: usize) -> Outcome {
         let shown = ours::view(told.how, told.first, told.second, source.len(), room);
@@ -152,8 +175,11 @@ fn expected(asked: &Asked, source: &[u8]) -> Result<(Said, Judge), String> {
     if asked.question == Question::IsNull && !(1..=14).contains(&asked.kind) {
         return Ok((Said::Truth(false), Judge::Rules));
     }
-    if let Some(Said::Refused(10, ..)) = early {
-        return Ok((early.expect("a refusal"), Judge::Rules));
+    match early {
+        Some(refusal @ Said::Refused(10, ..)) => return Ok((refusal, Judge::Rules)),
+        // The Rust has no family for dates: other temporal kinds have a text there.
+        Some(refusal @ Said::Refused(1, ..)) if asked.question == Question::Date => return Ok((refusal, Judge::Rules)),
+        _ => {}
     }
     match (from_utf8(source), early) {
         (Ok(source), Some(refusal)) => {

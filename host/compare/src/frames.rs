@@ -35,6 +35,7 @@ const EVERYTHING: Set = &[
     (Plain, 4),
     (Charset, 4),
     (Temporal, 8),
+    (Date, 8),
     (Source, 4),
     (Ident, 0),
     (IsIdent, 0),
@@ -44,7 +45,7 @@ const EVERYTHING: Set = &[
     (Nul, 0),
 ];
 
-const FRAMES: [Frame; 19] = [
+const FRAMES: [Frame; 20] = [
     frame("any text", "", &["'", "\"", "\\", "E", "U", "&", "N", "_", "x", "$", " ", "0", "é"], "", 0, EVERYTHING),
     frame("'..'", "'", &["'", "\"", "\\", "0", "n", "Z", "%", "_", "é", "a", "\0"], "'", 0, STRINGS_ALONE),
     frame("\"..\"", "\"", &["'", "\"", "\\", "0", "b", "%", "é", "\0"], "\"", 0, STRINGS_ALONE),
@@ -109,7 +110,7 @@ const FRAMES: [Frame; 19] = [
         0,
         STRINGS,
     ),
-    frame("dollar", "", &["$", "a", "_", "1", "é", "'", " ", "-"], "", 1, &[(Str, 4), (Temporal, 9)]),
+    frame("dollar", "", &["$", "a", "_", "1", "é", "'", " ", "-"], "", 1, &[(Str, 4), (Temporal, 9), (Date, 8)]),
     frame(
         "numbers",
         "",
@@ -142,7 +143,22 @@ const FRAMES: [Frame; 19] = [
         &[(I64, 1), (Decimal, 3)],
     ),
     frame("bits", "", &["B", "x", "'", "0", "1", "f", " ", "\u{2028}", "\""], "", 1, &[(Bits, 12), (Bits, 13)]),
-    frame("temporal", "", &["DATE", " ", "'", "E", "e", "$", "\\", "a", "_", "é", "\""], "", 0, &[(Temporal, 11)]),
+    frame(
+        "temporal",
+        "",
+        &["DATE", " ", "'", "E", "e", "$", "\\", "a", "_", "é", "\""],
+        "",
+        0,
+        &[(Temporal, 11), (Date, 8)],
+    ),
+    frame(
+        "dates",
+        "DATE '",
+        &["2024", "2023", "0000", "1900", "-02", "-12", "-29", "-31", "-00", "0", "-", "' '", "''", "' E'", "\\x30"],
+        "'",
+        0,
+        &[(Date, 8)],
+    ),
     frame("money", "", &["$", "1", ".", ",", "é", "-", " "], "", -1, &[(Money, 14), (Source, 14)]),
     frame("charset names", "_", &["a", "9", "_", "'", "\"", " ", "é", "-"], "", 0, &[(Charset, 4), (Str, 4)]),
     frame(
@@ -252,7 +268,7 @@ fn placed(comparing: &mut Comparing, padded: &mut Padded) -> Outcome {
         ("$$", "$$", STRINGS_ALONE),
         ("'' '", "'", STRINGS_ALONE),
         ("U&\"", "\"", &[(Ident, 0), (Nul, 0)]),
-        ("DATE '", "' ", &[(Temporal, 10)]),
+        ("DATE '", "' ", &[(Temporal, 10), (Date, 8)]),
     ];
     const ODD: [&str; 10] = ["'", "''", "\"", "\"\"", "\\", "\\n", "\0", "é", "😀", "\\0041"];
     for (open, close, set) in SPELLINGS {

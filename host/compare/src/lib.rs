@@ -3,6 +3,7 @@
 
 mod blocks;
 mod comparing;
+mod dates;
 mod edges;
 mod frames;
 mod lent;

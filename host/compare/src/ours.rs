@@ -13,11 +13,13 @@ struct Numbers {
     second: usize,
     place: usize,
     value: i64,
+    day: [u32; 4],
 }
 
 impl Numbers {
     fn stale() -> Numbers {
-        Numbers { how: STALE as u32, first: STALE, second: STALE, place: STALE, value: STALE as i64 }
+        let (how, value, day) = (STALE as u32, STALE as i64, [STALE as u32; 4]);
+        Numbers { how, first: STALE, second: STALE, place: STALE, value, day }
     }
 }
 
@@ -26,6 +28,7 @@ pub fn told(asked: &Asked, source: &[u8], out: &mut [u8]) -> Told {
         Question::Str | Question::Plain | Question::Decimal | Question::Bits | Question::Temporal | Question::Ident => {
             text(asked, source, out)
         }
+        Question::Date => date(asked, source),
         Question::Source | Question::Money | Question::Charset => part(asked, source),
         Question::I64 | Question::Bool | Question::Null => value(asked, source),
         _ => test(asked, source),
@@ -60,7 +63,28 @@ fn text(asked: &Asked, source: &[u8], out: &mut [u8]) -> Told {
         }
     };
     let place = if asked.question.is_placed() { lent.place } else { 0 };
-    Told { returned, how: lent.how, first: lent.first, second: lent.second, place, value: 0 }
+    Told { returned, how: lent.how, first: lent.first, second: lent.second, place, ..Told::default() }
+}
+
+fn date(asked: &Asked, source: &[u8]) -> Told {
+    let mut lent = Numbers::stale();
+    let Asked { kind, synthetic, start, end, .. } = *asked;
+    let (first, second) = (&raw mut lent.first, &raw mut lent.second);
+    let [year, month, day, number] = &mut lent.day;
+    let (from, long) = (source.as_ptr(), source.len());
+    // SAFETY: as above.
+    let returned = unsafe {
+        sys::valdrabus_as_date(kind, synthetic, start, end, from, long, year, month, day, number, first, second)
+    };
+    Told { returned, first: lent.first, second: lent.second, day: lent.day, ..Told::default() }
+}
+
+/// What is returned for a day's number, and year, month and day.
+pub fn date_of_day(number: u32) -> (u32, [u32; 3]) {
+    let [mut year, mut month, mut day] = [STALE as u32; 3];
+    // SAFETY: the numbers are ours alone.
+    let returned = unsafe { sys::valdrabus_date_of_day(number, &raw mut year, &raw mut month, &raw mut day) };
+    (returned, [year, month, day])
 }
 
 fn part(asked: &Asked, source: &[u8]) -> Told {

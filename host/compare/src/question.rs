@@ -1,6 +1,7 @@
 //! What can be asked, and what an answer looks like.
 
-/// A question of the C interface that the Rust has too. `Plain` is the Rust's `as_str`, ours with the setting 0.
+/// A question of the C interface that the Rust has too. `Plain` is the Rust's `as_str`, ours with the setting 0; of `Date` the Rust has the text alone, by
+/// `as_temporal_text`.
 #[derive(Clone, Copy, PartialEq, Eq, Debug)]
 pub enum Question {
     Str,
@@ -8,6 +9,7 @@ pub enum Question {
     Decimal,
     Bits,
     Temporal,
+    Date,
     Source,
     Money,
     Charset,
@@ -26,12 +28,13 @@ pub enum Question {
 
 use Question::*;
 
-pub const ALL: [Question; 19] = [
+pub const ALL: [Question; 20] = [
     Str,
     Plain,
     Decimal,
     Bits,
     Temporal,
+    Date,
     Source,
     Money,
     Charset,
@@ -51,7 +54,7 @@ pub const ALL: [Question; 19] = [
 impl Question {
     /// Whether it reads the text of a literal.
     pub fn reads(self) -> bool {
-        matches!(self, Str | Plain | Decimal | Bits | Temporal | Source | Money | Charset | I64)
+        matches!(self, Str | Plain | Decimal | Bits | Temporal | Date | Source | Money | Charset | I64)
     }
 
     /// Whether it asks a bare text, without a literal.
@@ -81,6 +84,7 @@ impl Question {
             Decimal => "as_decimal_text",
             Bits => "as_bit_text",
             Temporal => "as_temporal_text",
+            Date => "as_date",
             Source => "source_text",
             Money => "as_money_text",
             Charset => "charset_introducer",
@@ -124,6 +128,8 @@ pub enum Said {
     Borrowed(usize, usize),
     Written(Vec<u8>),
     Integer(i64),
+    /// Year, month, day and the day's number.
+    Day([u32; 4]),
     Truth(bool),
     /// Answered, with nothing to tell: NULL is NULL, a string names no character set.
     Nothing,
@@ -151,6 +157,7 @@ pub struct Told {
     pub second: usize,
     pub place: usize,
     pub value: i64,
+    pub day: [u32; 4],
 }
 
 pub const BORROWED: u32 = 1;
@@ -166,6 +173,7 @@ pub fn due(question: Question, said: &Said, room: usize) -> Told {
         Said::Written(ref text) if text.len() <= room => Told { how: WRITTEN, second: text.len(), ..none },
         Said::Written(ref text) => Told { returned: NO_ROOM, second: text.len(), ..none },
         Said::Integer(value) => Told { value, ..none },
+        Said::Day(day) => Told { day, ..none },
         Said::Truth(yes) if question == Bool => Told { value: yes.into(), ..none },
         Said::Truth(yes) => Told { returned: yes.into(), ..none },
         Said::Nothing => none,

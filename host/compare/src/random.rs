@@ -34,7 +34,7 @@ pub fn run(comparing: &mut Comparing, texts: &mut Texts, until: u64) -> Outcome 
 }
 
 fn chosen(texts: &mut Texts) -> Chosen {
-    match texts.rng.below(94) {
+    match texts.rng.below(106) {
         0..44 => {
             let text = texts.string();
             let mut asked = vec![(Str, 4)];
@@ -59,6 +59,7 @@ fn chosen(texts: &mut Texts) -> Chosen {
         77..83 => Chosen { text: texts.unicode("\"", 4, 500), asked: vec![(Ident, 0), (IsIdent, 0)] },
         83..85 => Chosen { text: texts.prefix(), asked: vec![(Radix, 0)] },
         85..88 => Chosen { text: texts.argument(), asked: vec![(Uescape, 0)] },
+        88..100 => Chosen { text: texts.date(), asked: vec![(Date, 8), (Temporal, 8)] },
         _ => {
             let (question, kind) = (texts.rng.one(&ALL), texts.rng.within(1, 14) as u32);
             Chosen { text: texts.any(), asked: vec![(question, kind)] }

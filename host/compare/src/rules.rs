@@ -87,6 +87,7 @@ fn expected(question: Question) -> Option<(usize, &'static [u32])> {
         Question::Temporal => Some((6, &[8, 9, 10, 11])),
         Question::Bits => Some((7, &[12, 13])),
         Question::Money => Some((8, &[14])),
+        Question::Date => Some((9, &[8])),
         _ => None,
     }
 }

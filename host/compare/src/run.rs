@@ -62,6 +62,11 @@ fn counts(tally: &Tally) {
         places.units,
         places.ends
     );
+    let dates = &tally.dates;
+    println!(
+        "dates: days {}, ten bytes that are none {}, values of another length {}",
+        dates.days, dates.near, dates.other
+    );
     for unseen in tally.unseen() {
         println!("not seen: {unseen}");
     }

@@ -1,5 +1,6 @@
 //! The Rust original's answers.
 
+use crate::dates;
 use crate::question::{Asked, Question, Said};
 use original::ast::literal::{
     Literal, LiteralValueError, is_unicode_ident, materialize_unicode_ident, postgres_escape_string_is_valid,
@@ -29,6 +30,7 @@ fn of_literal(asked: &Asked, source: &str) -> Said {
         Question::Decimal => text(literal.as_decimal_text(source)),
         Question::Bits => text(literal.as_bit_text(source)),
         Question::Temporal => text(literal.as_temporal_text(source)),
+        Question::Date => dates::of_temporal(asked, text(literal.as_temporal_text(source)), source),
         Question::Money => text(literal.as_money_text(source)),
         Question::Source => text(literal.source_text(source).map(Cow::Borrowed)),
         Question::Charset => literal

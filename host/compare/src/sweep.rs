@@ -1,11 +1,13 @@
 //! Every question with every kind, mark and setting, unknown ones too, and every span over short sources.
 
 use crate::comparing::{Comparing, Outcome};
+use crate::dates::NO_DATE;
 use crate::ours;
 use crate::question::{ALL, Asked, BORROWED, Question, WRITTEN};
+use crate::tally::{Row, refusal};
 use crate::writer::{MOST, Spelling, Writing};
 
-const SOURCES: [&[u8]; 16] = [
+const SOURCES: [&[u8]; 18] = [
     b"",
     "'é' 'b'".as_bytes(),
     b"E'\\xC3\\xA9'",
@@ -19,6 +21,8 @@ const SOURCES: [&[u8]; 16] = [
     b"B'01' '1'",
     "$1.5€".as_bytes(),
     "DATE 'é'".as_bytes(),
+    b"DATE '2024-02-29'",
+    "é'2024' '-02-30'€".as_bytes(),
     b"U&\"\\0041\"",
     // not UTF-8: a character cut short inside marks; one that begins with a later byte
     b"'a\xC3'",
@@ -35,6 +39,7 @@ pub fn run(comparing: &mut Comparing) -> Outcome {
         spans(comparing, source)?;
     }
     left_out(comparing)?;
+    days(comparing);
     views(ours::view);
     too_long(comparing)
 }
@@ -71,6 +76,15 @@ fn spans(comparing: &mut Comparing, source: &[u8]) -> Outcome {
         }
     }
     Ok(())
+}
+
+/// Numbers that are no day's; the days that date literals have are asked for back by their numbers.
+fn days(comparing: &mut Comparing) {
+    const LAST: u32 = 3_652_059;
+    for number in [0, LAST + 1, LAST + 2, LAST + 365, LAST + 366, 1 << 22, 1 << 24, 1 << 31, u32::MAX - 1, u32::MAX] {
+        assert_eq!(ours::date_of_day(number), (NO_DATE, [0; 3]), "the day of {number}");
+        comparing.tally.count(Row::Day, refusal(NO_DATE));
+    }
 }
 
 /// The view of any range: shown if it fits, otherwise nothing.

@@ -1,15 +1,17 @@
 //! Counts what was compared, so that a reader sees that no part of it was empty.
 
+use crate::dates::{Dates, NO_DATE};
 use crate::places::Places;
 use crate::question::{ALL, Question, Said};
 use crate::writer::Spelling;
 
 /// What can come out: the answers, then the refusals by their numbers.
-const OUTCOMES: [&str; 18] = [
+const OUTCOMES: [&str; 19] = [
     "borrowed", "written", "value", "yes", "no", "nothing", "1", "2", "3", "4", "5", "6", "7", "8", "9", "10", "11",
-    "12",
+    "12", "14",
 ];
 const WRITTEN: usize = 1;
+pub const VALUE: usize = 2;
 const REFUSALS: usize = 5;
 
 /// The writers, with what each can give.
@@ -21,7 +23,9 @@ const WRITERS: [(&str, &str); 4] = [
 ];
 /// The items of blocks, which are never synthetic.
 const BLOCK: (&str, &str) = ("read_block", "borrowed written 1 3 4 6 9 10");
-const ROWS: usize = ALL.len() + WRITERS.len() + 1;
+/// The day of a number, which the Rust has not.
+const DAY: (&str, &str) = ("date_of_day", "value 14");
+const ROWS: usize = ALL.len() + WRITERS.len() + 2;
 
 #[derive(Default)]
 pub struct Tally {
@@ -32,12 +36,15 @@ pub struct Tally {
     pub rules: u64,
     pub left_out: u64,
     pub places: Places,
+    pub dates: Dates,
 }
 
 #[derive(Clone, Copy)]
 pub enum Row {
     Asked(Question),
     Written(Spelling),
+    /// A day's number.
+    Day,
     /// An item of a block.
     Block,
 }
@@ -50,6 +57,7 @@ impl Row {
             Row::Written(Spelling::Plain { part: Some(_), .. }) => ALL.len() + 1,
             Row::Written(Spelling::Escape) => ALL.len() + 2,
             Row::Written(Spelling::Unicode) => ALL.len() + 3,
+            Row::Day => ALL.len() + 4,
             Row::Block => ROWS - 1,
         }
     }
@@ -60,18 +68,23 @@ pub fn outcome(said: &Said, room: usize) -> usize {
     match said {
         Said::Borrowed(..) => 0,
         Said::Written(text) if text.len() <= room => WRITTEN,
-        Said::Written(_) => REFUSALS + 9,
-        Said::Integer(_) | Said::Prefix(..) => 2,
+        Said::Written(_) => refusal(9),
+        Said::Integer(_) | Said::Day(_) | Said::Prefix(..) => VALUE,
         Said::Truth(true) => 3,
         Said::Truth(false) => 4,
         Said::Nothing => 5,
-        Said::Refused(number, ..) => REFUSALS + *number as usize,
+        Said::Refused(number, ..) => refusal(*number),
     }
+}
+
+/// No refusal here has the number 13.
+pub fn refusal(number: u32) -> usize {
+    REFUSALS + if number == NO_DATE { 13 } else { number as usize }
 }
 
 /// What came of a writer's number.
 pub fn writer_outcome(number: u32) -> usize {
-    if number == 0 { WRITTEN } else { REFUSALS + number as usize }
+    if number == 0 { WRITTEN } else { refusal(number) }
 }
 
 impl Tally {
@@ -114,13 +127,14 @@ impl Tally {
 }
 
 fn names() -> impl Iterator<Item = &'static str> {
-    ALL.iter().map(|question| question.name()).chain(WRITERS.map(|(name, _)| name)).chain([BLOCK.0])
+    ALL.iter().map(|question| question.name()).chain(WRITERS.map(|(name, _)| name)).chain([DAY.0, BLOCK.0])
 }
 
 /// For each row what it can give, as the header says.
 fn possible() -> impl Iterator<Item = Vec<usize>> {
     let rows = ALL.iter().map(|question| match question {
         Question::Str | Question::Plain | Question::Temporal => "borrowed written 1 2 3 4 6 9 10",
+        Question::Date => "value 1 2 3 4 6 10 14",
         Question::Decimal => "borrowed written 1 2 3 4 5 9 10",
         Question::Bits => "borrowed written 1 2 3 4 7 9 10",
         Question::Source => "borrowed 2 3 4 10",
@@ -136,5 +150,5 @@ fn possible() -> impl Iterator<Item = Vec<usize>> {
     let outcomes = |names: &str| {
         names.split(' ').map(|name| OUTCOMES.iter().position(|known| *known == name).expect("an outcome")).collect()
     };
-    rows.chain(WRITERS.map(|(_, possible)| possible)).chain([BLOCK.1]).map(outcomes)
+    rows.chain(WRITERS.map(|(_, possible)| possible)).chain([DAY.1, BLOCK.1]).map(outcomes)
 }

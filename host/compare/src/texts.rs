@@ -1,5 +1,6 @@
 //! Texts to ask about: each family's grammar with its corners, long runs, and damaged copies. All are UTF-8.
 
+mod dates;
 mod spellings;
 mod units;
 mod values;
@@ -107,11 +108,12 @@ impl Texts {
     }
 
     pub fn any(&mut self) -> String {
-        match self.rng.below(7) {
+        match self.rng.below(8) {
             0..3 => self.string(),
             3 => self.bits(),
             4 => self.money(),
             5 => self.temporal(),
+            6 => self.date(),
             _ => self.decimal(),
         }
     }

@@ -13,7 +13,7 @@ use Rattle.meaning.specs.declared.Literal.{Literal}
 use Rattle.meaning.specs.declared.LiteralExpected.the-variants as Expected
 use Rattle.meaning.specs.declared.Refusal.{Refusal}
 use Rattle.meaning.specs.declared.Refusal.the-variants.{WrongKind, MissingSource, InvalidSourceRange, NotUtf8, InvalidInteger, InvalidString}
-use Rattle.meaning.specs.declared.Refusal.the-variants.{InvalidBitString, InvalidMoney, NoRoom}
+use Rattle.meaning.specs.declared.Refusal.the-variants.{InvalidBitString, InvalidMoney, NoRoom, InvalidDate}
 use Rattle.meaning.specs.declared.Text.{Text}
 use Rattle.meaning.specs.declared.Text.the-variants.{Borrowed, Written, Refused}
 use Rattle.meaning.specs.Bytes.{if_then_else_, _!_, isMark}
@@ -70,7 +70,7 @@ module _ (l : Literal) (S t : List ℕ) (σ : Settings) (out : List ℕ) (k : is
 
 -- THE TEMPORAL QUESTION
 module _ (l : Literal) (S t out : List ℕ) (k : isTemporal (l .kind) ≡ true) (h : Spans l S t) where
-  temporal-reads : utf8 t ≡ true → temporalQuestion l S out ≡ toldAs (InvalidString (l .span)) (l .span .start) out (temporal off t)
+  pub temporal-reads : utf8 t ≡ true → temporalQuestion l S out ≡ toldAs (InvalidString (l .span)) (l .span .start) out (temporal off t)
   unfolding temporalQuestion
   temporal-reads u = rw (k, tested-passes Expected.Temporal l S t h u)
 
@@ -148,6 +148,7 @@ refused-six (InvalidString s p) h = (s, refl)
 refused-six (InvalidBitString s) h = absurd (omega arith)
 refused-six (InvalidMoney s) h = absurd (omega arith)
 refused-six (NoRoom n) h = absurd (omega arith)
+refused-six (InvalidDate s) h = absurd (omega arith)
 
 four-six : (b : ℕ) (r : Text) → fourOf b r .number ≡ 6 → (sp : Span) × (r ≡ Refused (InvalidString sp (fourOf b r .start)))
 four-six b (Borrowed f u) h = absurd (omega arith)

@@ -9,10 +9,12 @@ use Rattle.meaning.specs.declared.Text.{Text}
 use Rattle.meaning.specs.declared.Range.{Range}
 use Rattle.meaning.specs.declared.Charset.{Charset}
 use Rattle.meaning.specs.declared.Integer.{Integer}
+use Rattle.meaning.specs.declared.Dated.{Dated}
 use Rattle.meaning.specs.Cutting.{off}
 use Rattle.meaning.specs.Answers.{Outcome, Meets}
 use Rattle.meaning.specs.Questions.{stringQuestion, plainQuestion, decimalQuestion, bitsQuestion, temporalQuestion, sourceQuestion, moneyQuestion}
 use Rattle.meaning.specs.Questions.{charsetQuestion, i64Question}
+use Rattle.meaning.specs.Dates.{dateQuestion}
 use Rattle.laws.proofs.questions.Sources as Sources′
 use Rattle.laws.proofs.questions.Sources.{Agree}
 use Rattle.laws.proofs.questions.Determined.{Same, meets-unique}
@@ -58,3 +60,6 @@ module _ (l : Literal) (S S′ : List ℕ) (a : Agree l S S′) where
 
   pub i64-agrees : (r r′ : Integer) → r ≡ i64Question l S → r′ ≡ i64Question l S′ → r ≡ r′
   i64-agrees = agree-answered _ _ (Sources′.i64Question-same l S S′ a)
+
+  pub date-agrees : (r r′ : Dated) → r ≡ dateQuestion l S → r′ ≡ dateQuestion l S′ → r ≡ r′
+  date-agrees = agree-answered _ _ (Sources′.dateQuestion-same l S S′ a)

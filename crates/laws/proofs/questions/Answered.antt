@@ -24,7 +24,7 @@ use Rattle.laws.proofs.joining.JoiningLaw.{Accepts, Gap, joining-law}
 use Rattle.laws.proofs.questions.Ranges.{Bounds, AnswerIn, read-inside, part-inside, span-range, partShown-range, filled-shows}
 
 -- what is shown of a reading that is answered is what the text means
-told-shows : (sp : Span) (s e : ℕ) (S out : List ℕ) → Bounds (length S) s e → (a : Answer) → AnswerIn (length (part s e S)) a
+pub told-shows : (sp : Span) (s e : ℕ) (S out : List ℕ) → Bounds (length S) s e → (a : Answer) → AnswerIn (length (part s e S)) a
     → textNumber (toldAs (InvalidString sp) s out a .answer) ≡ 0
     → valueOf (part s e S) a ≡ means (shown S (toldAs (InvalidString sp) s out a .buffer) (toldAs (InvalidString sp) s out a .answer))
 told-shows sp s e S out r (borrowed f u) i k =

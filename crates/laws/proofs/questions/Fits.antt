@@ -16,7 +16,7 @@ use Rattle.meaning.specs.declared.Item.{Item}
 use Rattle.meaning.specs.declared.Four.{Four}
 use Rattle.meaning.specs.declared.Refusal.{Refusal}
 use Rattle.meaning.specs.declared.Refusal.the-variants.{WrongKind, MissingSource, InvalidSourceRange, NotUtf8, InvalidInteger, InvalidString}
-use Rattle.meaning.specs.declared.Refusal.the-variants.{InvalidBitString, InvalidMoney, NoRoom}
+use Rattle.meaning.specs.declared.Refusal.the-variants.{InvalidBitString, InvalidMoney, NoRoom, InvalidDate}
 use Rattle.meaning.specs.declared.Text.{Text}
 use Rattle.meaning.specs.declared.Text.the-variants as Text′
 use Rattle.meaning.specs.Bytes.{if_then_else_, part}
@@ -84,7 +84,7 @@ pub record Small (f : Four) : Type 0 where
   pub how : f .how < 2 ^ 32
   pub range : f .start + f .len < 2 ^ 32
 
-refusal-below : (r : Refusal) → refusalNumber r ≤ 9
+refusal-below : (r : Refusal) → refusalNumber r ≤ 14
 refusal-below (WrongKind e k) = omega arith
 refusal-below (MissingSource s) = omega arith
 refusal-below (InvalidSourceRange s) = omega arith
@@ -94,8 +94,9 @@ refusal-below (InvalidString s p) = omega arith
 refusal-below (InvalidBitString s) = omega arith
 refusal-below (InvalidMoney s) = omega arith
 refusal-below (NoRoom n) = omega arith
+refusal-below (InvalidDate s) = omega arith
 
-refused-small : (n p k : ℕ) → n ≤ 10 → p + k < 2 ^ 32 → Small (four n 0 p k)
+refused-small : (n p k : ℕ) → n ≤ 14 → p + k < 2 ^ 32 → Small (four n 0 p k)
 refused-small n p k h l = record { number = omega arith; how = omega arith; range = omega arith }
 
 text-small : (e m used : ℕ) → e < 2 ^ 32 → used + m < 2 ^ 32 → (a : Text) → TextFits e m a → Small (fourOf used a)

@@ -13,7 +13,7 @@ use Rattle.meaning.specs.declared.Item.{Item}
 use Rattle.meaning.specs.declared.Four.{Four}
 use Rattle.meaning.specs.declared.Refusal.{Refusal}
 use Rattle.meaning.specs.declared.Refusal.the-variants.{WrongKind, MissingSource, InvalidSourceRange, NotUtf8, InvalidInteger, InvalidString}
-use Rattle.meaning.specs.declared.Refusal.the-variants.{InvalidBitString, InvalidMoney, NoRoom}
+use Rattle.meaning.specs.declared.Refusal.the-variants.{InvalidBitString, InvalidMoney, NoRoom, InvalidDate}
 use Rattle.meaning.specs.declared.Text.{Text}
 use Rattle.meaning.specs.declared.Text.the-variants as Text′
 use Rattle.meaning.specs.Bytes.{if_then_else_}
@@ -68,6 +68,7 @@ refused-told (InvalidString s p) = refl
 refused-told (InvalidBitString s) = refl
 refused-told (InvalidMoney s) = refl
 refused-told (NoRoom n) = refl
+refused-told (InvalidDate s) = refl
 
 -- what it takes is told: the length of a written text, and else nothing
 abbrev pub lengthWritten : Four → ℕ

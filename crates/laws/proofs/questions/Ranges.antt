@@ -15,14 +15,15 @@ use Rattle.meaning.specs.declared.Literal.{Literal}
 use Rattle.meaning.specs.declared.Refusal.{Refusal}
 use Rattle.meaning.specs.declared.Refusal.the-variants.{InvalidString}
 use Rattle.meaning.specs.declared.Text.{Text}
-use Rattle.meaning.specs.Bytes.{if_then_else_, _!_, part, has, ascii, same, quote, dquote}
+use Rattle.meaning.specs.Bytes.{if_then_else_, _!_, part, has, ascii, same, isMark, quote, dquote}
 use Rattle.meaning.specs.Chars.{utf8}
 use Rattle.meaning.specs.Walk.{Trace, walk, size, stops, plain, value}
 use Rattle.meaning.specs.Steps.{closingStep, trim}
-use Rattle.meaning.specs.Cutting.{opening, continues, cut}
+use Rattle.meaning.specs.Cutting.{opening, segment, continues, cut}
 use Rattle.meaning.specs.Spelling.{Spelling, standard, escape, unicode, dollar, unspelt, encloses, chosen, unicodeBy, closedUnicode, isUnicode, unicodeSpelling}
 use Rattle.meaning.specs.Spelling.{delimiter, dollarBy, spelling}
 use Rattle.meaning.specs.Reading.{Answer, borrowed, written, refused, Value, means, fails, valueOf, answer, read-as, one, joined, asWritten, read}
+use Rattle.meaning.specs.Kinds.{Token, token, noToken, temporalToken, behind, readToken, temporal}
 use Rattle.meaning.specs.Answers.{Outcome, textNumber, partShown, shown, filled}
 use Rattle.meaning.specs.Questions.{cutsCharacter, badSpan, isString, toldAs, stringQuestion}
 use Rattle.laws.proofs.basics.Tests.{true→T, and-left, and-right, or-left, or-right}
@@ -162,6 +163,28 @@ read-inside σ t = go (continues σ t) (joined σ (cut σ t))
     go true (means v) = tt
     go true (fails p) = tt
     go false j = one-inside σ t
+
+-- A TEMPORAL TEXT's is that of its token, moved on; a token that lies past the text's end is empty, and refused
+empty-refused : (σ : Settings) → read σ [] ≡ refused 0
+unfolding read continues segment one spelling encloses isUnicode delimiter isMark
+empty-refused σ = refl
+
+pub temporal-inside : (σ : Settings) (t : List ℕ) → AnswerIn (length t) (temporal σ t)
+unfolding temporal
+temporal-inside σ t = go (temporalToken t)
+  where
+    moved : (f : ℕ) (p : List ℕ) → 0 < length p → length p ≤ length t - f → (a : Answer) → AnswerIn (length p) a → AnswerIn (length t) (behind f a)
+    moved f p some fits (borrowed g w) i = record { ordered = omega (arith, i .ordered); inside = omega (arith, i .inside) }
+    moved f p some fits (written v) i = tt
+    moved f p some fits (refused q) i = tt
+
+    by-part : (f : ℕ) (p : List ℕ) → length p ≤ length t - f → AnswerIn (length p) (read σ p) → AnswerIn (length t) (behind f (read σ p))
+    by-part f [] fits i = rw (empty-refused σ) tt
+    by-part f (b ∷ p) fits i = moved f (b ∷ p) (omega arith) fits (read σ (b ∷ p)) i
+
+    go : (k : Token) → AnswerIn (length t) (readToken σ t k)
+    go noToken = tt
+    go (token f u) = by-part f (part f u t) (rw (length-take, length-drop) (omega arith)) (read-inside σ (part f u t))
 
 -- PARTS OF PARTS. What follows a text changes no part of it
 pub part-front : (f u : ℕ) (t r : List ℕ) → Bounds (length t) f u → part f u (t ++ r) ≡ part f u t

@@ -15,6 +15,7 @@ use Rattle.meaning.specs.Numbers.{decimalOf}
 use Rattle.meaning.specs.Kinds.{bits, money, temporal}
 use Rattle.meaning.specs.Questions.{badSpan, sourceText, tested, told, ranged, charsetBy, integerBy, bitBase, stringQuestion, decimalQuestion, bitsQuestion}
 use Rattle.meaning.specs.Questions.{temporalQuestion, sourceQuestion, moneyQuestion, charsetQuestion, i64Question}
+use Rattle.meaning.specs.Dates.{datedBy, dateQuestion}
 
 -- neither gives 3, and inside the span they are the same
 pub record Agree (l : Literal) (S S′ : List ℕ) : Type 0 where
@@ -64,3 +65,7 @@ module _ (l : Literal) (S S′ : List ℕ) (a : Agree l S S′) where
   pub i64Question-same : i64Question l S ≡ i64Question l S′
   unfolding i64Question
   i64Question-same = ap (integerBy l) (tested-same _ _)
+
+  pub dateQuestion-same : dateQuestion l S ≡ dateQuestion l S′
+  unfolding dateQuestion
+  dateQuestion-same = ap (datedBy (l .span)) (tested-same _ _)

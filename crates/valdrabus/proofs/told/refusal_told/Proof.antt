@@ -67,6 +67,12 @@ enum-known-refusal-9 c = search needs
 room-told-requires : tie.Need-room-told-requires
 room-told-requires c κs = search needs
 
+enum-known-refusal-10 : tie.Need-enum-known-refusal-10
+enum-known-refusal-10 c = search needs
+
+span-told-requires-7 : tie.Need-span-told-requires-7
+span-told-requires-7 c κs = search needs
+
 returns : tie.Need-returns
 returns c = search wrong-kind
 
@@ -94,6 +100,9 @@ returns-8 c = search refusal-by
 returns-9 : tie.Need-returns-9
 returns-9 c = search refusal-by
 
+returns-10 : tie.Need-returns-10
+returns-10 c = search refusal-by
+
 pub refusal-told-spec : {M : Type 1} → statement M
 refusal-told-spec =
     tie.close
@@ -119,6 +128,8 @@ refusal-told-spec =
     span-told-requires-6
     enum-known-refusal-9
     room-told-requires
+    enum-known-refusal-10
+    span-told-requires-7
     returns
     returns-2
     returns-3
@@ -127,4 +138,5 @@ refusal-told-spec =
     returns-6
     returns-7
     returns-8
-    returns-9)
+    returns-9
+    returns-10)

@@ -1,0 +1,9 @@
+pub mod Years
+pub mod Months
+pub mod Falling
+pub mod MonthFalls
+pub mod Days
+pub mod Counted
+pub mod Back
+pub mod Digits
+pub mod TenBytes

@@ -1,0 +1,75 @@
+// [02 T-05] The question whose answer is a day.
+use crate::texts::place_of;
+use admitting::kinds::kind_code;
+use admitting::tests::Tested;
+use admitting::tests::test;
+use calendar::values::day_in;
+use kinds::temporal::read_temporal;
+use leaves::views::shown;
+use meaning::Dated;
+use meaning::Day;
+use meaning::Literal;
+use meaning::LiteralExpected;
+use meaning::Read;
+use meaning::Refusal;
+use meaning::Settings;
+use meaning::Span;
+ghost use mathlib.Core.Path.{_≡_};
+ghost use Rattle.meaning.specs.Cutting.{off};
+ghost use Rattle.meaning.specs.Reading.{valueOf};
+ghost use Rattle.meaning.specs.Kinds.{temporal};
+ghost use Rattle.meaning.specs.Dates.{datedOn, datedAs, dateQuestion};
+ghost use Rattle.questions.specs.Told.{isRefused};
+
+// The day that a value is, or 14 with the literal's span.
+// Rules out: 7 for 14 (must-fail: seven_for_fourteen).
+fn dated_on(day: Day, span: Span) -> Dated
+    ensures { λ r. ⌜ r ≡ datedOn span day ⌝ }
+{
+    match day {
+        Day::On(found) => Dated::On(found),
+        Day::InvalidDate => Dated::Refused(Refusal::InvalidDate(span)),
+    }
+}
+
+// Whether a reading is refused.
+// Rules out: what has no room taken for refused (must-fail: another_reason_told).
+fn is_refused(read: Read) -> bool
+    ensures { λ r. ⌜ r ≡ isRefused read ⌝ }
+{
+    match read {
+        Read::Borrowed { from: _, until: _ } => false,
+        Read::Written { len: _ } => false,
+        Read::Refused { place: _ } => true,
+        Read::NoRoom { needed: _ } => false,
+    }
+}
+
+// The day of a text, read to its end: a later segment may refuse what is no date already. Ten bytes of room are enough: a longer value is no date, and is shown
+// empty, as no date too.
+// Rules out: 14 where the text is refused; 0 for every place; the setting on (must-fail: fourteen_for_six, place_zero, setting_on).
+fn date_of(text: &[u8], span: Span) -> Dated
+    ensures { λ r. ⌜ r ≡ datedAs span (valueOf (now (text .entry)) (temporal off (now (text .entry)))) ⌝ }
+{
+    let mut ten = [0u8; 10];
+    let read = read_temporal(text, Settings { backslash: false }, &mut ten);
+    if is_refused(read) {
+        let place = place_of(read);
+        return Dated::Refused(Refusal::InvalidString { span, place });
+    }
+    dated_on(day_in(shown(text, &ten, read)), span)
+}
+
+// The day of a date literal, with the setting off. No buffer is lent.
+// Rules out: a temporal literal expected; times asked; every kind from dates on asked (must-fail: one_for_another, another_kind_asked, more_kinds_asked).
+pub fn as_date(literal: Literal, source: &[u8]) -> Dated
+    ensures { λ r. ⌜ r ≡ dateQuestion literal (now (source .entry)) ⌝ }
+{
+    let kind = literal.kind;
+    let span = literal.span;
+    let right = kind_code(kind) == 8;
+    match test(right, LiteralExpected::Date, literal, source) {
+        Tested::Passes { start, end } => date_of(&source[start..end], span),
+        Tested::Barred(refusal) => Dated::Refused(refusal),
+    }
+}

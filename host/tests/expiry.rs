@@ -1,0 +1,96 @@
+//! The example `expiry`: a stock list by its days.
+
+mod common;
+#[path = "../examples/expiry/report.rs"]
+mod report;
+#[path = "../examples/expiry/request.rs"]
+mod request;
+#[path = "../examples/expiry/stock.rs"]
+mod stock;
+
+use common::read;
+use request::{Failure, Request, USAGE};
+use std::ffi::OsString;
+use std::os::unix::ffi::OsStringExt;
+use stock::Refused;
+use valdrabus::{Date, Error, Span};
+
+fn said(list: &[u8], by: &str) -> String {
+    let rows = stock::rows(list).expect("a short list");
+    report::report(list, &rows, by.parse().expect("a day"))
+}
+
+#[test]
+fn the_sample_list() {
+    let list = read("lists/expiry.txt");
+    assert_eq!(said(list.as_bytes(), "2027-01-31"), read("lists/expiry.2027-01-31"));
+}
+
+/// A product can be used on its expiry day, and not on the next.
+#[test]
+fn a_product_has_expired_behind_its_day() {
+    let list = b"Balm\tDATE '2024-02-29'";
+    for (by, last, mark) in [
+        ("2024-02-28", "0 expired by 2024-02-28, 1 not; 0 rows refused", ""),
+        ("2024-02-29", "0 expired by 2024-02-29, 1 not; 0 rows refused", ""),
+        ("2024-03-01", "1 expired by 2024-03-01, 0 not; 0 rows refused", "expired"),
+    ] {
+        assert_eq!(said(list, by), format!(" 738945  2024-02-29  {mark:7}  Balm\n{last}\n"));
+    }
+}
+
+#[test]
+fn products_of_one_day_stay_as_the_list_has_them() {
+    let list = b"c\t'2024-01-02'\nb\t'2023-12-31'\na\t'2024-' '01-02'\n";
+    let names: Vec<String> = said(list, "2024-01-01").lines().take(3).map(|line| line[30..].to_owned()).collect();
+    assert_eq!(names, ["b", "c", "a"]);
+}
+
+#[test]
+fn lines_that_are_no_rows_and_rows_that_are_refused() {
+    let list = b"-- none\r\n\r\n  -- none\na\t'2024-01-02'\r\nno tab\nb\t'2024-01-02\nc\t'\xFF'\n\xFF\tDATE '2024-01-02' x\nd\t\ne\t'a\tb'";
+    let rows = stock::rows(list).expect("a short list");
+    let told: Vec<(usize, &str, Result<Date, Refused>)> =
+        rows.iter().map(|row| (row.line, &*row.name, row.expiry)).collect();
+    let span = |start, end| Span { start, end };
+    let broken = |start, end, place| {
+        Err(Refused::Literal(Error::InvalidString { span: Some(span(start, end)), place: Some(place) }))
+    };
+    let day = Date::new(2024, 1, 2).expect("a day");
+    let due = [
+        (4, "a", Ok(day)),
+        (5, "no tab", Err(Refused::NoTab)),
+        (6, "b", broken(46, 57, 0)),
+        (7, "c", Err(Refused::Literal(Error::NotUtf8 { span: Some(span(60, 63)) }))),
+        (8, "\u{FFFD}", Ok(day)),
+        (9, "d", broken(88, 88, 0)),
+        (10, "e", Err(Refused::Literal(Error::InvalidDate { span: span(91, 96) }))),
+    ];
+    assert_eq!(told, due);
+    let lines = said(list, "2024-01-02");
+    assert!(lines.contains("\n     5  refused: no tab: no tab stands between a name and a date\n"), "{lines}");
+    assert!(lines.contains(" reading stops at its byte 0 (number 6), line 6, column 3\n"), "{lines}");
+    assert!(
+        lines.ends_with("(number 14), line 10, column 3\n0 expired by 2024-01-02, 2 not; 5 rows refused\n"),
+        "{lines}"
+    );
+}
+
+#[test]
+fn the_command_line() {
+    let asked = |words: &[&str]| request::request(words.iter().map(OsString::from));
+    let day = Date::new(2027, 1, 31).expect("a day");
+    assert_eq!(asked(&["2027-01-31", "a b.txt"]), Ok(Request { day, file: "a b.txt".into() }));
+    let refused = |status, why: &str| Err(Failure { status, why: format!("{why}\n{USAGE}") });
+    assert_eq!(asked(&[]), refused(2, "a day and a list are to be named, and not 0 words"));
+    assert_eq!(asked(&["2027-01-31"]), refused(2, "a day and a list are to be named, and not 1 words"));
+    assert_eq!(asked(&["2027-01-31", "a", "b"]), refused(2, "a day and a list are to be named, and not 3 words"));
+    assert_eq!(asked(&["--help"]), refused(2, "no option --help"));
+    assert_eq!(asked(&["2027-01-31", "-"]), refused(2, "no option -"));
+    for word in ["2027-02-29", "31.01.2027", "2027-01-31 ", "today", ""] {
+        let why = format!("{word}: not a date, yyyy-mm-dd from 0001-01-01 to 9999-12-31");
+        assert_eq!(asked(&[word, "a"]), refused(3, &why));
+    }
+    let name = OsString::from_vec(b"\xFF.txt".to_vec());
+    assert_eq!(request::request(["2027-01-31".into(), name.clone()]), Ok(Request { day, file: name.into() }));
+}
