@@ -18,14 +18,17 @@ returns-3 c = search no-day-by
 
 day-number-requires : tie.Need-day-number-requires
 day-number-requires c κs =
-    is-day-by (c .before .before .before .before .args .year) (c .before .before .before .before .args .month) (c .before .before .before .before .args .day) (c .before .before .before .if1 .left) (c .before .before .if2 .left)
-    (c .before .month-length .result) (c .before .month-length .ensures) (c .if3 .left)
+    let tested = c .before in
+    let start = tested .before .before .before in
+    is-day-by (start .args .year) (start .args .month) (start .args .day) (tested .before .before .if1 .left) (tested .before .if2 .left)
+    (tested .month-length .result) (tested .month-length .ensures) (c .if3 .left)
 
 returns-4 : tie.Need-returns-4
 returns-4 c =
-    day-by (c .before .before .before .before .before .args .year) (c .before .before .before .before .before .args .month) (c .before .before .before .before .before .args .day)
-    (c .before .before .before .before .if1 .left) (c .before .before .before .if2 .left) (c .before .before .month-length .result) (c .before .before .month-length .ensures)
-    (c .before .if3 .left) (c .day-number .result) (c .day-number .ensures)
+    let tested = c .before .before in
+    let start = tested .before .before .before in
+    day-by (start .args .year) (start .args .month) (start .args .day) (tested .before .before .if1 .left) (tested .before .if2 .left)
+    (tested .month-length .result) (tested .month-length .ensures) (c .before .if3 .left) (c .day-number .result) (c .day-number .ensures)
 
 pub day-of-spec : {M : Type 1} → statement M
 day-of-spec = tie.close (tie.spec returns returns-2 month-length-requires returns-3 day-number-requires returns-4)
