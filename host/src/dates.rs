@@ -32,16 +32,20 @@ const DAY_OF_1970: i32 = 719_163;
 ///
 /// # Other crates' dates
 ///
-/// This crate needs none of them, and does no arithmetic of its own. Where `date` is a `Date` and `n` its [number](Date::day_number):
+/// This crate needs none of them. Parts and numbers are the archive's; all that is counted here is [`days_since_1970`](Date::days_since_1970). Where `date` is
+/// a `Date`, `n` its [number](Date::day_number) and `d` the other crate's date:
 ///
-/// | for | it is |
-/// |---|---|
-/// | `chrono` | `NaiveDate::from_num_days_from_ce_opt(n as i32)`; back, `num_days_from_ce()` is `n` |
-/// | `time` | `time::Date::from_julian_day(n as i32 + 1_721_425)`; back, `to_julian_day() - 1_721_425` |
-/// | `jiff` | `jiff::civil::date(date.year() as i16, date.month() as i8, date.day() as i8)` |
-/// | Python | `datetime.date.fromordinal(n)`; back, `toordinal()` |
-/// | PostgreSQL | `DATE '0001-01-01' + (n - 1)` |
-/// | Unix time | [`days_since_1970`](Date::days_since_1970), times 86,400 for seconds |
+/// | for | it is | and back |
+/// |---|---|---|
+/// | `chrono` | `NaiveDate::from_num_days_from_ce_opt(n as i32)`, an `Option` | `Date::from_day_number(d.num_days_from_ce() as u32)` |
+/// | `time` | `time::Date::from_julian_day(n as i32 + 1_721_425)`, a `Result` | `Date::from_day_number((d.to_julian_day() - 1_721_425) as u32)` |
+/// | `jiff` | `jiff::civil::date(date.year() as i16, date.month() as i8, date.day() as i8)` | `Date::new(d.year() as u16, d.month() as u8, d.day() as u8)` |
+/// | Python | `datetime.date.fromordinal(n)` | `d.toordinal()` is `n` |
+/// | PostgreSQL | `DATE '0001-01-01' + (n - 1)` | `d - DATE '0001-01-01' + 1` is `n` |
+/// | Unix time | [`days_since_1970`](Date::days_since_1970), times 86,400 for seconds | |
+///
+/// Each of these crates has every day of this one, so the `Option` and the `Result` hold a date, and `jiff`'s `date` does not panic. Their ways back answer an
+/// `Option`, none for a day before 0001-01-01 or behind 9999-12-31: a number below 0 is too large as an unsigned one.
 // The number is the first field: the derived order is by it.
 #[derive(Clone, Copy, PartialEq, Eq, PartialOrd, Ord, Hash)]
 pub struct Date {
@@ -141,12 +145,11 @@ impl Date {
         Date::of_numbers(day).ok_or(Error::BadNumber)
     }
 
-    /// The day that ten bytes spell, asked as a literal between two quote marks.
-    ///
-    /// No other ten bytes are taken. Without a quote mark among them they are the literal's value as they stand, and that has to spell a day. With one the
-    /// value has fewer than ten bytes: of a doubled mark it has one, of the marks around joined parts none, and no escape in a later part gives more bytes
-    /// than it has; a lone mark is refused.
+    /// The day that ten bytes spell, asked as a literal between two quote marks. Without a mark among them they are the literal's value as they stand.
     fn of_text(text: &[u8; LONG]) -> Option<Date> {
+        if text.contains(&b'\'') {
+            return None;
+        }
         let mut quoted = [b'\''; QUOTED];
         quoted[1..=LONG].copy_from_slice(text);
         Date::of_literal(&Literal::new(Kind::Date, 0..QUOTED as u32), &quoted).ok()

@@ -192,8 +192,9 @@ impl fmt::Display for Kind {
     }
 }
 
-/// What a question expects a literal to be.
+/// What a question expects a literal to be. A new question can bring a new case.
 #[derive(Clone, Copy, Debug, PartialEq, Eq, Hash)]
+#[non_exhaustive]
 pub enum Expected {
     /// [`Kind::Integer`]
     Integer,

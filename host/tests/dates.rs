@@ -268,9 +268,10 @@ fn days_since_1970_and_other_counts() {
 }
 
 /// Walks the calendar day by day, by the lengths of months alone: each day's literal, number, text and parts give each other, and no number is left out.
+/// The days since 1970 go up by one each day; at 1970-01-01 they are 0.
 #[test]
 fn every_day_both_ways() {
-    let (mut number, mut before, mut literal) = (0, None, String::new());
+    let (mut number, mut before, mut literal, mut shown) = (0, None, String::new(), String::new());
     for year in 1..=9999_u16 {
         let february = if year % 4 == 0 && (year % 100 != 0 || year % 400 == 0) { 29 } else { 28 };
         for (month, length) in (1..).zip([31, february, 31, 30, 31, 30, 31, 31, 30, 31, 30, 31]) {
@@ -281,12 +282,17 @@ fn every_day_both_ways() {
                 let read = Literal::new(Kind::Date, 0..12).as_date(&literal).expect("a day");
                 assert_eq!((read.year(), read.month(), read.day(), read.day_number()), (year, month, day, number));
                 assert_eq!(Date::from_day_number(number), Some(read));
+                shown.clear();
+                write!(shown, "{read}").expect("a String takes all");
+                assert_eq!(shown, literal[1..11]);
                 assert!(before < Some(read), "{read}");
+                assert!(before.is_none_or(|day| day.days_since_1970() + 1 == read.days_since_1970()), "{read}");
                 before = Some(read);
             }
         }
     }
     assert_eq!((number, before), (3_652_059, Some(Date::LAST)));
+    assert_eq!(date(1970, 1, 1).days_since_1970(), 0);
     assert_eq!(Date::from_day_number(1), Some(Date::FIRST));
     for none in [0, 3_652_060, 3_652_061, 1 << 22, 1 << 31, u32::MAX] {
         assert_eq!(Date::from_day_number(none), None);

@@ -77,13 +77,45 @@ fn lines_that_are_no_rows_and_rows_that_are_refused() {
 }
 
 #[test]
+fn lines_of_blanks_and_comments_behind_blanks_are_no_rows() {
+    for line in
+        ["", " ", "\t", " \t  ", "\r", "  \r", "--", "-- a\t'2024-01-02'", "  --", "\t--\t'2024-01-02'", " \t-- a\r"]
+    {
+        let list = format!("{line}\na\t'2024-01-02'\n{line}\nb\t'2024-01-03'\n{line}");
+        let lines: Vec<usize> =
+            stock::rows(list.as_bytes()).expect("a short list").iter().map(|row| row.line).collect();
+        assert_eq!(lines, [2, 4], "{line:?}");
+    }
+    for line in ["-", " -", "- -", "a--", "a", "\ta", "\u{A0}"] {
+        assert_eq!(stock::rows(line.as_bytes()).map(|rows| rows.len()), Some(1), "{line:?}");
+    }
+    assert_eq!(said(b"", "2024-01-02"), "0 expired by 2024-01-02, 0 not; 0 rows refused\n");
+}
+
+/// It counts as bytes and as a character of the first line, and anywhere else it is a part of a name.
+#[test]
+fn a_byte_order_mark_before_the_first_line_is_passed_over() {
+    let names = |list: &str| -> Vec<String> {
+        stock::rows(list.as_bytes()).expect("a short list").into_iter().map(|row| row.name.into_owned()).collect()
+    };
+    assert_eq!(names("\u{FEFF}a\t'2024-01-02'\r\nb\t'2024-01-02'"), ["a", "b"]);
+    assert_eq!(names("\u{FEFF}-- none\na\t'2024-01-02'"), ["a"]);
+    assert_eq!(names("\u{FEFF}\na\t'2024-01-02'"), ["a"]);
+    assert_eq!(names("\u{FEFF}\u{FEFF}a\t''\n\u{FEFF}b\t''"), ["\u{FEFF}a", "\u{FEFF}b"]);
+    assert!(names("\u{FEFF}").is_empty());
+    let lines = said("\u{FEFF}a\t'2024-02-30'\nb\t'2024-01-02'".as_bytes(), "2024-01-02");
+    assert!(lines.contains("     1  refused: a: the text at 5..17 is not a date, "), "{lines}");
+    assert!(lines.ends_with(", line 1, column 4\n0 expired by 2024-01-02, 1 not; 1 row refused\n"), "{lines}");
+}
+
+#[test]
 fn the_command_line() {
     let asked = |words: &[&str]| request::request(words.iter().map(OsString::from));
     let day = Date::new(2027, 1, 31).expect("a day");
     assert_eq!(asked(&["2027-01-31", "a b.txt"]), Ok(Request { day, file: "a b.txt".into() }));
     let refused = |status, why: &str| Err(Failure { status, why: format!("{why}\n{USAGE}") });
     assert_eq!(asked(&[]), refused(2, "a day and a list are to be named, and not 0 words"));
-    assert_eq!(asked(&["2027-01-31"]), refused(2, "a day and a list are to be named, and not 1 words"));
+    assert_eq!(asked(&["2027-01-31"]), refused(2, "a day and a list are to be named, and not 1 word"));
     assert_eq!(asked(&["2027-01-31", "a", "b"]), refused(2, "a day and a list are to be named, and not 3 words"));
     assert_eq!(asked(&["--help"]), refused(2, "no option --help"));
     assert_eq!(asked(&["2027-01-31", "-"]), refused(2, "no option -"));

@@ -80,7 +80,7 @@ class Items:
 
     @staticmethod
     def shown(answer, moved):
-        number, letter, (first, second, place), value = answer
+        number, letter, (first, second, place, _), value = answer
         return {'b': ('b', first + moved, second - first), 'w': ('w', value), 'r': ('r', number, place)}[letter]
 
 

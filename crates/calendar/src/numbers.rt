@@ -47,7 +47,8 @@ fn month_at(leap: bool, past: u32) -> u32
 
 // The number of a day. From March on it is counted back from the year's end: a year and what its February lacks of 30 days are 367 days, so that nothing has to
 // ask whether it is a leap year.
-// Rules out: the year's own days counted before it; a year of 366 days with what February lacks (must-fail: own_year_counted, leap_day_forgotten).
+// Rules out: the year's own days counted before it; a year of 366 days with what February lacks; days counted from 0 or from 1970 on (must-fail:
+// own_year_counted, leap_day_forgotten, counted_from_0, counted_from_1970).
 fn day_number(year: u32, month: u32, day: u32) -> u32
     requires { ⌜ IsDay year month day ⌝ }
     ensures { λ r. ⌜ r ≡ dayNumber year month day ⌝ }
@@ -74,9 +75,9 @@ pub(crate) fn day_of(year: u32, month: u32, day: u32) -> Day
         return Day::InvalidDate;
     }
     Day::On(CalendarDay {
-        year: year,
-        month: month,
-        day: day,
+        year,
+        month,
+        day,
         number: day_number(year, month, day),
     })
 }
@@ -95,8 +96,8 @@ pub fn date_of_day(number: u32) -> Day
     let month = month_at(leap, at.past);
     Day::On(CalendarDay {
         year: at.year,
-        month: month,
+        month,
         day: at.past - days_before_month(leap, month) + 1,
-        number: number,
+        number,
     })
 }

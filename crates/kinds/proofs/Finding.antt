@@ -1,6 +1,6 @@
--- Where a byte first and last stands in a text, and where a text stands in another: what each loop knows at its place, and each way out. Assumes nothing.
+-- Where a mark first and a byte last stands in a text, and where a text stands in another: what each loop knows at its place, and each way out. Assumes nothing.
 use mathlib.Core.Path.{_≡_, refl, sym, ap, _∙_}
-use mathlib.Core.Bool.{Bool, true, false, not}
+use mathlib.Core.Bool.{Bool, true, false, _||_, not}
 use mathlib.Core.List.{List, [], _∷_}
 use Prim.Native.Nat.{ℕ, zero, suc, _+_, _-_, _≤_, _<_}
 use native.Mathlib.Nat.{zero-add}
@@ -8,27 +8,54 @@ use native.Mathlib.Omega.{arith}
 use lib.Dec.{eqb}
 use lib.ListN.{length, drop, drop-of-length-le}
 use lib.Seq.{drop-cons, drop-length}
-use borrow.Author.Tests.{eq-eqb, ne-eqb}
-use Rattle.meaning.specs.Bytes.{_!_, starts}
+use borrow.Author.Tests.{eqb-true, eq-eqb, ne-eqb}
+use Rattle.meaning.specs.Bytes.{if_then_else_, _!_, starts}
 use Rattle.meaning.specs.Kinds.{firstOf, lastBy, pastLast, placeBy, found}
 use Rattle.leaves.proofs.RunSteps.{RunSoFar, run-more, run-stop, run-end}
+use Rattle.kinds.specs.Tokens.{unmarked, firstMark}
 
--- THE FIRST q: a run of other bytes, i of them so far
-abbrev pub other : ℕ → ℕ → Bool
-other q b = not (eqb b q)
+-- THE FIRST MARK: a run of other bytes, i of them so far
+pub mark-none : (l : List ℕ) → RunSoFar unmarked l 0 0
+mark-none l = record { run = sym (zero-add (firstMark l)); within = omega arith }
 
-pub first-none : (q : ℕ) (l : List ℕ) → RunSoFar (other q) l 0 0
-first-none q l = record { run = sym (zero-add (firstOf q l)); within = omega arith }
+module _ (l : List ℕ) (i : ℕ) (s : RunSoFar unmarked l 0 i) where
+  pub mark-end : length l ≤ i → i ≡ firstMark l
+  mark-end h = run-end unmarked l 0 i s (omega arith)
 
-module _ (q : ℕ) (l : List ℕ) (i : ℕ) (s : RunSoFar (other q) l 0 i) where
-  pub first-end : length l ≤ i → i ≡ firstOf q l
-  first-end h = run-end (other q) l 0 i s (omega arith)
+  module _ (h : i < length l) (b : ℕ) (eb : b ≡ l ! i) where
+    mark-at : (x : Bool) → (eqb b 39 || eqb b 36) ≡ x → not x ≡ unmarked (l ! (0 + i))
+    mark-at x e = rw (zero-add i, ← eb, e)
 
-  pub first-here : i < length l → l ! i ≡ q → i ≡ firstOf q l
-  first-here h e = run-stop (other q) l 0 i s (omega arith) false (rw (zero-add i, eq-eqb (l ! i) q e)) refl
+    pub mark-here : (eqb b 39 || eqb b 36) ≡ true → i ≡ firstMark l
+    mark-here t = run-stop unmarked l 0 i s (omega arith) false (mark-at true t) refl
 
-  pub first-more : i < length l → (l ! i ≡ q → ⊥) → RunSoFar (other q) l 0 (i + 1)
-  first-more h n = run-more (other q) l 0 i s (omega arith) true (rw (zero-add i, ne-eqb (l ! i) q n)) refl
+    pub mark-more : (eqb b 39 || eqb b 36) ≡ false → RunSoFar unmarked l 0 (i + 1)
+    mark-more t = run-more unmarked l 0 i s (omega arith) true (mark-at false t) refl
+
+-- ITS BYTE tells which of the two stands first. None stands at the end: the byte there is 0
+pub mark-dollar : (l : List ℕ) → l ! firstMark l ≡ 36 → (firstMark l ≡ firstOf 36 l) × (firstOf 36 l < firstOf 39 l)
+mark-dollar [] e = absurd (omega arith)
+mark-dollar (b ∷ t) e = go (eqb b 39) (eqb b 36) refl e (mark-dollar t)
+  where
+    go : (x y : Bool) → eqb b 39 ≡ x → (b ∷ t) ! (if not (x || y) then suc (firstMark t) else 0) ≡ 36
+        → (t ! firstMark t ≡ 36 → (firstMark t ≡ firstOf 36 t) × (firstOf 36 t < firstOf 39 t))
+        → ((if not (x || y) then suc (firstMark t) else 0) ≡ (if not y then suc (firstOf 36 t) else 0))
+        × ((if not y then suc (firstOf 36 t) else 0) < (if not x then suc (firstOf 39 t) else 0))
+    go true y q e ih = absurd (omega (arith, eqb-true b 39 q))
+    go false true q e ih = (refl, omega arith)
+    go false false q e ih = (ap suc (ih e .0), omega (arith, ih e .1))
+
+pub mark-quote : (l : List ℕ) → (l ! firstMark l ≡ 36 → ⊥) → (firstMark l ≡ firstOf 39 l) × (firstOf 39 l ≤ firstOf 36 l)
+mark-quote [] n = (refl, omega arith)
+mark-quote (b ∷ t) n = go (eqb b 39) (eqb b 36) refl n (mark-quote t)
+  where
+    go : (x y : Bool) → eqb b 36 ≡ y → ((b ∷ t) ! (if not (x || y) then suc (firstMark t) else 0) ≡ 36 → ⊥)
+        → ((t ! firstMark t ≡ 36 → ⊥) → (firstMark t ≡ firstOf 39 t) × (firstOf 39 t ≤ firstOf 36 t))
+        → ((if not (x || y) then suc (firstMark t) else 0) ≡ (if not x then suc (firstOf 39 t) else 0))
+        × ((if not x then suc (firstOf 39 t) else 0) ≤ (if not y then suc (firstOf 36 t) else 0))
+    go true y q n ih = (refl, omega arith)
+    go false true q n ih = absurd (n (eqb-true b 36 q))
+    go false false q n ih = (ap suc (ih n .0), omega (arith, ih n .1))
 
 -- THE LAST q: from i on there is none
 pub record LastBefore (q : ℕ) (l : List ℕ) (i : ℕ) : Type 0 where

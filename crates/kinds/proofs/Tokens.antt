@@ -17,8 +17,9 @@ use Rattle.meaning.specs.Reads.{readOf}
 use Rattle.spellings.proofs.Dollars.{delimiter-length}
 use Rattle.kinds.specs.declared.temporal.Token.{Token}
 use Rattle.kinds.specs.declared.temporal.Token.the-variants.{Found, Nothing}
-use Rattle.kinds.specs.Tokens.{tokenOf}
+use Rattle.kinds.specs.Tokens.{tokenOf, firstMark}
 use Rattle.kinds.proofs.Bounding.{TokenIn, dollar-in}
+use Rattle.kinds.proofs.Finding.{mark-dollar, mark-quote}
 
 -- MONEY
 module _ (t : List ℕ) (b : ℕ) (eb : b ≡ t ! 0) where
@@ -109,12 +110,16 @@ module _ (l : List ℕ) (q : ℕ) where
   unfolding quoteToken
   quote-some h s u es eu = rw (lt-ltb q (length l) h, ← es, ← eu)
 
--- THE TOKEN, by where the first $ and the first ' stand
-module _ (l : List ℕ) (d q : ℕ) (ed : d ≡ firstOf 36 l) (eq : q ≡ firstOf 39 l) (r : Token) where
-  pub token-dollar : d < q → r ≡ tokenOf (dollarToken d (drop d l) (delimiter (drop d l))) → r ≡ tokenOf (temporalToken l)
+-- THE TOKEN, by its first mark and the byte there
+module _ (l : List ℕ) (at : ℕ) (ea : at ≡ firstMark l) (b : ℕ) (eb : b ≡ l ! at) (r : Token) where
+  pub token-dollar : b ≡ 36 → r ≡ tokenOf (dollarToken at (drop at l) (delimiter (drop at l))) → r ≡ tokenOf (temporalToken l)
   unfolding temporalToken
-  token-dollar h e = e ∙ sym (rw (← ed, ← eq, lt-ltb d q h))
+  token-dollar h e =
+      let m = mark-dollar l (ap (λ (i : ℕ). l ! i) (sym ea) ∙ sym eb ∙ h) in
+      e ∙ sym (rw (lt-ltb (firstOf 36 l) (firstOf 39 l) (m .1), ← m .0, ← ea))
 
-  pub token-quote : q ≤ d → r ≡ tokenOf (quoteToken q l) → r ≡ tokenOf (temporalToken l)
+  pub token-quote : (b ≡ 36 → ⊥) → r ≡ tokenOf (quoteToken at l) → r ≡ tokenOf (temporalToken l)
   unfolding temporalToken
-  token-quote h e = e ∙ sym (rw (← ed, ← eq, le-ltb d q h))
+  token-quote h e =
+      let m = mark-quote l (λ f. h (eb ∙ ap (λ (i : ℕ). l ! i) ea ∙ f)) in
+      e ∙ sym (rw (le-ltb (firstOf 36 l) (firstOf 39 l) (m .1), ← m .0, ← ea))

@@ -8,10 +8,10 @@ use spellings::spelling::dollar_open_delim_len;
 use strings::reading::read_bytes;
 ghost use mathlib.Core.Path.{_≡_};
 ghost use lib.ListN.{drop};
-ghost use Rattle.meaning.specs.Kinds.{firstOf, pastLast, found, dollarToken, tokenStart, quoteToken, temporalToken, temporal};
+ghost use Rattle.meaning.specs.Kinds.{pastLast, found, dollarToken, tokenStart, quoteToken, temporalToken, temporal};
 ghost use Rattle.meaning.specs.Reads.{Reads};
 ghost use Rattle.meaning.specs.Spelling.{delimiter};
-ghost use Rattle.kinds.specs.Tokens.{tokenOf};
+ghost use Rattle.kinds.specs.Tokens.{tokenOf, firstMark};
 
 // The string token of a temporal text, from a place up to another; or that there is none.
 pub(crate) enum Token {
@@ -19,13 +19,15 @@ pub(crate) enum Token {
     Nothing,
 }
 
-// The place of the first such byte; the length if there is none.
-fn first_of(text: &[u8], byte: u8) -> usize
-    ensures { λ r. ⌜ r ≡ firstOf byte (now (text .entry)) ⌝ }
+// The place of the first ' or $; the length if there is none.
+// Rules out: " taken for ' (must-fail: one_for_another).
+fn first_mark(text: &[u8]) -> usize
+    ensures { λ r. ⌜ r ≡ firstMark (now (text .entry)) ⌝ }
 {
     let mut i: usize = 0;
     while i < text.len() {
-        if text[i] == byte {
+        let byte = text[i];
+        if (byte == 39) | (byte == 36) {
             return i;
         }
         i += 1;
@@ -118,16 +120,16 @@ fn quote_token(text: &[u8], quote: usize) -> Token
     }
 }
 
-// The string token: by $ if a $ precedes any ', otherwise by '.
+// The string token, by its first mark: by $ if a $ precedes any ', otherwise by '.
+// Rules out: a token in quotes read as a dollar token (must-fail: quote_read_as_dollar).
 fn temporal_token(text: &[u8]) -> Token
     ensures { λ r. ⌜ r ≡ tokenOf (temporalToken (now (text .entry))) ⌝ }
 {
-    let dollar = first_of(text, 36);
-    let quote = first_of(text, 39);
-    if dollar < quote {
-        return dollar_token(text, dollar);
+    let at = first_mark(text);
+    if byte_at(text, at) == 36 {
+        return dollar_token(text, at);
     }
-    quote_token(text, quote)
+    quote_token(text, at)
 }
 
 // Reads a temporal text: its string token, read as a string at the setting, at the token's place of the text.

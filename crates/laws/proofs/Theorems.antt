@@ -23,8 +23,8 @@ use Rattle.meaning.specs.declared.Text.{Text}
 use Rattle.meaning.specs.declared.Text.the-variants as Text
 use Rattle.meaning.specs.declared.Writing.the-variants as Writing
 use Rattle.meaning.specs.declared.CalendarDay.{CalendarDay}
-use Rattle.meaning.specs.declared.Day.{Day}
 use Rattle.meaning.specs.declared.Day.the-variants as Day
+use Rattle.meaning.specs.declared.Dated.{Dated}
 use Rattle.meaning.specs.declared.Dated.the-variants as Dated
 use Rattle.meaning.specs.declared.Read.{Read}
 use Rattle.meaning.specs.declared.Item.{Item}
@@ -137,7 +137,7 @@ use Rattle.laws.proofs.dates.Ordered.{bytesBelow}
 use Rattle.laws.proofs.dates.Joined as DateJoined
 use Rattle.laws.proofs.dates.Joined.{quoted, TwoOf}
 use Rattle.laws.proofs.dates.Called as DateCalled
-use Rattle.laws.proofs.dates.Called.{DateCall}
+use Rattle.laws.proofs.dates.Called.{DateCall, DayCall}
 use Rattle.laws.proofs.tables.Starred as Starred
 use Rattle.laws.proofs.tables.Controls as Controls
 use Rattle.laws.proofs.tables.Controls.{Program, Telling, WritesAt, ShutOut}
@@ -852,12 +852,30 @@ pub date-sources : (l : Literal) (S S′ : List ℕ) → Agree l S S′ → date
 date-sources = Sources.dateQuestion-same
 
 -- the same of what calls return; of the C exports: `valdrabus`, `DateExports`
-pub order-calls : {t t′ : List ℕ} (a : DateCall t) (b : DateCall t′) (c d : CalendarDay) → a .result ≡ Dated.On c → b .result ≡ Dated.On d
-    → Earlier (c .year) (c .month) (c .day) (d .year) (d .month) (d .day) ↔ (c .number < d .number)
+module _ {t : List ℕ} (a : DateCall t) (u : utf8 t ≡ true) where
+  pub on-calls : (c : CalendarDay) → (a .result ≡ Dated.On c) ↔ DayOf t c
+  on-calls = DateCalled.on-calls a u
+
+  pub fourteen-calls : (sp : Span)
+      → (a .result ≡ Dated.Refused (InvalidDate sp))
+      ↔ ((sp ≡ a .literal .span) × (v : List ℕ) × (valueOf t (temporal off t) ≡ means v) × (isDate v ≡ false))
+  fourteen-calls = DateCalled.fourteen-calls a u
+
+pub order-calls : (l l′ : Literal) (S S′ : List ℕ) (r r′ : Dated) → r ≡ dateQuestion l S → r′ ≡ dateQuestion l′ S′ → (c d : CalendarDay) → r ≡ Dated.On c
+    → r′ ≡ Dated.On d → Earlier (c .year) (c .month) (c .day) (d .year) (d .month) (d .day) ↔ (c .number < d .number)
 order-calls = DateCalled.order-calls
 
-pub back-calls : {t : List ℕ} (a : DateCall t) (c : CalendarDay) → a .result ≡ Dated.On c → (r : Day) → r ≡ dayQuestion (c .number) → r ≡ Day.On c
+pub back-calls : (l : Literal) (S : List ℕ) (r : Dated) → r ≡ dateQuestion l S → (c : CalendarDay) → r ≡ Dated.On c → (a : DayCall (c .number))
+    → a .result ≡ Day.On c
 back-calls = DateCalled.back-calls
+
+pub number-calls : {n : ℕ} (a : DayCall n) → 1 ≤ n → n ≤ lastDay
+    → (a .result ≡ Day.On (dateOf n)) × (isDay (dateOf n .year) (dateOf n .month) (dateOf n .day) ≡ true)
+    × (dayNumber (dateOf n .year) (dateOf n .month) (dateOf n .day) ≡ n)
+number-calls = DateCalled.number-calls
+
+pub outside-calls : {n : ℕ} (a : DayCall n) → (n ≡ 0) ⊎ (lastDay < n) → a .result ≡ Day.InvalidDate
+outside-calls = DateCalled.outside-calls
 
 pub six-calls : {t : List ℕ} (a : DateCall t) (lent : List ℕ) (r : Text) (after : List ℕ)
     → Meets (temporalQuestion (a .literal) (a .source) lent) r after → (sp : Span) (p : ℕ)

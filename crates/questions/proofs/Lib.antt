@@ -6,3 +6,4 @@ pub mod Ranging
 pub mod Counting
 pub mod Viewing
 pub mod Dating
+pub mod Quickly

@@ -22,7 +22,8 @@ pub fn report(list: &[u8], rows: &[Row<'_>], by: Date) -> String {
     }
     let expired = days.iter().filter(|(day, _)| *day < by).count();
     let good = days.len() - expired;
-    writeln!(text, "{expired} expired by {by}, {good} not; {refused} rows refused").expect("a String takes all");
+    let rows = if refused == 1 { "row" } else { "rows" };
+    writeln!(text, "{expired} expired by {by}, {good} not; {refused} {rows} refused").expect("a String takes all");
     text
 }
 

@@ -43,7 +43,8 @@ pub fn request(words: impl IntoIterator<Item = OsString>) -> Result<Request, Fai
     match <[OsString; 2]>::try_from(words) {
         Ok([day, file]) => Ok(Request { day: self::day(&day)?, file: file.into() }),
         Err(words) => {
-            Err(Failure::list(format!("a day and a list are to be named, and not {} words\n{USAGE}", words.len())))
+            let count = if words.len() == 1 { "1 word".to_owned() } else { format!("{} words", words.len()) };
+            Err(Failure::list(format!("a day and a list are to be named, and not {count}\n{USAGE}")))
         }
     }
 }

@@ -19,19 +19,30 @@ pub enum Refused {
     Literal(Error),
 }
 
+/// What some editors put before a text: U+FEFF in UTF-8.
+const BYTE_ORDER_MARK: &[u8] = b"\xEF\xBB\xBF";
+
 /// Finds each row and asks for its day, the literal being a part of the list; none where the list is longer than a span can say. The list is read as bytes: a
 /// literal that is not UTF-8 is refused, and the others are read.
 pub fn rows(list: &[u8]) -> Option<Vec<Row<'_>>> {
     u32::try_from(list.len()).ok()?;
-    let (mut rows, mut start) = (Vec::new(), 0);
-    for (at, whole) in list.split(|&byte| byte == b'\n').enumerate() {
+    let text = list.strip_prefix(BYTE_ORDER_MARK).unwrap_or(list);
+    // Rows count from the list's start, the mark included, so that a refusal's bytes are those of the file.
+    let (mut rows, mut start) = (Vec::new(), list.len() - text.len());
+    for (at, whole) in text.split(|&byte| byte == b'\n').enumerate() {
         let line = whole.strip_suffix(b"\r").unwrap_or(whole);
-        if !line.is_empty() && !line.trim_ascii().starts_with(b"--") {
+        if is_row(line) {
             rows.push(row(list, at + 1, start..start + line.len()));
         }
         start += whole.len() + 1;
     }
     Some(rows)
+}
+
+/// Whether a line is a row: neither blank nor a comment, which can have blanks before it.
+fn is_row(line: &[u8]) -> bool {
+    let text = line.trim_ascii();
+    !text.is_empty() && !text.starts_with(b"--")
 }
 
 /// The row that stands at these bytes of the list. The first tab ends the name.

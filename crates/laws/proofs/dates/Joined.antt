@@ -4,13 +4,13 @@ use mathlib.Core.Logic.{_↔_, inl}
 use mathlib.Core.Path.{_≡_, refl, ap, sym, _∙_, subst}
 use mathlib.Core.Bool.{Bool, true, false, _&&_, not}
 use mathlib.Core.List.{List, [], _∷_, _++_, append-assoc}
-use Prim.Native.Nat.{ℕ, suc, _+_, _-_, _<_}
+use Prim.Native.Nat.{ℕ, zero, suc, _+_, _-_, _≤_, _<_}
 use Prim.Native.Char.{code}
 use native.Mathlib.Omega.{arith}
 use borrow.Author.Tests.{lt-ltb, le-ltb}
 use lib.Dec.{eqb, ltb}
-use lib.ListN.{length, take, length-append}
-use lib.Seq.{getD-take, take-all, take-append-seam, drop-append-add, drop-append-seam}
+use lib.ListN.{length, take, drop, length-append, take-append-drop}
+use lib.Seq.{getD-take, take-all, take-append-seam, drop-length, drop-cons, drop-drop, drop-append-add, drop-append-seam}
 use Rattle.meaning.specs.declared.Literal.{Literal}
 use Rattle.meaning.specs.declared.LiteralKind.the-variants as Kind
 use Rattle.meaning.specs.declared.CalendarDay.{CalendarDay}
@@ -153,6 +153,24 @@ value-of-two w a g b words gap na nb =
 abbrev pub quoted : List ℕ → List ℕ
 quoted v = quote ∷ (v ++ (quote ∷ []))
 
+-- and nothing else behind words is the text's value
+pub quoted-value : (w v : List ℕ) → Words w → has quote v ≡ false → has 0 v ≡ false → valueOf (w ++ quoted v) (temporal off (w ++ quoted v)) ≡ means v
+quoted-value w v words q n = rw (spells-plain v q) at (value-of-one w v words n)
+
+-- a text that ends so, from a quote mark at place k to one at its end
+pub quoted-end : (t : List ℕ) (k : ℕ) → k + 2 ≤ length t → t ! k ≡ quote → t ! (length t - 1) ≡ quote
+    → t ≡ take k t ++ quoted (part (suc k) (length t - 1) t)
+quoted-end t k h e f =
+    let m : ℕ = length t - 1 - suc k in
+    let z : suc k + m ≡ length t - 1 = omega arith in
+    let y : suc (length t - 1) ≡ length t = omega arith in
+    let last : drop m (drop (suc k) t) ≡ quote ∷ [] =
+    drop-drop m (suc k) t ∙ ap (λ (n : ℕ). drop n t) z ∙ drop-cons t (length t - 1) 0 (omega arith)
+    ∙ ap (λ (b : ℕ). b ∷ drop (suc (length t - 1)) t) f ∙ ap (quote ∷_) (ap (λ (n : ℕ). drop n t) y ∙ drop-length t) in
+    sym (take-append-drop k t)
+    ∙ ap (take k t ++_) (drop-cons t k 0 (omega arith) ∙ ap (λ (b : ℕ). b ∷ drop (suc k) t) e
+    ∙ ap (quote ∷_) (sym (take-append-drop m (drop (suc k) t)) ∙ ap (take m (drop (suc k) t) ++_) last))
+
 -- white space g between two values without quote marks and NUL, behind words w: the texts w 'a' g 'b' and w 'ab'
 pub record TwoOf (w a g b : List ℕ) : Type 0 where
   pub words : Words w
@@ -168,8 +186,8 @@ module _ (w a g b : List ℕ) (h : TwoOf w a g b) where
 
   pub one-means : valueOf (w ++ quoted (a ++ b)) (temporal off (w ++ quoted (a ++ b))) ≡ means (a ++ b)
   one-means =
-      rw (spells-plain (a ++ b) (rw (has-append quote a b, h .no-quote .0, h .no-quote .1)))
-      at (value-of-one w (a ++ b) (h .words) (rw (has-append 0 a b, h .no-nul .0, h .no-nul .1)))
+      quoted-value w (a ++ b) (h .words) (rw (has-append quote a b, h .no-quote .0, h .no-quote .1))
+      (rw (has-append 0 a b, h .no-nul .0, h .no-nul .1))
 
   -- asked of a literal: each has the value's day, or none
   pub two-dated : (l : Literal) (S : List ℕ) → isDateKind (l .kind) ≡ true → Spans l S (w ++ (quoted a ++ (g ++ quoted b)))

@@ -7,7 +7,7 @@ use Prim.Native.Nat.{ℕ, zero, suc, _+_, _-_, _*_, _/_, _^_, _≤_, _<_}
 use Prim.Native.Char.{code}
 use native.Mathlib.Nat.{pow-zero, pow-suc, div-one, div-div-eq-div-mul}
 use native.Mathlib.Omega.{arith}
-use borrow.Author.Tests.{lt-ltb, eqb-true}
+use borrow.Author.Tests.{lt-ltb, eqb-true, ne-eqb}
 use lib.Arith.{digits-div, digits-mod}
 use lib.Dec.{eqb}
 use lib.ListN.{length, take, drop, length-drop, take-append-drop}
@@ -20,7 +20,9 @@ use Rattle.meaning.specs.Dates.{isLeap, monthLength, isDay, calendarDay, digits
 use Rattle.laws.proofs.basics.Digits.{DigitsTo, allDigits-at}
 use Rattle.laws.proofs.basics.Tests.{and-left, and-right, eqb-same, within-bounds}
 use Rattle.laws.proofs.dates.Calendar.{is-day}
-use Rattle.laws.proofs.writing.Figures.{figures-length, figures-digits, figures-number}
+use Rattle.laws.proofs.basics.Enclosed.{has-append}
+use Rattle.laws.proofs.writing.FormUnits.{Every}
+use Rattle.laws.proofs.writing.Figures.{figures-bytes, figures-length, figures-digits, figures-number}
 
 -- WHAT A DAY'S NUMBERS ARE. A month has 31 days at the most
 month-most : (y m : ℕ) → monthLength y m ≤ 31
@@ -226,3 +228,21 @@ spelled-same y m d y′ m′ d′ h h′ e =
     let on : Day′.On (calendarDay y m d) ≡ Day′.On (calendarDay y′ m′ d′) = sym (spelled-date y m d h) ∙ ap dayIn e ∙ spelled-date y′ m′ d′ h′ in
     let same : calendarDay y m d ≡ calendarDay y′ m′ d′ = cc in
     (ap (λ (c : CalendarDay). c .year) same, ap (λ (c : CalendarDay). c .month) same, ap (λ (c : CalendarDay). c .day) same)
+
+-- NO OTHER BYTE than figures and hyphens is in it
+low-none : (b : ℕ) (t : List ℕ) → b < 0x30 → Every (within 0x30 0x46) t → has b t ≡ false
+low-none b [] h e = refl
+low-none b (c ∷ t) h e =
+    rw (ne-eqb b c (λ q. let o : ⊥ = omega (arith, q, within-bounds 0x30 0x46 c (e .0)) in o)) (low-none b t h (e .1))
+
+three-none : (b : ℕ) (u v w : List ℕ) → eqb b (code "-") ≡ false → has b u ≡ false → has b v ≡ false → has b w ≡ false
+    → has b (u ++ (code "-" ∷ v ++ (code "-" ∷ w))) ≡ false
+three-none b u v w h p q r = rw (has-append b u (code "-" ∷ v ++ (code "-" ∷ w)), p, h, has-append b v (code "-" ∷ w), q, h, r)
+
+pub spelled-free : (b y m d : ℕ) → b < code "-" → has b (spelledDay y m d) ≡ false
+unfolding spelledDay
+spelled-free b y m d h =
+    three-none b (figures 10 4 y) (figures 10 2 m) (figures 10 2 d) (ne-eqb b (code "-") (λ q. let o : ⊥ = omega (arith, q) in o)) (none 4 y) (none 2 m) (none 2 d)
+  where
+    none : (w c : ℕ) → has b (figures 10 w c) ≡ false
+    none w c = low-none b (figures 10 w c) (omega arith) (figures-bytes 10 w c (omega arith) (omega arith))

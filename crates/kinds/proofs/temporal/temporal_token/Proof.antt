@@ -1,14 +1,14 @@
--- `kinds::temporal::temporal_token` meets its contract, by where the first $ and the first ' stand. Assumes nothing.
+-- `kinds::temporal::temporal_token` meets its contract, by its first mark and the byte there. Assumes nothing.
 use borrow.Author.Needs.{needs}
 use Rattle.kinds.proofs.Tokens.{token-dollar, token-quote}
 use Rattle.kinds.proofs.temporal.temporal_token.Statement.{statement}
 use Rattle.kinds.proofs.temporal.temporal_token.Tie as tie
 
-first-of-requires : tie.Need-first-of-requires
-first-of-requires c κs = search needs
+first-mark-requires : tie.Need-first-mark-requires
+first-mark-requires c κs = search needs
 
-first-of-requires-2 : tie.Need-first-of-requires-2
-first-of-requires-2 c κs = search needs
+byte-at-requires : tie.Need-byte-at-requires
+byte-at-requires c κs = search needs
 
 dollar-token-requires : tie.Need-dollar-token-requires
 dollar-token-requires c κs = search needs
@@ -26,8 +26,8 @@ pub temporal-token-spec : {M : Type 1} → statement M
 temporal-token-spec =
     tie.close
     (tie.spec
-    first-of-requires
-    first-of-requires-2
+    first-mark-requires
+    byte-at-requires
     dollar-token-requires
     returns
     quote-token-requires

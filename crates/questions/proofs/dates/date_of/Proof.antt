@@ -1,50 +1,28 @@
--- `questions::dates::date_of` meets its contract: the day is that of what is shown. Assumes nothing.
-use Rattle.questions.proofs.Dating.{date-stopped, date-shown}
+-- `questions::dates::date_of` meets its contract: what is told at once is the definition's, and so is what is read. Assumes nothing.
+use Rattle.questions.proofs.Quickly.{quick-told}
 use borrow.Author.Needs.{needs}
 use Rattle.questions.proofs.dates.date_of.Statement.{statement}
 use Rattle.questions.proofs.dates.date_of.Tie as tie
 
-slice-aggregate-read-temporal : tie.Need-slice-aggregate-read-temporal
-slice-aggregate-read-temporal c = search needs
+quick-date-requires : tie.Need-quick-date-requires
+quick-date-requires c κs = search needs
 
-read-temporal-requires : tie.Need-read-temporal-requires
-read-temporal-requires c κs = search needs
+enum-known-found : tie.Need-enum-known-found
+enum-known-found c = search needs
 
-is-refused-requires : tie.Need-is-refused-requires
-is-refused-requires c κs = search needs
+enum-told : tie.Need-enum-told
+enum-told c = search needs
 
-place-of-requires : tie.Need-place-of-requires
-place-of-requires c κs = search needs
+read-date-requires : tie.Need-read-date-requires
+read-date-requires c κs = search needs
 
 returns : tie.Need-returns
-returns c = search date-stopped
-
-slice-aggregate-shown : tie.Need-slice-aggregate-shown
-slice-aggregate-shown c = search needs
-
-shown-requires : tie.Need-shown-requires
-shown-requires c κs = search needs
-
-day-in-requires : tie.Need-day-in-requires
-day-in-requires c κs = search needs
-
-dated-on-requires : tie.Need-dated-on-requires
-dated-on-requires c κs = search needs
+returns c = search quick-told
 
 returns-2 : tie.Need-returns-2
-returns-2 c = search date-shown
+returns-2 c = search needs
 
 pub date-of-spec : {M : Type 1} → statement M
 date-of-spec =
     tie.close
-    (tie.spec
-    slice-aggregate-read-temporal
-    read-temporal-requires
-    is-refused-requires
-    place-of-requires
-    returns
-    slice-aggregate-shown
-    shown-requires
-    day-in-requires
-    dated-on-requires
-    returns-2)
+    (tie.spec quick-date-requires enum-known-found enum-told read-date-requires returns returns-2)
