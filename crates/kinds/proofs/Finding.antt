@@ -1,4 +1,4 @@
--- Where a mark first and a byte last stands in a text, and where a text stands in another: what each loop knows at its place, and each way out. Assumes nothing.
+-- Where a mark first, a byte last and a text next stands in a text: what each loop knows at its place, and each way out. Assumes nothing.
 use mathlib.Core.Path.{_≡_, refl, sym, ap, _∙_}
 use mathlib.Core.Bool.{Bool, true, false, _||_, not}
 use mathlib.Core.List.{List, [], _∷_}

@@ -20,8 +20,8 @@ pub(crate) enum Token {
 }
 
 // The place of the first ' or $; the length if there is none.
-// Rules out: " taken for ' (must-fail: one_for_another).
-fn first_mark(text: &[u8]) -> usize
+// Rules out: " taken for '; % taken for $ (must-fail: one_for_another, other_sign).
+pub fn first_mark(text: &[u8]) -> usize
     ensures { λ r. ⌜ r ≡ firstMark (now (text .entry)) ⌝ }
 {
     let mut i: usize = 0;

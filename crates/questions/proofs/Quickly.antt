@@ -15,7 +15,7 @@ use Rattle.meaning.specs.declared.Day.{Day}
 use Rattle.meaning.specs.declared.Day.the-variants as Day′
 use Rattle.meaning.specs.declared.Dated.{Dated}
 use Rattle.meaning.specs.declared.Dated.the-variants as Dated′
-use Rattle.meaning.specs.Bytes.{_!_, part, has, ascii, inTag, quote}
+use Rattle.meaning.specs.Bytes.{if_then_else_, _!_, part, has, ascii, inTag, quote}
 use Rattle.meaning.specs.Cutting.{off}
 use Rattle.meaning.specs.Reading.{means, valueOf}
 use Rattle.meaning.specs.Kinds.{temporal}
@@ -23,8 +23,7 @@ use Rattle.meaning.specs.Dates.{dayIn, datedOn, datedAs}
 use Rattle.laws.proofs.basics.Tests.{eqb-sym, or-left, or-right}
 use Rattle.laws.proofs.dates.Spelt.{date-spelled, spelled-free}
 use Rattle.laws.proofs.dates.Joined.{endsInE, Words, quoted, quoted-value, quoted-end}
-use Rattle.leaves.specs.declared.blocks.Stops.{Stops}
-use Rattle.leaves.specs.Blocks.{freeOf, passes}
+use Rattle.kinds.specs.Tokens.{firstMark}
 use Rattle.questions.specs.Quick.{Quick}
 
 -- E or e
@@ -47,21 +46,17 @@ module _ (w : List ℕ) where
       go true y = rw letters
       go false y = refl
 
--- neither mark
-abbrev marks : Stops
-marks = record { first = 39; second = 36; third = 36 }
-
-free-marks : (w : List ℕ) → passes (freeOf marks) (length w) w ≡ true → (has quote w ≡ false) × (has (code "$") w ≡ false)
-unfolding freeOf
-free-marks [] h = (refl, refl)
-free-marks (b ∷ w) h = go (eqb b 39) (eqb b 36) refl refl h (free-marks w)
+-- NEITHER MARK stands before the first
+before-mark : (t : List ℕ) → (has quote (take (firstMark t) t) ≡ false) × (has (code "$") (take (firstMark t) t) ≡ false)
+before-mark [] = (refl, refl)
+before-mark (b ∷ t) = go (eqb b quote) (eqb b (code "$")) refl refl (before-mark t)
   where
-    go : (x y : Bool) → eqb b 39 ≡ x → eqb b 36 ≡ y → (not x && not y && not y && passes (freeOf marks) (length w) w) ≡ true
-        → (passes (freeOf marks) (length w) w ≡ true → (has quote w ≡ false) × (has (code "$") w ≡ false))
-        → (has quote (b ∷ w) ≡ false) × (has (code "$") (b ∷ w) ≡ false)
-    go true y p q k on = absurd (false≢true k)
-    go false true p q k on = absurd (false≢true k)
-    go false false p q k on = (rw (eqb-sym 39 b, p) (on k .0), rw (eqb-sym 36 b, q) (on k .1))
+    go : (x y : Bool) → eqb b quote ≡ x → eqb b (code "$") ≡ y → (has quote (take (firstMark t) t) ≡ false) × (has (code "$") (take (firstMark t) t) ≡ false)
+        → (has quote (take (if not (x || y) then suc (firstMark t) else 0) (b ∷ t)) ≡ false)
+        × (has (code "$") (take (if not (x || y) then suc (firstMark t) else 0) (b ∷ t)) ≡ false)
+    go true y p q i = (refl, refl)
+    go false true p q i = (refl, refl)
+    go false false p q i = (rw (eqb-sym quote b, p) (i .0), rw (eqb-sym (code "$") b, q) (i .1))
 
 mark-there : (b : ℕ) → not (eqb b 39) ≡ false → b ≡ 39
 mark-there b h = go (eqb b 39) refl h
@@ -70,9 +65,12 @@ mark-there b h = go (eqb b 39) refl h
     go true e k = eqb-true b 39 e
     go false e k = absurd (false≢true (sym k))
 
-all-free : (y : Bool) → not y ≡ false → y ≡ true
-all-free true h = refl
-all-free false h = absurd (false≢true (sym h))
+same-place : (m k : ℕ) → not (eqb m k) ≡ false → m ≡ k
+same-place m k h = go (eqb m k) refl h
+  where
+    go : (x : Bool) → eqb m k ≡ x → not x ≡ false → m ≡ k
+    go true e j = eqb-true m k e
+    go false e j = absurd (false≢true (sym j))
 
 -- the words are so many bytes
 pub words-cut : (t : List ℕ) → length t - 12 ≡ length (take (length t - 12) t)
@@ -90,8 +88,8 @@ module _ (t : List ℕ) (r : Day) where
   words = take at t
 
   pub quick-day : 12 ≤ length t → (not (eqb (t ! at) 39) || not (eqb (t ! (length t - 1)) 39)) ≡ false → (x : Bool) → (x ≡ false → endsInE words ≡ false)
-      → (y : Bool) → y ≡ passes (freeOf marks) (length words) words → (x || not y) ≡ false → r ≡ dayIn (part (at + 1) (length t - 1) t) → Quick t r
-  quick-day l q x e y p h d = record { tells = told }
+      → (m : ℕ) → m ≡ firstMark t → (x || not (eqb m at)) ≡ false → r ≡ dayIn (part (at + 1) (length t - 1) t) → Quick t r
+  quick-day l q x e m p h d = record { tells = told }
     where
       v : List ℕ
       v = part (suc at) (length t - 1) t
@@ -103,10 +101,12 @@ module _ (t : List ℕ) (r : Day) where
       last = mark-there (t ! (length t - 1)) (or-right (not (eqb (t ! at) 39)) (not (eqb (t ! (length t - 1)) 39)) q)
 
       free : (has quote words ≡ false) × (has (code "$") words ≡ false)
-      free = free-marks words (sym p ∙ all-free y (or-right x (not y) h))
+      free =
+          let k : firstMark t ≡ at = sym p ∙ same-place m at (or-right x (not (eqb m at)) h) in
+          subst (λ (i : ℕ). (has quote (take i t) ≡ false) × (has (code "$") (take i t) ≡ false)) k (before-mark t)
 
       is-words : Words words
-      is-words = record { no-quote = free .0; no-dollar = free .1; no-e = e (or-left x (not y) h) }
+      is-words = record { no-quote = free .0; no-dollar = free .1; no-e = e (or-left x (not (eqb m at)) h) }
 
       told : (c : CalendarDay) → r ≡ Day′.On c → (v : List ℕ) × (valueOf t (temporal off t) ≡ means v) × (dayIn v ≡ Day′.On c)
       told c o =
@@ -115,9 +115,9 @@ module _ (t : List ℕ) (r : Day) where
           let s = date-spelled v c w in
           let nq : has quote v ≡ false = rw (s .1) (spelled-free quote (c .year) (c .month) (c .day) (omega arith)) in
           let nz : has 0 v ≡ false = rw (s .1) (spelled-free 0 (c .year) (c .month) (c .day) (omega arith)) in
-          let m : valueOf (words ++ quoted v) (temporal off (words ++ quoted v)) ≡ means v = quoted-value words v is-words nq nz in
+          let its : valueOf (words ++ quoted v) (temporal off (words ++ quoted v)) ≡ means v = quoted-value words v is-words nq nz in
           let u : t ≡ words ++ quoted v = quoted-end t at (omega arith) first last in
-          (v, subst (λ (k : List ℕ). valueOf k (temporal off k) ≡ means v) (sym u) m, w)
+          (v, subst (λ (k : List ℕ). valueOf k (temporal off k) ≡ means v) (sym u) its, w)
 
 -- WHAT IS TOLD is the text's day
 module _ (t : List ℕ) (sp : Span) (r : Day) (q : Quick t r) where

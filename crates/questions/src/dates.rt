@@ -4,9 +4,8 @@ use admitting::kinds::kind_code;
 use admitting::tests::Tested;
 use admitting::tests::test;
 use calendar::values::day_in;
+use kinds::temporal::first_mark;
 use kinds::temporal::read_temporal;
-use leaves::blocks::Stops;
-use leaves::blocks::is_free;
 use leaves::views::shown;
 use meaning::Dated;
 use meaning::Day;
@@ -64,7 +63,7 @@ fn ends_in_e(words: &[u8]) -> bool
 
 // The day of a text that ends in ten bytes between two quote marks, behind words that hold neither a quote mark nor a $, as DATE '2027-01-31' does: what stands
 // between the marks is its value. No day where the text is another one: then it has to be read.
-// Rules out: a quote mark passed over in the words; the last byte not looked at (must-fail: mark_passed_over, last_byte_passed_over).
+// Rules out: marks passed over in the words; the last byte not looked at (must-fail: mark_passed_over, last_byte_passed_over).
 fn quick_date(text: &[u8]) -> Day
     ensures { λ r. ⌜ Quick (now (text .entry)) r ⌝ }
 {
@@ -75,13 +74,7 @@ fn quick_date(text: &[u8]) -> Day
     if (text[at] != 39) | (text[text.len() - 1] != 39) {
         return Day::InvalidDate;
     }
-    let words = &text[..at];
-    let marks = Stops {
-        first: 39,
-        second: 36,
-        third: 36,
-    };
-    if ends_in_e(words) | !is_free(words, marks) {
+    if ends_in_e(&text[..at]) | (first_mark(text) != at) {
         return Day::InvalidDate;
     }
     day_in(&text[at + 1..text.len() - 1])

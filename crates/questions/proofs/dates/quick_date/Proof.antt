@@ -22,14 +22,14 @@ shared-slice-read-if2-2 c = search needs
 returns-2 : tie.Need-returns-2
 returns-2 c = search quick-none
 
-slice-aggregate-words : tie.Need-slice-aggregate-words
-slice-aggregate-words c = search words-cut
+slice-aggregate-ends-in-e : tie.Need-slice-aggregate-ends-in-e
+slice-aggregate-ends-in-e c = search words-cut
 
 ends-in-e-requires : tie.Need-ends-in-e-requires
 ends-in-e-requires c κs = search needs
 
-is-free-requires : tie.Need-is-free-requires
-is-free-requires c κs = search needs
+first-mark-requires : tie.Need-first-mark-requires
+first-mark-requires c κs = search needs
 
 returns-3 : tie.Need-returns-3
 returns-3 c = search quick-none
@@ -65,9 +65,9 @@ quick-date-spec =
     sub-if2
     shared-slice-read-if2-2
     returns-2
-    slice-aggregate-words
+    slice-aggregate-ends-in-e
     ends-in-e-requires
-    is-free-requires
+    first-mark-requires
     returns-3
     add-day-in
     sub-day-in
