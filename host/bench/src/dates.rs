@@ -5,21 +5,33 @@ use crate::cases::{Case, Place, Question};
 use std::hint::black_box;
 use valdrabus::sys;
 
-/// The dates of a case by ours.
+/// The dates of a case by ours. Each number is lent and read by itself: four that were written one by one and are read at once as an array would have the
+/// processor wait for them.
 pub fn ours(case: &Case) -> u64 {
-    let (mut day, mut first, mut second) = ([0; 4], 0, 0);
+    let ([mut year, mut month, mut day, mut day_number], mut first, mut second) = ([0; 4], 0, 0);
     let (from, long, kind) = (case.source.as_ptr(), case.source.len(), Question::Date.kind());
     let mut sum = 0;
     for &Place { start, end, .. } in black_box(&case.places) {
-        let ([year_to, month_to, day_to, number_to], first_to, second_to) = (&mut day, &raw mut first, &raw mut second);
+        let (year_to, month_to, day_to, number_to) = (&raw mut year, &raw mut month, &raw mut day, &raw mut day_number);
         // SAFETY: the source is valid for its length; the numbers are ours alone.
         let number = unsafe {
             sys::valdrabus_as_date(
-                kind, 0, start, end, from, long, year_to, month_to, day_to, number_to, first_to, second_to,
+                kind,
+                0,
+                start,
+                end,
+                from,
+                long,
+                year_to,
+                month_to,
+                day_to,
+                number_to,
+                &raw mut first,
+                &raw mut second,
             )
         };
         assert!(number == 0, "refused by {number}");
-        sum += seen(black_box(day));
+        sum += seen([black_box(year), black_box(month), black_box(day), black_box(day_number)]);
     }
     sum
 }
