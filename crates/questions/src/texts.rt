@@ -95,7 +95,8 @@ pub fn as_str(literal: Literal, source: &[u8], out: &mut [u8]) -> Text
     as_str_in(literal, source, Settings { backslash: false }, out)
 }
 
-// A number's decimal text.
+// A number's decimal text. The reading is told here, each way where it is known, and not by `text_of`: the refusal that is handed to that is made before it is
+// known to be due, and stands on the stack, 32 bytes of it.
 // Rules out: 8 for 5; integers alone asked (must-fail: one_for_another, some_left_out).
 pub fn as_decimal_text(literal: Literal, source: &[u8], out: &mut [u8]) -> Text
     ensures { λ r. ⌜ Meets (decimalQuestion literal (now (source .entry)) (now (out .entry))) r (now (out .exit)) ⌝ }
@@ -105,8 +106,15 @@ pub fn as_decimal_text(literal: Literal, source: &[u8], out: &mut [u8]) -> Text
     let right = kind_code(kind) <= 3;
     match test(right, LiteralExpected::DecimalText, literal, source) {
         Tested::Passes { start, end } => {
-            let read = read_decimal(&source[start..end], out);
-            text_of(read, start, Refusal::InvalidInteger(span))
+            match read_decimal(&source[start..end], out) {
+                Read::Borrowed { from, until } => Text::Borrowed {
+                    start: start + from,
+                    end: start + until,
+                },
+                Read::Written { len } => Text::Written { len },
+                Read::Refused { place: _ } => Text::Refused(Refusal::InvalidInteger(span)),
+                Read::NoRoom { needed } => Text::Refused(Refusal::NoRoom { needed }),
+            }
         }
         Tested::Barred(refusal) => Text::Refused(refusal),
     }

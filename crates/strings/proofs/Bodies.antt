@@ -1,16 +1,16 @@
 -- A body in its text: what reading its part says of the text, where it lies, and what a text that is spelled with it means. Assumes nothing.
 use mathlib.Core.Path.{_≡_, refl, ap, sym, _∙_, subst}
 use mathlib.Core.Bool.{Bool, true, false}
-use mathlib.Core.List.{List, [], _∷_}
+use mathlib.Core.List.{List}
 use Prim.Native.Nat.{ℕ, _+_, _-_, _≤_}
 use native.Mathlib.Omega.{arith}
-use lib.Dec.{leb}
+use lib.Dec.{eqb, leb}
 use lib.ListN.{length, take, drop, length-take}
 use borrow.Author.Tests.{eq-eqb, ne-eqb}
 use Rattle.meaning.specs.declared.Settings.{Settings}
 use Rattle.meaning.specs.declared.Read.{Read}
 use Rattle.meaning.specs.declared.Read.the-variants as Read′
-use Rattle.meaning.specs.Bytes.{if_then_else_, part, has, dquote, backslash}
+use Rattle.meaning.specs.Bytes.{if_then_else_, part, has, dquote}
 use Rattle.meaning.specs.Walk.{Trace, size, stops, plain, value, walk}
 use Rattle.meaning.specs.Steps.{unicodeStep}
 use Rattle.meaning.specs.Spelling.{Spelling, spelling, unicodeSpelling}
@@ -29,8 +29,8 @@ use Rattle.escapes.proofs.Turns.{steady}
 use Rattle.spellings.specs.declared.spelling.Body.{Body}
 use Rattle.spellings.specs.declared.spelling.Spelled.{Spelled}
 use Rattle.spellings.specs.declared.spelling.Spelled.the-variants as Spelled′
-use Rattle.spellings.specs.Spelled.{escapeOf, spellingBy, spelledOf, EscapeInside, StringFamily, Spells, Lexes}
-use Rattle.strings.specs.Answers.{BodyInside, bodyOf, placedOf, placeOf, lexemeOf}
+use Rattle.spellings.specs.Spelled.{escapeOf, spellingBy, spelledOf, EscapeInside, StringFamily, StringSpelled, Spells, Lexes}
+use Rattle.strings.specs.Answers.{BodyInside, bodyOf, SpelledInside, spelledAs, SpellsAlone, placedOf, placeOf, lexemeOf}
 
 -- A PART's answer on the text that holds it from f to u
 module _ (f u n : ℕ) (c : Trace) (out after : List ℕ) (r : Read) (k : Reads (answer 0 n c) out r after) where
@@ -65,6 +65,14 @@ module _ (f u n : ℕ) (c : Trace) (out after : List ℕ) (r : Read) (k : Reads 
       go false true e b = record { answer = ap (placedOf f u) e ∙ ap Read′.Refused (omega arith); buffer = b }
       go false false e b = record { answer = ap (placedOf f u) e ∙ room (leb (length (value c)) (length out)); buffer = b }
 
+-- AN ESCAPE CHARACTER: the one that is lent, where its part of the text is empty
+module _ (t own : List ℕ) (a z : ℕ) where
+  pub escape-lent : a ≡ z → own ≡ (if eqb a z then own else part a z t)
+  escape-lent h = rw (eq-eqb a z h)
+
+  pub escape-chosen : (a ≡ z → ⊥) → take (z - a) (drop a t) ≡ (if eqb a z then own else part a z t)
+  escape-chosen h = rw (ne-eqb a z h)
+
 -- A BODY, by its escape character
 module _ (t : List ℕ) (b : Body) (i : BodyInside (length t) b) (out after : List ℕ) (r : Read) where
   abbrev body : List ℕ
@@ -73,32 +81,17 @@ module _ (t : List ℕ) (b : Body) (i : BodyInside (length t) b) (out after : Li
   abbrev ReadBy : List ℕ → Type 0
   ReadBy e = Reads (answer 0 (length body) (courseOf (b .family) e body)) out r after
 
-  fits : (e : List ℕ) → ReadBy e → b .from + placeOf r ≤ b .until
-  fits e k =
+  pub body-fits : (e : List ℕ) → ReadBy e → b .from + placeOf r ≤ b .until
+  body-fits e k =
       let s = course-size (checks (b .family)) (stepOf (b .family) e) (steady (b .family) e) body in
       let p = part-place (b .from) (b .until) (length body) (courseOf (b .family) e body) out after r k s in
       omega (arith, p, length-take (b .until - b .from) (drop (b .from) t), i .ordered)
 
-  reads : (e : List ℕ) → escapeOf t (b .«escape_from») (b .«escape_until») ≡ e → ReadBy e → (s : Read) → s ≡ placedOf (b .from) (b .until) r
+  pub body-reads : (e : List ℕ) → e ≡ escapeOf t (b .«escape_from») (b .«escape_until») → ReadBy e → (s : Read) → s ≡ placedOf (b .from) (b .until) r
       → Reads (bodyOf t b) out s after
-  reads e ee k s q =
-      rw q (subst (λ (x : List ℕ). Reads (answer (b .from) (b .until) (courseOf (b .family) x body)) out (placedOf (b .from) (b .until) r) after) (sym ee)
+  body-reads e ee k s q =
+      rw q (subst (λ (x : List ℕ). Reads (answer (b .from) (b .until) (courseOf (b .family) x body)) out (placedOf (b .from) (b .until) r) after) ee
       (part-reads (b .from) (b .until) (length body) (courseOf (b .family) e body) out after r k))
-
-  pub default-fits : ReadBy (backslash ∷ []) → b .from + placeOf r ≤ b .until
-  default-fits k = fits (backslash ∷ []) k
-
-  pub default-reads : b .«escape_from» ≡ b .«escape_until» → ReadBy (backslash ∷ []) → (s : Read) → s ≡ placedOf (b .from) (b .until) r
-      → Reads (bodyOf t b) out s after
-  default-reads h k = reads (backslash ∷ []) (rw (eq-eqb (b .«escape_from») (b .«escape_until») h)) k
-
-  pub chosen-fits : ReadBy (take (b .«escape_until» - b .«escape_from») (drop (b .«escape_from») t)) → b .from + placeOf r ≤ b .until
-  chosen-fits k = fits (take (b .«escape_until» - b .«escape_from») (drop (b .«escape_from») t)) k
-
-  pub chosen-reads : (b .«escape_from» ≡ b .«escape_until» → ⊥) → ReadBy (take (b .«escape_until» - b .«escape_from») (drop (b .«escape_from») t))
-      → (s : Read) → s ≡ placedOf (b .from) (b .until) r → Reads (bodyOf t b) out s after
-  chosen-reads h k =
-      reads (take (b .«escape_until» - b .«escape_from») (drop (b .«escape_from») t)) (rw (ne-eqb (b .«escape_from») (b .«escape_until») h)) k
 
 -- WHERE IT LIES, by the spelling of its text
 inside-by : (t : List ℕ) (b : Body) (s : Spelling) → spelledOf t (Spelled′.Body b) ≡ s → EscapeInside (length t) (Spelled′.Body b) → BodyIn (length t) s
@@ -114,37 +107,56 @@ inside-by t b s e i k =
     go (Unicode m) k = between-range k
 
 -- A TEXT READ AS ONE
-pub alone-nul : (σ : Settings) (t out : List ℕ) (x : Bool) → x ≡ has 0 t → x ≡ true → Reads (one σ t) out (Read′.Refused 0) out
+pub alone-nul : (σ : Settings) (t : List ℕ) (x : Bool) → x ≡ has 0 t → x ≡ true → SpellsAlone σ t Spelled′.Unspelt
 unfolding one
-alone-nul σ t out x e q = rw (sym e ∙ q) (record { answer = refl; buffer = refl })
+alone-nul σ t x e q = record { inside = tt; means = rw (sym e ∙ q) }
 
-pub alone-inside : (x : Bool) (t : List ℕ) (s : Spelled) → Spells x t s (spelling t) → (b : Body) → s ≡ Spelled′.Body b → BodyInside (length t) b
-alone-inside x t s k b q = let m = rw q at k in inside-by t b (spelling t) (m .means) (m .inside) (spelling-body t)
+alone-inside : (x : Bool) (t : List ℕ) (s : Spelled) → Spells x t s (spelling t) → SpelledInside (length t) s
+alone-inside x t (Spelled′.Body b) k = inside-by t b (spelling t) (k .means) (k .inside) (spelling-body t)
+alone-inside x t (Spelled′.Dollar f u) k = tt
+alone-inside x t Spelled′.Unspelt k = tt
 
-module _ (σ : Settings) (t out : List ℕ) (x : Bool) (nul : x ≡ has 0 t) (none : x ≡ false) (s : Spelled) (k : Spells (σ .backslash) t s (spelling t)) where
-  by-spelling : (s′ : Spelled) → s ≡ s′ → one σ t ≡ read-as σ t (spelledOf t s′)
-  unfolding one
-  by-spelling s′ q = rw (sym nul ∙ none) (ap (read-as σ t) (sym (k .means) ∙ ap (spelledOf t) q))
+alone-means : (σ : Settings) (t : List ℕ) (s : Spelled) → StringSpelled (σ .backslash) s → read-as σ t (spelledOf t s) ≡ spelledAs t s
+alone-means σ t (Spelled′.Body b) h = go (b .family) h
+  where
+    e : List ℕ
+    e = escapeOf t (b .«escape_from») (b .«escape_until»)
 
-  pub alone-body : (b : Body) → s ≡ Spelled′.Body b → (r : Read) (after : List ℕ) → Reads (bodyOf t b) out r after → Reads (one σ t) out r after
-  alone-body b q r after g =
-      let m = rw q at k in
-      subst (λ (a : Answer). Reads a out r after) (sym (by-spelling (Spelled′.Body b) q ∙ go (b .family) (m .family))) g
-    where
-      e : List ℕ
-      e = escapeOf t (b .«escape_from») (b .«escape_until»)
+    go : (f : Family) → StringFamily (σ .backslash) f
+        → read-as σ t (spellingBy e f (b .from) (b .until)) ≡ answer (b .from) (b .until) (courseOf f e (part (b .from) (b .until) t))
+    go (Standard m bs) h = rw h
+    go Escape h = refl
+    go (Unicode m) h = rw h
+alone-means σ t (Spelled′.Dollar f u) h = refl
+alone-means σ t Spelled′.Unspelt h = refl
 
-      go : (f : Family) → StringFamily (σ .backslash) f
-          → read-as σ t (spellingBy e f (b .from) (b .until)) ≡ answer (b .from) (b .until) (courseOf f e (part (b .from) (b .until) t))
-      go (Standard m bs) h = rw h
-      go Escape h = refl
-      go (Unicode m) h = rw h
+pub alone-spelled : (σ : Settings) (t : List ℕ) (x : Bool) → x ≡ has 0 t → x ≡ false → (s : Spelled) → Spells (σ .backslash) t s (spelling t)
+    → SpellsAlone σ t s
+unfolding one
+alone-spelled σ t x nul none s k =
+    record {
+      inside = alone-inside (σ .backslash) t s k;
+      means = rw (sym nul ∙ none) (ap (read-as σ t) (sym (k .means)) ∙ alone-means σ t s (k .family));
+    }
 
-  pub alone-dollar : (f u : ℕ) → s ≡ Spelled′.Dollar f u → Reads (one σ t) out (Read′.Borrowed f u) out
-  alone-dollar f u q = reads-borrowed (one σ t) out f u (by-spelling (Spelled′.Dollar f u) q)
+pub alone-reads : (σ : Settings) (t : List ℕ) (s : Spelled) → SpellsAlone σ t s → (out : List ℕ) (r : Read) (after : List ℕ)
+    → Reads (spelledAs t s) out r after → Reads (one σ t) out r after
+alone-reads σ t s k out r after g = rw (k .means) g
 
-  pub alone-unspelt : s ≡ Spelled′.Unspelt → Reads (one σ t) out (Read′.Refused 0) out
-  alone-unspelt q = reads-refused (one σ t) out 0 (by-spelling Spelled′.Unspelt q)
+-- A TEXT AS IT IS SPELLED
+module _ (t : List ℕ) (s : Spelled) where
+  pub spelled-inside : SpelledInside (length t) s → (b : Body) → s ≡ Spelled′.Body b → BodyInside (length t) b
+  spelled-inside i b q = subst (SpelledInside (length t)) q i
+
+  pub spelled-body : (b : Body) → s ≡ Spelled′.Body b → (out : List ℕ) (r : Read) (after : List ℕ) → Reads (bodyOf t b) out r after
+      → Reads (spelledAs t s) out r after
+  spelled-body b q out r after g = rw q g
+
+  pub spelled-dollar : (f u : ℕ) → s ≡ Spelled′.Dollar f u → (out : List ℕ) → Reads (spelledAs t s) out (Read′.Borrowed f u) out
+  spelled-dollar f u q out = reads-borrowed (spelledAs t s) out f u (ap (spelledAs t) q)
+
+  pub spelled-not : s ≡ Spelled′.Unspelt → (out : List ℕ) → Reads (spelledAs t s) out (Read′.Refused 0) out
+  spelled-not q out = reads-refused (spelledAs t s) out 0 (ap (spelledAs t) q)
 
 -- U& WITH A MARK
 module _ (m : Mark) (t : List ℕ) (s : Spelled) (k : Lexes m t s) where

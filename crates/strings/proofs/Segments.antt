@@ -16,7 +16,9 @@ use Rattle.meaning.specs.Reads.{readOf, bufferOf, Reads}
 use Rattle.laws.proofs.questions.Ranges.{Bounds, AnswerIn, one-inside}
 use Rattle.leaves.specs.Puts.{Puts}
 use Rattle.strings.specs.declared.joined.Joined.the-variants as Joined′
-use Rattle.strings.specs.Answers.{PutsValue}
+use Rattle.spellings.specs.declared.spelling.Spelled.{Spelled}
+use Rattle.strings.specs.Answers.{spelledAs, SpellsAlone, PutsValue}
+use Rattle.strings.proofs.Bodies.{alone-reads}
 
 -- what is read, by what was told of it
 record Long (a : Answer) (n : ℕ) : Type 0 where
@@ -39,7 +41,11 @@ told (written v) m = go (leb (length v) m)
     go false = record { bytes = v; is = refl; long = refl }
 told (refused p) m = refl
 
-module _ (σ : Settings) (t out after : List ℕ) (r : Read) (k : Reads (one σ t) out r after) where
+module _ (σ : Settings) (t : List ℕ) (s : Spelled) (z : SpellsAlone σ t s) (out : List ℕ) (r : Read) (after : List ℕ)
+    (g : Reads (spelledAs t s) out r after) where
+  k : Reads (one σ t) out r after
+  k = alone-reads σ t s z out r after g
+
   tells : (s : Read) → r ≡ s → Told (one σ t) s
   tells s q = subst (Told (one σ t)) (sym (k .answer) ∙ q) (told (one σ t) (length out))
 

@@ -3,17 +3,20 @@ use mathlib.Core.Path.{_≡_}
 use mathlib.Core.List.{List, _++_}
 use Prim.Native.Nat.{ℕ, _+_, _≤_}
 use lib.ListN.{length, drop}
+use Rattle.meaning.specs.declared.Settings.{Settings}
 use Rattle.meaning.specs.declared.Read.{Read}
 use Rattle.meaning.specs.declared.Read.the-variants.{Borrowed, Written, Refused, NoRoom}
 use Rattle.meaning.specs.Bytes.{part}
 use Rattle.meaning.specs.Walk.{walk}
 use Rattle.meaning.specs.Steps.{unicodeStep}
 use Rattle.meaning.specs.Spelling.{unicodeSpelling}
-use Rattle.meaning.specs.Reading.{Answer, refused, Value, means, fails, answer, asWritten}
+use Rattle.meaning.specs.Reading.{Answer, borrowed, refused, Value, means, fails, answer, one, asWritten}
 use Rattle.meaning.specs.Reads.{bufferOf}
 use Rattle.meaning.specs.Helpers.{ifUnicode}
 use Rattle.escapes.specs.Families.{courseOf}
 use Rattle.spellings.specs.declared.spelling.Body.{Body}
+use Rattle.spellings.specs.declared.spelling.Spelled.{Spelled}
+use Rattle.spellings.specs.declared.spelling.Spelled.the-variants as Spelled′
 use Rattle.spellings.specs.Spelled.{escapeOf}
 use Rattle.strings.specs.declared.joined.Joined.{Joined}
 use Rattle.strings.specs.declared.joined.Joined.the-variants as Joined′
@@ -27,6 +30,22 @@ pub record BodyInside (n : ℕ) (b : Body) : Type 0 where
   pub within : b .until ≤ n
   pub escape-ordered : b .«escape_from» ≤ b .«escape_until»
   pub escape-within : b .«escape_until» ≤ n
+
+-- a text as it is spelled: where a body lies, and what is read then
+abbrev pub SpelledInside : ℕ → Spelled → Type 0
+SpelledInside n (Spelled′.Body b) = BodyInside n b
+SpelledInside n (Spelled′.Dollar f u) = Unit {0}
+SpelledInside n Spelled′.Unspelt = Unit {0}
+
+abbrev pub spelledAs : List ℕ → Spelled → Answer
+spelledAs t (Spelled′.Body b) = bodyOf t b
+spelledAs t (Spelled′.Dollar f u) = borrowed f u
+spelledAs t Spelled′.Unspelt = refused 0
+
+-- so spelled, it is read as the text that is read as one
+pub record SpellsAlone (σ : Settings) (t : List ℕ) (s : Spelled) : Type 0 where
+  pub inside : SpelledInside (length t) s
+  pub means : one σ t ≡ spelledAs t s
 
 -- what was read of a part from f up to u, on the text that holds it; and the place that it tells
 abbrev pub placedOf : ℕ → ℕ → Read → Read

@@ -29,6 +29,8 @@ use Rattle.strings.specs.declared.reading.Fit.{Fit}
 use Rattle.strings.specs.declared.reading.Fit.the-variants as Fit′
 use Rattle.strings.specs.declared.reading.Checked.{Checked}
 use Rattle.strings.specs.declared.reading.Checked.the-variants as Checked′
+use Rattle.strings.specs.declared.reading.Tried.{Tried}
+use Rattle.strings.specs.declared.reading.Tried.the-variants as Tried′
 use Rattle.strings.specs.Plain.{isPlain}
 use Rattle.strings.specs.Storing.{Stored}
 
@@ -124,3 +126,14 @@ ChecksBy u a out (Checked′.Text r) after = (u ≡ true) × Reads a out r after
 
 pub record Checks (u : Bool) (a : Answer) (out : List ℕ) (r : Checked) (after : List ℕ) : Type 0 where
   pub by : ChecksBy u a out r after
+
+-- what is told of it without the reading by units; where it is left to read, it is UTF-8, and the answer makes of the buffer what it made of it before
+abbrev pub TriesBy : Bool → Answer → List ℕ → Tried → List ℕ → Type 0
+TriesBy u a out (Tried′.Borrowed f e) after = Checks u a out (Checked′.Text (Read′.Borrowed f e)) after
+TriesBy u a out (Tried′.Written n) after = Checks u a out (Checked′.Text (Read′.Written n)) after
+TriesBy u a out (Tried′.NoRoom n) after = Checks u a out (Checked′.Text (Read′.NoRoom n)) after
+TriesBy u a out Tried′.Unread after = (u ≡ true) × QuickReads a out Quick′.Unread after
+TriesBy u a out Tried′.NotUtf8 after = Checks u a out Checked′.NotUtf8 after
+
+pub record Tries (u : Bool) (a : Answer) (out : List ℕ) (r : Tried) (after : List ℕ) : Type 0 where
+  pub by : TriesBy u a out r after

@@ -8,10 +8,11 @@ use spellings::spelling::Spelled;
 use spellings::spelling::string_spelling;
 ghost use mathlib.Core.Path.{_≡_};
 ghost use Prim.Native.Nat.{_+_, _≤_};
+ghost use lib.Dec.{eqb};
 ghost use lib.ListN.{length};
-ghost use Rattle.meaning.specs.Reading.{one};
+ghost use Rattle.meaning.specs.Bytes.{if_then_else_, part};
 ghost use Rattle.meaning.specs.Reads.{Reads};
-ghost use Rattle.strings.specs.Answers.{BodyInside, bodyOf, placeOf, placedOf};
+ghost use Rattle.strings.specs.Answers.{BodyInside, bodyOf, placeOf, placedOf, SpelledInside, spelledAs, SpellsAlone};
 
 // What was read of a text's part, from a place up to another, as an answer on the text.
 // Rules out: a place counted from the body's end (must-fail: place_from_the_end).
@@ -29,8 +30,20 @@ fn placed(answer: Read, from: usize, until: usize) -> Read
     }
 }
 
+// The escape character: a part of the text, or the backslash where that is empty.
+// Rules out: the backslash active beside a chosen escape character (must-fail: backslash_beside_chosen).
+fn escape_in<'a>(text: &'a [u8], backslash: &'a [u8], start: usize, end: usize) -> &'a [u8]
+    requires { ⌜ (start ≤ end) × (end ≤ length (now text)) ⌝ }
+    ensures { λ r. ⌜ now r ≡ (if eqb start end then now (backslash .entry) else part start end (now (text .entry))) ⌝ }
+{
+    if start == end {
+        return backslash;
+    }
+    &text[start..end]
+}
+
 // Reads a body of a text, by its family and its escape character.
-// Rules out: the backslash active beside a chosen escape character; the body taken for it (must-fail: backslash_beside_chosen, body_for_escape).
+// Rules out: the body taken for the escape character (must-fail: body_for_escape).
 pub(crate) fn read_body(text: &[u8], body: Body, out: &mut [u8]) -> Read
     requires { ⌜ BodyInside (length (now text)) body ⌝ }
     ensures { λ r. ⌜ Reads (bodyOf (now (text .entry)) body) (now (out .entry)) r (now (out .exit)) ⌝ }
@@ -38,25 +51,30 @@ pub(crate) fn read_body(text: &[u8], body: Body, out: &mut [u8]) -> Read
     let family = body.family;
     let from = body.from;
     let until = body.until;
-    let start = body.escape_from;
-    let end = body.escape_until;
-    if start == end {
-        let answer = read_units(&text[from..until], family, b"\\", out);
-        return placed(answer, from, until);
-    }
-    let answer = read_units(&text[from..until], family, &text[start..end], out);
+    let escape = escape_in(text, b"\\", body.escape_from, body.escape_until);
+    let answer = read_units(&text[from..until], family, escape, out);
     placed(answer, from, until)
 }
 
-// Reads a text as one, by its spelling.
-// Rules out: a raw NUL kept, or told behind the start; the setting lost (must-fail: nul_kept, nul_behind_the_start, spelled_with_the_setting_on).
-pub(crate) fn read_alone(text: &[u8], settings: Settings, out: &mut [u8]) -> Read
-    ensures { λ r. ⌜ Reads (one settings (now (text .entry))) (now (out .entry)) r (now (out .exit)) ⌝ }
+// How a text that is read as one is spelled; not at all, where it holds a raw NUL. Both callers ask this before they read what it tells, so that it has left the
+// stack by then.
+// Rules out: a raw NUL kept; the setting lost (must-fail: nul_kept, spelled_with_the_setting_on).
+pub(crate) fn spell_alone(text: &[u8], settings: Settings) -> Spelled
+    ensures { λ r. ⌜ SpellsAlone settings (now (text .entry)) r ⌝ }
 {
     if string_literal_embeds_nul(text) {
-        return Read::Refused { place: 0 };
+        return Spelled::Unspelt;
     }
-    match string_spelling(text, settings) {
+    string_spelling(text, settings)
+}
+
+// Reads a text as it is spelled.
+// Rules out: what is not spelled told behind its start; a dollar body shown empty (must-fail: refused_behind_its_start, dollar_shown_empty).
+pub(crate) fn read_spelled(text: &[u8], spelled: Spelled, out: &mut [u8]) -> Read
+    requires { ⌜ SpelledInside (length (now text)) spelled ⌝ }
+    ensures { λ r. ⌜ Reads (spelledAs (now (text .entry)) spelled) (now (out .entry)) r (now (out .exit)) ⌝ }
+{
+    match spelled {
         Spelled::Body(body) => read_body(text, body, out),
         Spelled::Dollar { from, until } => Read::Borrowed { from, until },
         Spelled::Unspelt => Read::Refused { place: 0 },

@@ -1,5 +1,6 @@
 // [01 Cutting, String reading] Joined text, by its segments, each of which is read alone; and the reading of a string's text.
-use crate::alone::read_alone;
+use crate::alone::read_spelled;
+use crate::alone::spell_alone;
 use cutting::cursor::Cursor;
 use cutting::cursor::Next;
 use cutting::segments::Segment;
@@ -39,7 +40,8 @@ fn is_joined(text: &[u8], settings: Settings) -> bool
 fn put_segment(text: &[u8], settings: Settings, out: &mut [u8]) -> Joined
     ensures { λ r. ⌜ PutsValue (alone settings (now (text .entry))) (now (out .entry)) r (now (out .exit)) ⌝ }
 {
-    match read_alone(text, settings, out) {
+    let spelled = spell_alone(text, settings);
+    match read_spelled(text, spelled, out) {
         Read::Borrowed { from, until } => {
             put_bytes(&text[from..until], out);
             Joined::Length(until - from)
@@ -88,21 +90,29 @@ fn put_segments(text: &[u8], settings: Settings, out: &mut [u8]) -> Joined
     }
 }
 
-// Reads joined text: measured whole before the first byte is written.
-// Rules out: a made-up length; a shorter buffer written to (must-fail: joined_length_made_up, room_not_asked).
+// Reads joined text: measured whole before the first byte is written. All segments are gone over twice, at first with no room and then with just the room that
+// their values need. Both are one call, which is compiled into this function: it stands on the stack once.
+// Rules out: a made-up length; a shorter buffer written to; a text told as written that was only measured (must-fail: joined_length_made_up, room_not_asked,
+// told_before_it_is_written).
 fn read_joined(text: &[u8], settings: Settings, out: &mut [u8]) -> Read
     ensures { λ r. ⌜ Reads (asWritten (joined settings (cut settings (now (text .entry))))) (now (out .entry)) r (now (out .exit)) ⌝ }
 {
-    let mut none = [0u8; 0];
-    match put_segments(text, settings, &mut none) {
-        Joined::Length(len) => {
-            if out.len() < len {
-                return Read::NoRoom { needed: len };
+    let mut room: usize = 0;
+    loop {
+        match put_segments(text, settings, &mut out[..room]) {
+            Joined::Length(len) => {
+                if out.len() < len {
+                    return Read::NoRoom { needed: len };
+                }
+                if room == len {
+                    return Read::Written { len };
+                }
+                room = len;
             }
-            put_segments(text, settings, out);
-            Read::Written { len }
+            Joined::Refused(place) => {
+                return Read::Refused { place };
+            }
         }
-        Joined::Refused(place) => Read::Refused { place },
     }
 }
 
@@ -114,5 +124,5 @@ pub(crate) fn read_by_units(text: &[u8], settings: Settings, out: &mut [u8]) -> 
     if is_joined(text, settings) {
         return read_joined(text, settings, out);
     }
-    read_alone(text, settings, out)
+    read_spelled(text, spell_alone(text, settings), out)
 }

@@ -1,5 +1,5 @@
 -- `strings::alone::read_body` meets its contract: the part is read by its family and its escape character, and its answer placed. Assumes nothing.
-use Rattle.strings.proofs.Bodies.{default-fits, default-reads, chosen-fits, chosen-reads}
+use Rattle.strings.proofs.Bodies.{body-fits, body-reads}
 use borrow.Author.Needs.{needs}
 use Rattle.strings.proofs.alone.read_body.Statement.{statement}
 use Rattle.strings.proofs.alone.read_body.Tie as tie
@@ -9,20 +9,11 @@ read-body-spec =
     tie.close
     (tie.spec
     (λ c. search needs)
+    (λ c κs. search needs)
     (λ c. search needs)
     (λ c. search needs)
     (λ c. search needs)
     (λ c κs. search needs)
-    (λ c κs. search default-fits)
+    (λ c κs. search body-fits)
     (λ c. search needs)
-    (λ c. search default-reads)
-    (λ c. search needs)
-    (λ c. search needs)
-    (λ c. search needs)
-    (λ c. search needs)
-    (λ c. search needs)
-    (λ c. search needs)
-    (λ c κs. search needs)
-    (λ c κs. search chosen-fits)
-    (λ c. search needs)
-    (λ c. search chosen-reads))
+    (λ c. search body-reads))

@@ -9,6 +9,7 @@ put-segment-spec =
     tie.close
     (tie.spec
     (λ c κs. search needs)
+    (λ c κs. search needs)
     (λ c. search needs)
     (λ c. search part-ordered)
     (λ c. search part-ordered)

@@ -1,4 +1,5 @@
 -- `strings::joined::read_by_units` meets its contract. Assumes nothing.
+use Rattle.strings.proofs.Bodies.{alone-reads}
 use Rattle.strings.proofs.Wholes.{joined-reads, one-reads}
 use borrow.Author.Needs.{needs}
 use Rattle.strings.proofs.joined.read_by_units.Statement.{statement}
@@ -13,5 +14,6 @@ read-by-units-spec =
     (λ c. search needs)
     (λ c. search joined-reads)
     (λ c κs. search needs)
+    (λ c κs. search needs)
     (λ c. search needs)
-    (λ c. search one-reads))
+    (λ c. search (one-reads, alone-reads)))

@@ -1,6 +1,6 @@
--- `strings::reading::read_bytes` meets its contract: a plain text is told by its scan, any other that is UTF-8 by its reading. Assumes nothing.
+-- `strings::reading::read_bytes` meets its contract: a plain text is told by its scan, any other as it was tried, or by units. Assumes nothing.
 use borrow.Author.Needs.{needs}
-use Rattle.strings.proofs.Fits.{ascii-long, ascii-reads, text-reads, not-reads}
+use Rattle.strings.proofs.Fits.{ascii-long, ascii-reads, tried-borrowed, tried-written, tried-lacking, tried-unread, tried-not}
 use Rattle.strings.proofs.reading.read_bytes.Statement.{statement}
 use Rattle.strings.proofs.reading.read_bytes.Tie as tie
 
@@ -14,8 +14,18 @@ read-bytes-spec =
     (λ c κs. search needs)
     (λ c. search needs)
     (λ c. search needs)
+    (λ c. search needs)
+    (λ c. search needs)
     (λ c κs. search needs)
     (λ c. search needs)
-    (λ c. search text-reads)
+    (λ c κs. search needs)
     (λ c. search needs)
-    (λ c. search not-reads))
+    (λ c. search tried-borrowed)
+    (λ c. search needs)
+    (λ c. search tried-written)
+    (λ c. search needs)
+    (λ c. search tried-lacking)
+    (λ c. search needs)
+    (λ c. search tried-unread)
+    (λ c. search needs)
+    (λ c. search tried-not))
