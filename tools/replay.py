@@ -173,13 +173,27 @@ def lines(name):
             yield line.split('\t')
 
 
-def listed(name):
-    """(stratum, row) of oracle.tsv, clarified.tsv, parts.tsv, places.tsv or dates.tsv; the records are no question's, and `litrec` answers them"""
+def lent_long(question, room, answer):
+    """(the buffer's length in the first asking, what is due in it): long, but of the writer"""
+    return int(room) if question == 'writer' else LONG, answer
+
+
+def lent_told(question, room, answer):
+    """the same, the buffer as long as the row says: 9 is due where it is too short"""
+    if room == '.':
+        return LONG, answer
+    needed = len(unhex(answer[2:])) if answer.startswith('w ') else 0
+    own = needed + int(room)
+    return own, answer if needed <= own else f'r 9 {needed}'
+
+
+def listed(name, lent=lent_long):
+    """(stratum, row) of oracle.tsv, clarified.tsv, parts.tsv, places.tsv, dates.tsv or printing.tsv; the records are no question's, and `litrec` answers them"""
     for identity, question, kind, setting, start, end, source, room, answer, *_ in lines(name):
         if question == 'record':
             continue
-        own = int(room) if question == 'writer' else LONG
-        yield f'{name}, {question.removesuffix("/synthetic")}', Row(f'{name} {identity}', question, kind, setting, start, end, unhex(source), answer, own)
+        own, due_then = lent(question, room, answer)
+        yield f'{name}, {question.removesuffix("/synthetic")}', Row(f'{name} {identity}', question, kind, setting, start, end, unhex(source), due_then, own)
 
 
 def spelled(text):
@@ -361,6 +375,7 @@ def all_rows():
     yield from sorted(listed('places'), key=lambda r: QUESTIONS.index(r[1].question))
     yield from blocks_asked()
     yield from sorted(listed('dates'), key=lambda r: QUESTIONS.index(r[1].question))
+    yield from listed('printing', lent_told)
 
 
 def in_blocks(rows):

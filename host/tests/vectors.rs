@@ -1,5 +1,5 @@
 //! Rows of `vectors/`, all that a caller of this crate can ask: the Rust original's own answers, how document 01 is read, and the facts of the writers' two
-//! forms, of values in parts, of places and of dates. `tests/blocks.rs` has those of blocks. docs/VECTORS.md says what a row holds.
+//! forms, of values in parts, of places, of dates and of printed numbers. `tests/blocks.rs` has those of blocks. docs/VECTORS.md says what a row holds.
 
 mod common;
 
@@ -279,6 +279,12 @@ fn the_facts_of_places() {
 #[test]
 fn the_facts_of_dates() {
     assert_eq!(replay("dates"), 495);
+}
+
+/// The table of request T-06 has 40.
+#[test]
+fn the_facts_of_printing() {
+    assert_eq!(replay("printing"), 1_471);
 }
 
 #[test]

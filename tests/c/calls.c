@@ -1,6 +1,6 @@
 /*
  * Calls each function of valdrabus.h but the block's, which blocks.c calls, and compares what it answers, the lent numbers and every byte of the buffer with what
- * document 01's examples, the tables of its reading and those of requests T-01, T-04 and T-05 say. Prints one line; ends with status 1 at the first difference,
+ * document 01's examples, the tables of its reading and those of requests T-01, T-04, T-05 and T-06 say. Prints one line; ends with status 1 at the first difference,
  * having said where it stands.
  */
 #include "valdrabus.h"
@@ -209,6 +209,9 @@ static void other_texts(void)
     CHECK(written(text_in(decimal, VALDRABUS_KIND_DECIMAL, "1_000.5", ROOM), "1000.5"));
     CHECK(borrowed(text_in(decimal, VALDRABUS_KIND_FLOAT, "1.5e3", 0), 0, 5));
     CHECK(written(text_in(decimal, VALDRABUS_KIND_INTEGER, "0x-80000000000000000000000000000000", 40), "-170141183460469231731687303715884105728"));
+    CHECK(refused(text_in(decimal, VALDRABUS_KIND_INTEGER, "0x-80000000000000000000000000000000", 39), VALDRABUS_NO_ROOM, 0, 40));
+    CHECK(written(text_in(decimal, VALDRABUS_KIND_INTEGER, "0xA", 2), "10"));
+    CHECK(refused(text_in(decimal, VALDRABUS_KIND_INTEGER, "0xA", 1), VALDRABUS_NO_ROOM, 0, 2));
     CHECK(refused(text_in(decimal, VALDRABUS_KIND_INTEGER, "-0x-80000000000000000000000000000000", ROOM), VALDRABUS_INVALID_INTEGER, 0, 36));
     CHECK(refused(text_in(decimal, VALDRABUS_KIND_INTEGER, "0x1F", 1), VALDRABUS_NO_ROOM, 0, 2));
     CHECK(refused(text_in(decimal, VALDRABUS_KIND_MONEY, "1", ROOM), VALDRABUS_WRONG_KIND, VALDRABUS_EXPECTED_DECIMAL_TEXT, VALDRABUS_KIND_MONEY));

@@ -1,10 +1,11 @@
 #!/usr/bin/env python3
-"""Turns vectors/oracle.tsv, clarified.tsv, forms.tsv, parts.tsv, places.tsv, blocks.tsv and dates.tsv into tables of antt, proved by one computation.
+"""Turns vectors/oracle.tsv, clarified.tsv, forms.tsv, parts.tsv, places.tsv, blocks.tsv, dates.tsv and printing.tsv into tables of antt, proved by computation.
 
     tools/oracle/tables.py
 
-writes crates/meaning/proofs/Oracle1.antt and on, Clarified.antt, FormRows.antt, PartRows.antt, PlaceRows.antt, BlockRows.antt, DateRows.antt, Tables.antt that
-proves them, and Lib.antt with their names and those of the tables written by hand. The forms of the rows are those of crates/meaning/proofs/Rows.antt.
+writes crates/meaning/proofs/Oracle1.antt and on, Clarified.antt, FormRows.antt, PartRows.antt, PlaceRows.antt, BlockRows.antt, DateRows.antt, PrintRows.antt,
+Tables.antt that proves them, and Lib.antt with their names and those of the tables written by hand. The forms of the rows are those of
+crates/meaning/proofs/Rows.antt.
 """
 import glob
 import os
@@ -23,14 +24,14 @@ WIDTH = 160  # characters in a line, except in rows
 # the tables written by hand
 BY_HAND = ['BlockLimits', 'CalendarFacts', 'Further', 'Unseen']
 # the definitions that no row reaches
-UNREACHED = {'Halves': None, 'Cutting': {'complete'}, 'Dates': {'spelledDay'}}
+UNREACHED = {'Halves': {'negatedLow', 'negatedHigh'}, 'Cutting': {'complete'}, 'Dates': {'spelledDay'}}
 
 QUESTION = {'plain': 'plain', 'decimal': 'decimal-text', 'bits': 'bit-text', 'temporal': 'temporal-text', 'money': 'money-text', 'source': 'source-text',
             'charset': 'charset', 'i64': 'i64', 'bool': 'bool', 'null': 'null', 'date': 'date'}
 # the words that rows are made of
-WORDS = ('asks spans detached helps names prefixed spells forms prints block numbered wrote needs refused tells declines string plain decimal-text '
+WORDS = ('asks spans detached helps names prefixed spells forms prints block numbered halves wrote needs refused tells declines string plain decimal-text '
          'bit-text temporal-text money-text source-text charset i64 bool null date uescape-legal escape-valid unicode-valid embeds-nul is-ident '
-         'borrows writes cramped plus minus unnamed says refuses breaks unfit dated').split()
+         'borrows writes cramped plus minus unnamed says refuses breaks unfit dated lending').split()
 HELPER = {'uescape': 'uescape-legal', 'evalid': 'escape-valid', 'uvalid': 'unicode-valid', 'nul': 'embeds-nul', 'isident': 'is-ident'}
 
 
@@ -54,20 +55,26 @@ def refusal(room, number, *values):
     return f'(refuses {number})'
 
 
+def in_room(room, said):
+    """what is answered where nothing is written, in a buffer as long as the row says"""
+    return said if room == '.' or said.startswith('(breaks') else f'(lending {room} {said})'
+
+
 def told(source, room, answer):
     word, *values = answer.split(' ')
     if word == 'b':
         start, end = map(int, values)
-        return f'(borrows {start} {end} {quoted(source[start:end])})'
+        return in_room(room, f'(borrows {start} {end} {quoted(source[start:end])})')
     if word == 'w':
-        return f'(cramped {quoted(replay.unhex(values[0]))})' if room == '-1' else f'(writes {room} {quoted(replay.unhex(values[0]))})'
+        short, text = -int(room), quoted(replay.unhex(values[0]))
+        return f'(cramped {short} {text})' if short > 0 else f'(writes {room} {text})'
     if word == 'i':
         value = int(values[0])
         return f'(minus {-value})' if value < 0 else f'(plus {value})'
     if word == 'd':
         return f'(dated {" ".join(values)})'
     if word == 'r':
-        return refusal(room, *values)
+        return in_room(room, refusal(room, *values))
     return 'unnamed' if word == 'n' else f'(says {truth(word)})'
 
 
@@ -122,13 +129,18 @@ def row(question, kind, setting, start, end, source, room, answer):
     return f'asks {asked} {kind} {quoted(data[:start])} {quoted(data[start:end])} {quoted(data[end:])} {told(data, room, answer)}'
 
 
+def back_row(setting, text, answer):
+    """what a written text means as a string"""
+    return row('string', 4, setting, 0, len(text), text.hex(), '0' if answer.startswith('w') else '.', answer)
+
+
 def form_rows():
     """the rows of forms.tsv; then what each written text means at both settings, and both validators' yes"""
     for _, form, value, room, answer in replay.forms():
         yield f'forms {form.capitalize()} {quoted(value)} {room} {made(answer)}'
     for _, form, value, text in replay.written_forms():
         for setting in '01':
-            yield row('string', 4, setting, 0, len(text), text.hex(), 0, replay.read_back(replay.OPENING[form], value, text))
+            yield back_row(setting, text, replay.read_back(replay.OPENING[form], value, text))
         for question in ('evalid', 'uvalid'):
             yield row(question, 0, 0, 0, 0, text.hex(), 0, 'yes')
 
@@ -138,7 +150,7 @@ def part_rows():
     for _, *columns in read('parts.tsv'):
         yield row(*columns)
     for _, setting, value, text in replay.written_parts():
-        yield row('string', 4, setting, 0, len(text), text.hex(), 0, replay.read_back("'", value, text))
+        yield back_row(setting, text, replay.read_back("'", value, text))
 
 
 def listing(numbers):
@@ -154,6 +166,19 @@ def block_rows():
     """the rows of blocks.tsv whose buffer is a list; BlockLimits has the others"""
     for call in replay.listed_calls():
         yield f'block {listing(call.items)} {quoted(call.source)} {call.answers} {call.room} {called(call)}'
+
+
+def print_rows():
+    """the rows of printing.tsv; then the text of the two halves of each number that it prints"""
+    numbers = set()
+    for _, *columns, _ in read('printing.tsv'):
+        yield row(*columns)
+        source, answer = replay.unhex(columns[5]), columns[7]
+        if answer.startswith('w ') and re.match(rb'[+-]?0[xXoObB]', source):
+            numbers.add(int(replay.unhex(answer[2:])))
+    for number in sorted(numbers):
+        high, low = divmod(number % 2 ** 128, 2 ** 64)
+        yield f'halves {high} {low} {quoted(str(number).encode())}'
 
 
 def read(name):
@@ -204,17 +229,20 @@ def table(name, says, file, rows, more=()):
 
 
 def proof_of(names):
-    """The module that proves every row of the tables of these names."""
+    """The module that proves every row of the tables of these names: table by table, since one computation may take only so many steps, then all in one statement."""
     opened = unfoldable(UNREACHED)
     lines = ['-- Generated by tools/oracle/tables.py: every row of the tables made from vectors/ holds, by computation. Assumes nothing.', 'use lib.Dec.{T}']
     for module, words in opened.items():
         lines += uses(f'Rattle.meaning.specs.{module}', words)
     lines += ['use Rattle.meaning.proofs.Rows.{all}'] + [f'use Rattle.meaning.proofs.{name} as {name}' for name in names]
+    first, *more = wrapped(' ' * len('unfolding '), [n for words in opened.values() for n in words], ' ')
+    unfolding = ['unfolding ' + first.strip()] + [' ' * 4 + line.strip() for line in more]
+    proofs = [f'{name.lower()}-right' for name in names]
+    for name, proof in zip(names, proofs):
+        lines += ['', f'{proof} : T (all {name}.rows)', *unfolding, f'{proof} = tt']
     first, *more = wrapped(' ' * len('pub rows-right : '), [f'T (all {name}.rows)' for name in names], ' × ')
     lines += ['', 'pub rows-right : ' + first.strip()] + ['    × ' + line.strip() for line in more]
-    first, *more = wrapped(' ' * len('unfolding '), [n for words in opened.values() for n in words], ' ')
-    lines += ['unfolding ' + first.strip()] + [' ' * 4 + line.strip() for line in more]
-    lines += ['rows-right = (' + ', '.join('tt' for name in names) + ')']
+    lines += ['rows-right = ('] + [f'  {proof},' for proof in proofs] + [')']
     write('Tables', lines)
 
 
@@ -245,7 +273,8 @@ def main():
     table('PlaceRows', 'where reading a string stops.', 'places.tsv', [row(*r[1:9]) for r in read('places.tsv')])
     table('BlockRows', 'blocks of string literals read in one call.', 'blocks.tsv', list(block_rows()))
     table('DateRows', 'the day of a date literal, and of a number.', 'dates.tsv', [row(*r[1:9]) for r in read('dates.tsv')])
-    modules += ['Clarified', 'FormRows', 'PartRows', 'PlaceRows', 'BlockRows', 'DateRows']
+    table('PrintRows', 'radix numbers as decimal text, and the texts of their halves.', 'printing.tsv', list(print_rows()))
+    modules += ['Clarified', 'FormRows', 'PartRows', 'PlaceRows', 'BlockRows', 'DateRows', 'PrintRows']
     proof_of(modules[1:])
     modules += ['Tables'] + BY_HAND
     with open(os.path.join(PROOFS, 'Lib.antt'), 'w') as f:

@@ -10,6 +10,7 @@ pub mod PartRows
 pub mod PlaceRows
 pub mod BlockRows
 pub mod DateRows
+pub mod PrintRows
 pub mod Tables
 pub mod BlockLimits
 pub mod CalendarFacts

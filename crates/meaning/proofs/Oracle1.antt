@@ -48,7 +48,7 @@ rows =
     asks (string true) 4 "ã\u{80}\u{80}" "'('" "ã\u{80}\u{80}" (borrows 4 5 "(") ∷
     asks (string false) 4 "" "'\n\tK'" "" (borrows 1 4 "\n\tK") ∷
     asks (string false) 4 "" "'1\\'\\B'" "" (breaks 3 3) ∷
-    asks (string true) 4 "" "'1\\'\\B'" "" (cramped "1'B") ∷
+    asks (string true) 4 "" "'1\\'\\B'" "" (cramped 1 "1'B") ∷
     asks (string false) 4 "" "'\"''\\_'" "" (writes 1 "\"'\\_") ∷
     asks (string true) 4 "" "'\"''\\_'" "" (writes 0 "\"'\\_") ∷
     asks (string false) 4 "" "'_#('" "" (borrows 1 4 "_#(") ∷
@@ -68,10 +68,10 @@ rows =
     asks (string true) 4 "" "'''\\8'" "" (writes 0 "'8") ∷
     asks (string true) 4 "" "'''\\\\''U\\%'" "" (writes 5 "'\\'U\\%") ∷
     asks (string true) 4 "" "'u\0\\0'\\n'''" "" (breaks 3 0) ∷
-    asks (string false) 4 "" "'%''\\0'" "" (cramped "%'\\0") ∷
+    asks (string false) 4 "" "'%''\\0'" "" (cramped 1 "%'\\0") ∷
     asks (string false) 4 "" "'\\r'" "" (borrows 1 3 "\\r") ∷
     asks (string true) 4 "" "'\\r'" "" (writes 5 "\r") ∷
-    asks (string false) 4 "" "'''Ã©N'" "" (cramped "'Ã©N") ∷
+    asks (string false) 4 "" "'''Ã©N'" "" (cramped 1 "'Ã©N") ∷
     asks (string false) 4 "" "'N8''8('" "" (writes 0 "N8'8(") ∷
     asks (string true) 4 "" "'N8''8('" "" (writes 0 "N8'8(") ∷
     asks (string false) 4 "" "'í\u{9f}¿g+'" "" (borrows 1 6 "í\u{9f}¿g+") ∷
@@ -90,7 +90,7 @@ rows =
     asks (string false) 4 "\0" "'8\\f.\\T\"'" "" (borrows 2 9 "8\\f.\\T\"") ∷
     asks (string true) 4 "\0" "'8\\f.\\T\"'" "" (writes 0 "8f.T\"") ∷
     asks (string false) 4 "\0" "'%''\\\"'" "" (writes 0 "%'\\\"") ∷
-    asks (string true) 4 "\0" "'%''\\\"'" "" (cramped "%'\"") ∷
+    asks (string true) 4 "\0" "'%''\\\"'" "" (cramped 1 "%'\"") ∷
     asks (string false) 4 "" "'''â\u{80}¯Â\u{80}'''''" "" (writes 0 "'â\u{80}¯Â\u{80}''") ∷
     asks (string false) 4 "" "'Y'''''" "" (writes 0 "Y''") ∷
     asks (string true) 4 "" "'Y'''''" "" (writes 0 "Y''") ∷
@@ -100,7 +100,7 @@ rows =
     asks (string true) 4 "" "'''''\\R'" "" (writes 5 "''R") ∷
     asks (string false) 4 "\0" "'\"\\ð\u{9f}\u{98}\u{80}\\ZU'" "$$" (borrows 2 11 "\"\\ð\u{9f}\u{98}\u{80}\\ZU") ∷
     asks (string true) 4 "\0" "'\"\\ð\u{9f}\u{98}\u{80}\\ZU'" "$$" (writes 0 "\"ð\u{9f}\u{98}\u{80}\u{1a}U") ∷
-    asks (string true) 4 "" "'e\\x\u{7f}Â\u{80}bn'" "" (cramped "ex\u{7f}Â\u{80}bn") ∷
+    asks (string true) 4 "" "'e\\x\u{7f}Â\u{80}bn'" "" (cramped 1 "ex\u{7f}Â\u{80}bn") ∷
     asks (string false) 4 "" "'.\\'''''\"'" "$$" (breaks 3 8) ∷
     asks (string true) 4 "" "'.\\'''''\"'" "$$" (writes 5 ".'''\"") ∷
     asks (string false) 4 "" "'Ze,\0\\%\t'" "" (breaks 3 0) ∷
@@ -113,22 +113,22 @@ rows =
     asks (string true) 4 "" "'''\\')'" "" (writes 0 "'')") ∷
     asks (string true) 4 "" "'\"o'" "" (borrows 1 3 "\"o") ∷
     asks (string true) 4 "" "'''\\N\"!(\n'" "" (writes 1 "'N\"!(\n") ∷
-    asks (string false) 4 "" "'%''â\u{80}\u{8a})(1'" "" (cramped "%'â\u{80}\u{8a})(1") ∷
+    asks (string false) 4 "" "'%''â\u{80}\u{8a})(1'" "" (cramped 1 "%'â\u{80}\u{8a})(1") ∷
     asks (string true) 4 "" "'%''â\u{80}\u{8a})(1'" "" (writes 1 "%'â\u{80}\u{8a})(1") ∷
     asks (string false) 4 "" "'\0\\0ï¼\u{99}\\B\0F'" "" (breaks 3 0) ∷
-    asks (string true) 4 "" "'''uc\\Z'" "" (cramped "'uc\u{1a}") ∷
+    asks (string true) 4 "" "'''uc\\Z'" "" (cramped 1 "'uc\u{1a}") ∷
     asks (string true) 4 "" "'à\u{a0}\u{80}#%'" "" (borrows 1 6 "à\u{a0}\u{80}#%") ∷
     asks (string false) 4 "" "'''UY'" "" (writes 0 "'UY") ∷
-    asks (string true) 4 "1" "'U''\\_Zg'" "\0" (cramped "U'\\_Zg") ∷
+    asks (string true) 4 "1" "'U''\\_Zg'" "\0" (cramped 1 "U'\\_Zg") ∷
     asks (string false) 4 "" "'''g\0N;'" "" (breaks 3 0) ∷
     asks (string true) 4 "" "'''g\0N;'" "" (breaks 3 0) ∷
     asks (string false) 4 "" "'\\'\\n\\r''\\R\\T'" "" (breaks 3 2) ∷
     asks (string false) 4 "Ã©" "'u\\R\\ð\u{9f}\u{98}\u{80}$'" "= " (borrows 3 12 "u\\R\\ð\u{9f}\u{98}\u{80}$") ∷
     asks (string true) 4 "Ã©" "'u\\R\\ð\u{9f}\u{98}\u{80}$'" "= " (writes 5 "uRð\u{9f}\u{98}\u{80}$") ∷
-    asks (string false) 4 "x" "'|\\Tu\"'''" "ã\u{80}\u{80}" (cramped "|\\Tu\"'") ∷
+    asks (string false) 4 "x" "'|\\Tu\"'''" "ã\u{80}\u{80}" (cramped 1 "|\\Tu\"'") ∷
     asks (string false) 4 "" "'\\x'''''" "" (writes 1 "\\x''") ∷
-    asks (string true) 4 "" "'\\x'''''" "" (cramped "x''") ∷
-    asks (string true) 4 "" "'\\\"'''" "" (cramped "\"'") ∷
+    asks (string true) 4 "" "'\\x'''''" "" (cramped 1 "x''") ∷
+    asks (string true) 4 "" "'\\\"'''" "" (cramped 1 "\"'") ∷
     asks (string false) 4 "" "'9\n'" "" (borrows 1 3 "9\n") ∷
     asks (string true) 4 "" "'9\n'" "" (borrows 1 3 "9\n") ∷
     asks (string true) 4 "" "'e&+\"Â\u{80}'" "" (borrows 1 7 "e&+\"Â\u{80}") ∷
@@ -143,15 +143,15 @@ rows =
     asks (string true) 4 "'" "\"(\0\"\"î\u{80}\u{80}\\z\"" "" (breaks 3 0) ∷
     asks (string true) 4 "" "\"\\b\"\"ô\u{8f}¿¿\"" "" (writes 0 "\u{8}\"ô\u{8f}¿¿") ∷
     asks (string false) 4 "" "\"\\_xÃ©,1\\R\"" "\\" (borrows 1 10 "\\_xÃ©,1\\R") ∷
-    asks (string true) 4 "" "\"\\r\nGb\"" "1" (cramped "\r\nGb") ∷
+    asks (string true) 4 "" "\"\\r\nGb\"" "1" (cramped 1 "\r\nGb") ∷
     asks (string true) 4 "" "\"c\"" "" (borrows 1 2 "c") ∷
     asks (string false) 4 "" "\"'ZN\"\"" "" (breaks 3 4) ∷
     asks (string false) 4 "" "\"0\"" "" (borrows 1 2 "0") ∷
     asks (string true) 4 "" "\"0\"" "" (borrows 1 2 "0") ∷
     asks (string false) 4 "" "\"\0\\N\"" "= " (breaks 3 0) ∷
-    asks (string true) 4 "" "\"\\N\\e\"" "" (cramped "Ne") ∷
+    asks (string true) 4 "" "\"\\N\\e\"" "" (cramped 1 "Ne") ∷
     asks (string false) 4 "" "\"\"\"oE\"\"\"" "" (writes 0 "\"oE\"") ∷
-    asks (string false) 4 "" "\"\"\"#\\bGð\u{90}\u{80}\u{80}\"" "" (cramped "\"#\\bGð\u{90}\u{80}\u{80}") ∷
+    asks (string false) 4 "" "\"\"\"#\\bGð\u{90}\u{80}\u{80}\"" "" (cramped 1 "\"#\\bGð\u{90}\u{80}\u{80}") ∷
     asks (string true) 4 "" "\"\\\"\"\\\"FfÅ¿G\"" "" (breaks 3 3) ∷
     asks (string true) 4 "" "\"\r\"\"" "" (breaks 3 2) ∷
     asks (string true) 4 "" "\"\"\"'Na\"" "" (writes 0 "\"'Na") ∷
@@ -159,7 +159,7 @@ rows =
     asks (string false) 4 "" "\"ß¿\\ð\u{9f}\u{98}\u{80}\"" "" (borrows 1 8 "ß¿\\ð\u{9f}\u{98}\u{80}") ∷
     asks (string true) 4 "" "\"ß¿\\ð\u{9f}\u{98}\u{80}\"" "" (writes 1 "ß¿ð\u{9f}\u{98}\u{80}") ∷
     asks (string false) 4 "" "\"\\x%\"" "" (borrows 1 4 "\\x%") ∷
-    asks (string false) 4 "" "\"'\"\"ï¿¿\n9\"\"\"" "" (cramped "'\"ï¿¿\n9\"") ∷
+    asks (string false) 4 "" "\"'\"\"ï¿¿\n9\"\"\"" "" (cramped 1 "'\"ï¿¿\n9\"") ∷
     asks (string false) 4 "" "\"\\%\"\"Y\"" "" (writes 5 "\\%\"Y") ∷
     asks (string true) 4 "" "\"\\%\"\"Y\"" "" (writes 5 "\\%\"Y") ∷
     asks (string false) 4 "" "\"e\"\"ð\u{9f}\u{98}\u{80}#-\"" "" (writes 1 "e\"ð\u{9f}\u{98}\u{80}#-") ∷
@@ -170,14 +170,14 @@ rows =
     asks (string false) 4 "" "\"\\Bn9\\r\\_í\u{9f}¿\"" "" (borrows 1 12 "\\Bn9\\r\\_í\u{9f}¿") ∷
     asks (string false) 4 "" "\"\"\"f\"" "" (writes 5 "\"f") ∷
     asks (string false) 4 "" "\"\\\\\"" "" (borrows 1 3 "\\\\") ∷
-    asks (string true) 4 "" "\"\\\\\"" "" (cramped "\\") ∷
+    asks (string true) 4 "" "\"\\\\\"" "" (cramped 1 "\\") ∷
     asks (string false) 4 "" "\"\\\\ô\u{8f}¿¿\"" "" (borrows 1 7 "\\\\ô\u{8f}¿¿") ∷
-    asks (string true) 4 "" "\"\\\\ô\u{8f}¿¿\"" "" (cramped "\\ô\u{8f}¿¿") ∷
+    asks (string true) 4 "" "\"\\\\ô\u{8f}¿¿\"" "" (cramped 1 "\\ô\u{8f}¿¿") ∷
     asks (string false) 4 "\\" "\"fG\"\"\\0\0\"" "$$" (breaks 3 0) ∷
     asks (string true) 4 "" "\"\\xN\\%\"\\Ã©Y\"" "" (breaks 3 6) ∷
     asks (string false) 4 "" "\"\"\"g%\n\\\\\"\"\"" "" (writes 0 "\"g%\n\\\\\"") ∷
     asks (string true) 4 "" "\"\"\"g%\n\\\\\"\"\"" "" (writes 1 "\"g%\n\\\"") ∷
-    asks (string true) 4 "\0" "\"'%\"\"Å¿\\t\"" "" (cramped "'%\"Å¿\t") ∷
+    asks (string true) 4 "\0" "\"'%\"\"Å¿\\t\"" "" (cramped 1 "'%\"Å¿\t") ∷
     asks (string true) 4 "" "\"\"\"\"\"\"" "" (writes 5 "\"\"") ∷
     asks (string true) 4 "" "\"'\"" "" (borrows 1 2 "'") ∷
     asks (string false) 4 "" "\"'\\zG\"" "" (borrows 1 5 "'\\zG") ∷
@@ -192,7 +192,7 @@ rows =
     asks (string true) 4 "" "\"_N\"" "" (borrows 1 3 "_N") ∷
     asks (string false) 4 "$$" "\"'\\+\"" "ã\u{80}\u{80}" (borrows 3 6 "'\\+") ∷
     asks (string true) 4 "" "\"g\\ð\u{9f}\u{98}\u{80}\0xG\"" "ã\u{80}\u{80}" (breaks 3 0) ∷
-    asks (string true) 4 "" "\"#\"\"\"" "" (cramped "#\"") ∷
+    asks (string true) 4 "" "\"#\"\"\"" "" (cramped 1 "#\"") ∷
     asks (string true) 4 "" "\"\n\"\"e\\\"\"(9\"" "" (breaks 3 7) ∷
     asks (string true) 4 "'" "\"\\z\"" "$$" (writes 5 "z") ∷
     asks (string false) 4 "x" "\"\"\"\\n\\'\\f\"\"\"\"\"" "x" (writes 0 "\"\\n\\'\\f\"\"") ∷
@@ -205,23 +205,23 @@ rows =
     asks (string false) 4 "1" "\",\"\"+\\t;'\"" "" (writes 1 ",\"+\\t;'") ∷
     asks (string true) 4 "1" "\",\"\"+\\t;'\"" "" (writes 5 ",\"+\t;'") ∷
     asks (string true) 4 "" "\"Â\u{85}\"\"\\Z_\"" "" (writes 5 "Â\u{85}\"\u{1a}_") ∷
-    asks (string false) 4 "" "\"g\"\"f\\T\"" "" (cramped "g\"f\\T") ∷
-    asks (string true) 4 "" "\"g\"\"f\\T\"" "" (cramped "g\"fT") ∷
+    asks (string false) 4 "" "\"g\"\"f\\T\"" "" (cramped 1 "g\"f\\T") ∷
+    asks (string true) 4 "" "\"g\"\"f\\T\"" "" (cramped 1 "g\"fT") ∷
     asks (string false) 4 "" "\"\u{1}\0X\0\"\"\"" "" (breaks 3 0) ∷
     asks (string true) 4 "" "\"\u{1}\0X\0\"\"\"" "" (breaks 3 0) ∷
     asks (string true) 4 "1" "\"&a\"\"\"" "1" (writes 0 "&a\"") ∷
     asks (string true) 4 "" "\"\t'\"" "1" (borrows 1 3 "\t'") ∷
     asks (string false) 4 "\0" "\"\\\\'\"" "" (borrows 2 5 "\\\\'") ∷
     asks (string false) 4 "" "\"1F\\N/\\_\"" "" (borrows 1 8 "1F\\N/\\_") ∷
-    asks (string true) 4 "" "\"1F\\N/\\_\"" "" (cramped "1FN/\\_") ∷
+    asks (string true) 4 "" "\"1F\\N/\\_\"" "" (cramped 1 "1FN/\\_") ∷
     asks (string true) 4 "" "\"\\_\"" "" (writes 1 "\\_") ∷
-    asks (string false) 4 "" "\"\\Ã©\\x\"\"n\"\"\"" "" (cramped "\\Ã©\\x\"n\"") ∷
+    asks (string false) 4 "" "\"\\Ã©\\x\"\"n\"\"\"" "" (cramped 1 "\\Ã©\\x\"n\"") ∷
     asks (string true) 4 "" "\"\\Ã©\\x\"\"n\"\"\"" "" (writes 1 "Ã©x\"n\"") ∷
     asks (string true) 4 "" "\"X\\z$\"" "" (writes 0 "Xz$") ∷
     asks (string true) 4 "" "\"\"\"(\"" "" (writes 5 "\"(") ∷
     asks (string false) 4 "" "\"\\r\\x\"" "" (borrows 1 5 "\\r\\x") ∷
     asks (string true) 4 "" "\"\\r\\x\"" "" (writes 1 "\rx") ∷
-    asks (string false) 4 "" "\"\"\"a+\\Z\"" "" (cramped "\"a+\\Z") ∷
+    asks (string false) 4 "" "\"\"\"a+\\Z\"" "" (cramped 1 "\"a+\\Z") ∷
     asks (string true) 4 "" "\"\"\"a+\\Z\"" "" (writes 1 "\"a+\u{1a}") ∷
     asks (string true) 4 "" "\"\\f\\\"\"" "" (writes 0 "f\"") ∷
     asks (string false) 4 "" "\"\t\"" "" (borrows 1 2 "\t") ∷
@@ -238,7 +238,7 @@ rows =
     asks (string false) 4 "" "\")\\ð\u{9f}\u{98}\u{80}\"" "" (borrows 1 7 ")\\ð\u{9f}\u{98}\u{80}") ∷
     asks (string false) 4 "" "\"8!\"" "" (borrows 1 3 "8!") ∷
     asks (string false) 4 "" "\"\"\"\\Bâ\u{80}\u{80}E\\\"%\"" "" (breaks 3 10) ∷
-    asks (string true) 4 "" "\"\"\"\\Bâ\u{80}\u{80}E\\\"%\"" "" (cramped "\"Bâ\u{80}\u{80}E\"%") ∷
+    asks (string true) 4 "" "\"\"\"\\Bâ\u{80}\u{80}E\\\"%\"" "" (cramped 1 "\"Bâ\u{80}\u{80}E\"%") ∷
     asks (string false) 4 "" "\"\\\"\\Ã©\\z\"" "" (breaks 3 2) ∷
     asks (string true) 4 "" "\"\\\"\\Ã©\\z\"" "" (writes 1 "\"Ã©z") ∷
     asks (string true) 4 "" "\"\\ru\\\"\"" "" (writes 1 "\ru\"") ∷
@@ -251,7 +251,7 @@ rows =
     asks (string false) 4 "" "E''" "" (borrows 2 2 "") ∷
     asks (string false) 4 "" "e'\\4770\\1778'" "ã\u{80}\u{80}" (writes 5 "?0\u{7f}8") ∷
     asks (string false) 4 "" "E'\\101g\\x00g\\u0000'" "" (breaks 3 7) ∷
-    asks (string false) 4 "" "e'\\u07FFX\\%'''" "" (cramped "ß¿X%'") ∷
+    asks (string false) 4 "" "e'\\u07FFX\\%'''" "" (cramped 1 "ß¿X%'") ∷
     asks (string true) 4 "" "e'\\u07FFX\\%'''" "" (writes 0 "ß¿X%'") ∷
     asks (string false) 4 "x" "E'\\U00000000'" "1" (breaks 3 2) ∷
     asks (string true) 4 "x" "E'\\U00000000'" "1" (breaks 3 2) ∷
@@ -265,7 +265,7 @@ rows =
     asks (string true) 4 "" "E'\u{7f}'" "" (borrows 2 3 "\u{7f}") ∷
     asks (string false) 4 "1" "e'\\x414'" "" (writes 0 "A4") ∷
     asks (string true) 4 "'" "E'\\x01'" "ã\u{80}\u{80}" (writes 0 "\u{1}") ∷
-    asks (string false) 4 "\0" "E'\\4018\\4018'" "\\" (cramped "\u{1}8\u{1}8") ∷
+    asks (string false) 4 "\0" "E'\\4018\\4018'" "\\" (cramped 1 "\u{1}8\u{1}8") ∷
     asks (string true) 4 "\0" "E'\\4018\\4018'" "\\" (writes 0 "\u{1}8\u{1}8") ∷
     asks (string false) 4 "\0" "E'\t'" "= " (borrows 3 4 "\t") ∷
     asks (string true) 4 "" "E'\\x04g\"'" "" (writes 0 "\u{4}g\"") ∷
@@ -279,7 +279,7 @@ rows =
     asks (string false) 4 "Ã©" "e'\\uf600\\U0000DffF'\\f'" "" (breaks 3 8) ∷
     asks (string true) 4 "Ã©" "e'\\uf600\\U0000DffF'\\f'" "" (breaks 3 8) ∷
     asks (string true) 4 "" "E'''\"'" "'" (writes 5 "'\"") ∷
-    asks (string true) 4 "" "E'\\Ã©'" "" (cramped "Ã©") ∷
+    asks (string true) 4 "" "E'\\Ã©'" "" (cramped 1 "Ã©") ∷
     asks (string false) 4 "" "E'\\360\\237\\x98'" "" (breaks 3 14) ∷
     asks (string false) 4 "" "e'''\\37709\\uFFfg'" "" (breaks 3 4) ∷
     asks (string true) 4 "" "e'''\\37709\\uFFfg'" "" (breaks 3 4) ∷
@@ -287,18 +287,18 @@ rows =
     asks (string false) 4 "" "E''''" "" (writes 0 "'") ∷
     asks (string false) 4 "" "E'\\u0027$'" "" (writes 1 "'$") ∷
     asks (string false) 4 "" "E'|\\\"'" "" (writes 5 "|\"") ∷
-    asks (string true) 4 "" "e'\\n '" "" (cramped "\n ") ∷
+    asks (string true) 4 "" "e'\\n '" "" (cramped 1 "\n ") ∷
     asks (string false) 4 "\\" "E'\u{1}\\xE0\\x9f\\277\\x!'" "'" (breaks 3 7) ∷
     asks (string true) 4 "\\" "E'\u{1}\\xE0\\x9f\\277\\x!'" "'" (breaks 3 7) ∷
     asks (string true) 4 "" "e'e\\08F\"'" "" (breaks 3 3) ∷
     asks (string false) 4 "" "E'\\U00000027'" "" (writes 0 "'") ∷
-    asks (string false) 4 "" "E'0\\x414\\r\"'" "" (cramped "0A4\r\"") ∷
+    asks (string false) 4 "" "E'0\\x414\\r\"'" "" (cramped 1 "0A4\r\"") ∷
     asks (string false) 4 "'" "E'\\u0000'" "Ã©" (breaks 3 2) ∷
     asks (string true) 4 "'" "E'\\u0000'" "Ã©" (breaks 3 2) ∷
     asks (string false) 4 "" "e'\\251g\\uDfff'" "" (breaks 3 2) ∷
     asks (string true) 4 "" "e'\\251g\\uDfff'" "" (breaks 3 2) ∷
     asks (string true) 4 "" "E'\\x4g''\\x41f\\u'" "" (breaks 3 13) ∷
-    asks (string true) 4 "\\" "e'\\401g'" "\0" (cramped "\u{1}g") ∷
+    asks (string true) 4 "\\" "e'\\401g'" "\0" (cramped 1 "\u{1}g") ∷
     asks (string true) 4 "" "e'\\x00g\\xc3\\U00000027'" "" (breaks 3 2) ∷
     asks (string true) 4 "" "E'\\xC1\\277\\x7f'" "" (breaks 3 2) ∷
     asks (string false) 4 "" "e'\\xA9\\x80'''" "" (breaks 3 2) ∷
@@ -332,7 +332,7 @@ rows =
     asks (string false) 4 "" "E'\\\0('''" "" (breaks 3 0) ∷
     asks (string false) 4 "" "e'\\x41f\\u0000\\12\\401'" "" (breaks 3 7) ∷
     asks (string false) 4 "" "e'$X9\\u0800'" "" (writes 0 "$X9à\u{a0}\u{80}") ∷
-    asks (string true) 4 "" "e'$X9\\u0800'" "" (cramped "$X9à\u{a0}\u{80}") ∷
+    asks (string true) 4 "" "e'$X9\\u0800'" "" (cramped 1 "$X9à\u{a0}\u{80}") ∷
     asks (string false) 4 "" "E'\\xf0\\237\\x98'" "" (breaks 3 14) ∷
     asks (string true) 4 "ã\u{80}\u{80}" "e'\\X\\X\\x80\\xC3'" "1" (breaks 3 6) ∷
     asks (string false) 4 "= " "e'\\360\\x9F\\x98\\x80'" "Ã©" (writes 5 "ð\u{9f}\u{98}\u{80}") ∷
@@ -343,16 +343,16 @@ rows =
     asks (string false) 4 "ã\u{80}\u{80}" "e'g'" "1" (borrows 5 6 "g") ∷
     asks (string true) 4 "ã\u{80}\u{80}" "e'g'" "1" (borrows 5 6 "g") ∷
     asks (string false) 4 "= " "E'8\\12g'" "1" (writes 5 "8\ng") ∷
-    asks (string true) 4 "= " "E'8\\12g'" "1" (cramped "8\ng") ∷
+    asks (string true) 4 "= " "E'8\\12g'" "1" (cramped 1 "8\ng") ∷
     asks (string false) 4 "" "E'\\Z\\0008'" "" (breaks 3 4) ∷
     asks (string true) 4 "" "E'\\Z\\0008'" "" (breaks 3 4) ∷
-    asks (string true) 4 "'" "E'$\\\\'" "\0" (cramped "$\\") ∷
+    asks (string true) 4 "'" "E'$\\\\'" "\0" (cramped 1 "$\\") ∷
     asks (string false) 4 "" "E'\\U\\401'" "" (breaks 3 2) ∷
     asks (string true) 4 "" "E'\\U\\401'" "" (breaks 3 2) ∷
     asks (string true) 4 "" "E'\\xE2\\x82\\xacY\\x7f'" "" (writes 5 "â\u{82}¬Y\u{7f}") ∷
     asks (string true) 4 "" "e'\\U0000007F'" "x" (writes 1 "\u{7f}") ∷
     asks (string false) 4 "" "e'''\\012''" "" (breaks 3 8) ∷
-    asks (string false) 4 "" "e''''" "" (cramped "'") ∷
+    asks (string false) 4 "" "e''''" "" (cramped 1 "'") ∷
     asks (string true) 4 "" "e'\\xf4\\x90\\x80\\200\\''" "" (breaks 3 6) ∷
     asks (string false) 4 "" "e'\\x00'" "" (breaks 3 2) ∷
     asks (string false) 4 "" "e'\\3770\\U00000000'" "" (breaks 3 2) ∷
@@ -365,7 +365,7 @@ rows =
     asks (string false) 4 "" "e'\\v'" "" (writes 1 "v") ∷
     asks (string false) 4 "" "E'\\xEd\\x9f\\xBf\\007%'''" "" (writes 5 "í\u{9f}¿\u{7}%'") ∷
     asks (string false) 4 "" "e'\\X'" "" (writes 5 "X") ∷
-    asks (string false) 4 "" "e'\\ufFFF8\\_'" "" (cramped "ï¿¿8_") ∷
+    asks (string false) 4 "" "e'\\ufFFF8\\_'" "" (cramped 1 "ï¿¿8_") ∷
     asks (string true) 4 "" "E'\\xFF4\\x4'" "" (breaks 3 2) ∷
     asks (string true) 4 "" "E'a'" "" (borrows 2 3 "a") ∷
     asks (string false) 4 "" "e'\\303e\\'" "" (breaks 3 6) ∷
@@ -384,7 +384,7 @@ rows =
     asks (string false) 4 "" "E'\\x0U'" "" (breaks 3 2) ∷
     asks (string false) 4 "" "e'\"c'" "" (borrows 2 4 "\"c") ∷
     asks (string true) 4 "" "e'\"c'" "" (borrows 2 4 "\"c") ∷
-    asks (string false) 4 "" "e'\\0120'" "" (cramped "\n0") ∷
+    asks (string false) 4 "" "e'\\0120'" "" (cramped 1 "\n0") ∷
     asks (string true) 4 "" "e'\\0120'" "" (writes 0 "\n0") ∷
     asks (string true) 4 "" "E'\\ue00g\"''\\303'" "" (breaks 3 2) ∷
     asks (string false) 4 "\0" "E'\"\r'" "1" (borrows 3 5 "\"\r") ∷
@@ -396,7 +396,7 @@ rows =
     asks (string false) 4 "" "E'\\x7F4''\\u'" "" (breaks 3 9) ∷
     asks (string false) 4 "" "e'\\251'" "" (breaks 3 2) ∷
     asks (string false) 4 "" "e'\\U0000007f'" "" (writes 0 "\u{7f}") ∷
-    asks (string true) 4 "" "e'\\U0000007f'" "" (cramped "\u{7f}") ∷
+    asks (string true) 4 "" "e'\\U0000007f'" "" (cramped 1 "\u{7f}") ∷
     asks (string true) 4 "" "E'''\\x41g\\x0'" "" (breaks 3 9) ∷
     asks (string false) 4 "$$" "e'\\x41'" "1" (writes 0 "A") ∷
     asks (string false) 4 "" "E'\\U000007fF'''" "" (writes 0 "ß¿'") ∷
@@ -404,7 +404,7 @@ rows =
     asks (string false) 4 "" "E'\\x7F''\\177\\xE0\\240\\x80'" "\0" (writes 0 "\u{7f}'\u{7f}à\u{a0}\u{80}") ∷
     asks (string false) 4 "" "E'\0\\U00000001''c'" "" (breaks 3 0) ∷
     asks (string true) 4 "" "E'\0\\U00000001''c'" "" (breaks 3 0) ∷
-    asks (string true) 4 "\0" "e'''\\012g'" "" (cramped "'\ng") ∷
+    asks (string true) 4 "\0" "e'''\\012g'" "" (cramped 1 "'\ng") ∷
     asks (string true) 4 "" "E'%''\\xFF4'" "" (breaks 3 5) ∷
     asks (string false) 4 "ã\u{80}\u{80}" "E'\\x0\\70X'" "" (breaks 3 2) ∷
     asks (string true) 4 "ã\u{80}\u{80}" "E'\\x0\\70X'" "" (breaks 3 2) ∷
@@ -419,20 +419,20 @@ rows =
     asks (string false) 4 "" "e'\\303\\251'" "" (writes 0 "Ã©") ∷
     asks (string false) 4 "" "e'\\u0000'" "" (breaks 3 2) ∷
     asks (string true) 4 "" "e'\\3770\0'" "" (breaks 3 0) ∷
-    asks (string true) 4 "" "e'\\'\u{1}'" "" (cramped "'\u{1}") ∷
+    asks (string true) 4 "" "e'\\'\u{1}'" "" (cramped 1 "'\u{1}") ∷
     asks (string false) 4 "" "E'\\x80\\xC3g\\1011'" "" (breaks 3 2) ∷
     asks (string true) 4 "" "E'\\x80\\xC3g\\1011'" "" (breaks 3 2) ∷
     asks (string false) 4 "" "E'\\xC3'" "" (breaks 3 6) ∷
     asks (string false) 4 "" "E'\\001''\\377g'" "" (breaks 3 8) ∷
     asks (string true) 4 "" "e'\\xff'" "" (breaks 3 2) ∷
-    asks (string false) 4 "" "E'\\N\\128'" "" (cramped "N\n8") ∷
+    asks (string false) 4 "" "E'\\N\\128'" "" (cramped 1 "N\n8") ∷
     asks (string false) 4 "" "e'\\u0080\\f'" "" (writes 0 "Â\u{80}\u{c}") ∷
-    asks (string true) 4 "" "E'ð\u{90}\u{80}\u{80}'''" "" (cramped "ð\u{90}\u{80}\u{80}'") ∷
+    asks (string true) 4 "" "E'ð\u{90}\u{80}\u{80}'''" "" (cramped 1 "ð\u{90}\u{80}\u{80}'") ∷
     asks (string false) 4 "ã\u{80}\u{80}" "E'\\120\\4008'" "Ã©" (breaks 3 6) ∷
     asks (string true) 4 "" "E'\\ufFFF\\uD7\\x0'" "" (breaks 3 8) ∷
-    asks (string false) 4 "" "E'\\Ã©\\\\;\\xc3\\xA9'" "" (cramped "Ã©\\;Ã©") ∷
+    asks (string false) 4 "" "E'\\Ã©\\\\;\\xc3\\xA9'" "" (cramped 1 "Ã©\\;Ã©") ∷
     asks (string false) 4 "" "E'''8Â\u{80}'" "" (writes 1 "'8Â\u{80}") ∷
-    asks (string false) 4 "" "e'\\x014%Ã\u{9f}'" "" (cramped "\u{1}4%Ã\u{9f}") ∷
+    asks (string false) 4 "" "e'\\x014%Ã\u{9f}'" "" (cramped 1 "\u{1}4%Ã\u{9f}") ∷
     asks (string true) 4 "" "E'\\0010'" "" (writes 0 "\u{1}0") ∷
     asks (string true) 4 "'" "E'\\777'''" "'" (breaks 3 2) ∷
     asks (string false) 4 "" "n''" "ã\u{80}\u{80}" (borrows 2 2 "") ∷
@@ -457,13 +457,13 @@ rows =
     asks (string false) 4 "" "N'\\x\08e'" "" (breaks 3 0) ∷
     asks (string true) 4 "" "N'\\x\08e'" "" (breaks 3 0) ∷
     asks (string true) 4 "" "N'\\''" "" (writes 0 "'") ∷
-    asks (string false) 4 "" "N'\"g''''ï¼\u{99}'" "" (cramped "\"g''ï¼\u{99}") ∷
+    asks (string false) 4 "" "N'\"g''''ï¼\u{99}'" "" (cramped 1 "\"g''ï¼\u{99}") ∷
     asks (string false) 4 "" "N'\\'''à\u{a0}\u{80} \"'" "" (breaks 3 5) ∷
     asks (string true) 4 "" "N'\\'''à\u{a0}\u{80} \"'" "" (writes 1 "''à\u{a0}\u{80} \"") ∷
     asks (string false) 4 "" "N'''-'' \u{7f}'" "" (writes 1 "'-' \u{7f}") ∷
     asks (string true) 4 "" "N'''-'' \u{7f}'" "" (writes 0 "'-' \u{7f}") ∷
     asks (string false) 4 "" "n'\\r-0'" "" (borrows 2 6 "\\r-0") ∷
-    asks (string true) 4 "" "n'\\r-0'" "" (cramped "\r-0") ∷
+    asks (string true) 4 "" "n'\\r-0'" "" (cramped 1 "\r-0") ∷
     asks (string false) 4 "" "n''\\t\\%'" "" (breaks 3 2) ∷
     asks (string true) 4 "" "n''\\t\\%'" "" (breaks 3 2) ∷
     asks (string false) 4 "'" "n'\\'1\\'\u{7f}\0'" "= " (breaks 3 0) ∷
@@ -475,7 +475,7 @@ rows =
     asks (string true) 4 "" "N'a\\f'" "" (writes 1 "af") ∷
     asks (string false) 4 "'" "n'\\BÃ\u{9f}\"\u{7f}'" "= " (borrows 3 9 "\\BÃ\u{9f}\"\u{7f}") ∷
     asks (string false) 4 "" "N'í\u{9f}¿\\8'" "" (borrows 2 7 "í\u{9f}¿\\8") ∷
-    asks (string true) 4 "" "N'í\u{9f}¿\\8'" "" (cramped "í\u{9f}¿8") ∷
+    asks (string true) 4 "" "N'í\u{9f}¿\\8'" "" (cramped 1 "í\u{9f}¿8") ∷
     asks (string false) 4 "" "N'9\\\"'' '" "" (writes 0 "9\\\"' ") ∷
     asks (string true) 4 "" "N'9\\\"'' '" "" (writes 5 "9\"' ") ∷
     asks (string false) 4 "\\" "n'e''''" "1" (breaks 3 5) ∷
@@ -489,7 +489,7 @@ rows =
     asks (string false) 4 "" "n'.Z'" "" (borrows 2 4 ".Z") ∷
     asks (string true) 4 "" "n'\\'''#'" "1" (writes 1 "''#") ∷
     asks (string false) 4 "" "n'ð\u{9f}\u{98}\u{80}\t\\z'" "" (borrows 2 9 "ð\u{9f}\u{98}\u{80}\t\\z") ∷
-    asks (string false) 4 "1" "N''''" "$$" (cramped "'") ∷
+    asks (string false) 4 "1" "N''''" "$$" (cramped 1 "'") ∷
     asks (string true) 4 "" "n'''\\Ã©'' \\'" "" (writes 5 "'Ã©' \\") ∷
     asks (string true) 4 "" "n'\\0\\f\\''\"'" "" (breaks 3 9) ∷
     asks (string false) 4 "" "n',1Z\\R'" "" (borrows 2 7 ",1Z\\R") ∷
@@ -501,7 +501,7 @@ rows =
     asks (string true) 4 "" "n'''./'" "" (writes 1 "'./") ∷
     asks (string false) 4 "" "n'/x'" "" (borrows 2 4 "/x") ∷
     asks (string true) 4 "" "n'E'" "" (borrows 2 3 "E") ∷
-    asks (string true) 4 "" "N'\\Z\"'" "" (cramped "\u{1a}\"") ∷
+    asks (string true) 4 "" "N'\\Z\"'" "" (cramped 1 "\u{1a}\"") ∷
     asks (string false) 4 "'" "n'ô\u{8f}¿¿\\'" "\0" (borrows 3 8 "ô\u{8f}¿¿\\") ∷
     asks (string true) 4 "'" "n'ô\u{8f}¿¿\\'" "\0" (writes 1 "ô\u{8f}¿¿\\") ∷
     asks (string false) 4 "" "n'x'" "" (borrows 2 3 "x") ∷
@@ -518,7 +518,7 @@ rows =
     asks (string true) 4 "" "_a'X'" "" (borrows 3 4 "X") ∷
     asks (string true) 4 "\0" "_0''" "" (borrows 4 4 "") ∷
     asks (string false) 4 "" "_z9'N\\''" "" (breaks 3 6) ∷
-    asks (string true) 4 "" "_binary\"11\\f\\8\"" "'" (cramped "11f8") ∷
+    asks (string true) 4 "" "_binary\"11\\f\\8\"" "'" (cramped 1 "11f8") ∷
     asks (string false) 4 "x" "_B_2'\u{7f}9'" "" (borrows 6 8 "\u{7f}9") ∷
     asks (string false) 4 "" "_Z'à\u{a0}\u{80}\\f\\â\u{80}\u{8a}'" "" (borrows 3 12 "à\u{a0}\u{80}\\f\\â\u{80}\u{8a}") ∷
     asks (string false) 4 "" "_z9'!\\('" "" (borrows 4 7 "!\\(") ∷
@@ -532,7 +532,7 @@ rows =
     asks (string true) 4 "" "_Utf8'e'" "" (borrows 6 7 "e") ∷
     asks (string false) 4 "" "_latin1\"\"" "" (borrows 8 8 "") ∷
     asks (string false) 4 "" "_B_2'à\u{a0}\u{80}\"F'" "" (borrows 5 10 "à\u{a0}\u{80}\"F") ∷
-    asks (string true) 4 "" "_z9\"\"\"\"" "" (cramped "\"") ∷
+    asks (string true) 4 "" "_z9\"\"\"\"" "" (cramped 1 "\"") ∷
     asks (string false) 4 "\0" "_utf8mb4\"\\x\"\"\\N\"\"|\"" "" (writes 0 "\\x\"\\N\"|") ∷
     asks (string true) 4 "\0" "_utf8mb4\"\\x\"\"\\N\"\"|\"" "" (writes 0 "x\"N\"|") ∷
     asks (string true) 4 "" "_latin1'\\b'" "" (writes 0 "\u{8}") ∷
@@ -542,4 +542,4 @@ rows =
     asks (string true) 4 "" "_latin1'\n'% #'" "" (breaks 3 9) ∷
     asks (string false) 4 "Ã©" "_z9'\"_'" "$$" (borrows 6 8 "\"_") ∷
     asks (string true) 4 "" "__'x\\n'" "" (writes 5 "x\n") ∷
-    asks (string true) 4 "" "_a\"\"\"\"" "" (cramped "\"") ∷ []
+    asks (string true) 4 "" "_a\"\"\"\"" "" (cramped 1 "\"") ∷ []

@@ -24,13 +24,13 @@ rows =
     asks (string false) 4 "" "_\";\\N\"\\_\\z\"" "" (breaks 3 0) ∷
     asks (string false) 4 "" "_a-b'\u{7f}('" "" (breaks 3 0) ∷
     asks (string true) 4 "" "_a-b'\u{7f}('" "" (breaks 3 0) ∷
-    asks (string false) 4 "" "_B_2'ð\u{90}\u{80}\u{80}''Z''|'" "" (cramped "ð\u{90}\u{80}\u{80}'Z'|") ∷
+    asks (string false) 4 "" "_B_2'ð\u{90}\u{80}\u{80}''Z''|'" "" (cramped 1 "ð\u{90}\u{80}\u{80}'Z'|") ∷
     asks (string true) 4 "" "_B_2'ð\u{90}\u{80}\u{80}''Z''|'" "" (writes 5 "ð\u{90}\u{80}\u{80}'Z'|") ∷
     asks (string false) 4 "" "_z9'\\%\\ð\u{9f}\u{98}\u{80}u'" "" (borrows 4 12 "\\%\\ð\u{9f}\u{98}\u{80}u") ∷
     asks (string false) 4 "" "_ï½\u{81}'\\t\\0 \0" "" (breaks 3 0) ∷
     asks (string false) 4 "x" "_A\"f'\"\"\"" "1" (writes 5 "f'\"") ∷
     asks (string true) 4 "x" "_A\"f'\"\"\"" "1" (writes 1 "f'\"") ∷
-    asks (string true) 4 "" "_0'''\n\"\\8'" "" (cramped "'\n\"8") ∷
+    asks (string true) 4 "" "_0'''\n\"\\8'" "" (cramped 1 "'\n\"8") ∷
     asks (string true) 4 "" "_Utf8'-\\'n\\N''" "" (breaks 3 12) ∷
     asks (string false) 4 "" "__\"x" "" (breaks 3 0) ∷
     asks (string true) 4 "" "__\"x" "" (breaks 3 0) ∷
@@ -62,7 +62,7 @@ rows =
     asks (string false) 4 "" "u&'\u{7f}'" "" (borrows 3 4 "\u{7f}") ∷
     asks (string true) 4 "" "u&'\u{7f}'" "" (borrows 3 4 "\u{7f}") ∷
     asks (string true) 4 "ã\u{80}\u{80}" "u&'\\D800'" "'" (breaks 3 3) ∷
-    asks (string true) 4 "" "u&'Y\\\\\\007f'â\u{80}\u{8a}" "" (cramped "Y\\\u{7f}") ∷
+    asks (string true) 4 "" "u&'Y\\\\\\007f'â\u{80}\u{8a}" "" (cramped 1 "Y\\\u{7f}") ∷
     asks (string true) 4 "" "u&'\"\\DbfF \\E000'" "" (breaks 3 4) ∷
     asks (string false) 4 "= " "U&''" "ã\u{80}\u{80}" (borrows 5 5 "") ∷
     asks (string true) 4 "= " "U&''" "ã\u{80}\u{80}" (borrows 5 5 "") ∷
@@ -81,7 +81,7 @@ rows =
     asks (string false) 4 "= " "u&'\\dBfF\\e000'" "Ã©" (breaks 3 3) ∷
     asks (string true) 4 "= " "u&'\\dBfF\\e000'" "Ã©" (breaks 3 3) ∷
     asks (string false) 4 "" "u&'\\+\\\\X\\+00D7Ff'" "" (breaks 3 3) ∷
-    asks (string true) 4 "'" "U&'\\\\'" "= " (cramped "\\") ∷
+    asks (string true) 4 "'" "U&'\\\\'" "= " (cramped 1 "\\") ∷
     asks (string false) 4 "" "U&'Y\\+00005cg'" "1" (writes 0 "Y\\g") ∷
     asks (string true) 4 "" "U&'\\007fg\\00271\"'" "" (writes 5 "\u{7f}g'1\"") ∷
     asks (string false) 4 "" "U&'\\00'\\+110000g\\\\'" "" (breaks 3 0) ∷
@@ -94,7 +94,7 @@ rows =
     asks (string true) 4 "" "U&'\\DbfF\\D800'" "Ã©" (breaks 3 3) ∷
     asks (string true) 4 "" "U&'' " "" (borrows 3 3 "") ∷
     asks (string false) 4 "" "U&'\"\\D800g\\0080'" "" (breaks 3 4) ∷
-    asks (string false) 4 "Ã©" "u&'b''g'" "\0" (cramped "b'g") ∷
+    asks (string false) 4 "Ã©" "u&'b''g'" "\0" (cramped 1 "b'g") ∷
     asks (string true) 4 "Ã©" "u&'b''g'" "\0" (writes 5 "b'g") ∷
     asks (string false) 4 "Ã©" "u&'\\\\\\x\u{1}â\u{80}\u{8a}'  " "x" (breaks 3 5) ∷
     asks (string true) 4 "Ã©" "u&'\\\\\\x\u{1}â\u{80}\u{8a}'  " "x" (breaks 3 5) ∷
@@ -119,16 +119,16 @@ rows =
     asks (string true) 4 "" "U&'\u{7f}''\\\\'" "" (writes 0 "\u{7f}'\\") ∷
     asks (string false) 4 "" "u&'\\\\'" "" (writes 0 "\\") ∷
     asks (string true) 4 "" "u&'\\\\'" "" (writes 0 "\\") ∷
-    asks (string true) 4 "" "U&'\\+0007fF\\DbFf\\dE00'" "" (cramped "ß¿ô\u{8f}¸\u{80}") ∷
+    asks (string true) 4 "" "U&'\\+0007fF\\DbFf\\dE00'" "" (cramped 1 "ß¿ô\u{8f}¸\u{80}") ∷
     asks (string true) 4 "" "U&'\\+000080'" "" (writes 0 "Â\u{80}") ∷
     asks (string true) 4 "\\" "U&'\\DFFfg'" "Ã©" (breaks 3 3) ∷
     asks (string true) 4 "" "u&'\\DfFFg\u{1}'" "" (breaks 3 3) ∷
     asks (string true) 4 "" "U&'''\"\\\\ '" "" (writes 0 "'\"\\ ") ∷
-    asks (string true) 4 "" "U&'''/''\\\\'á\u{9a}\u{80}" "" (cramped "'/'\\") ∷
+    asks (string true) 4 "" "U&'''/''\\\\'á\u{9a}\u{80}" "" (cramped 1 "'/'\\") ∷
     asks (string false) 4 "" "u&'\\\\\\d800\\D800'''" "" (breaks 3 5) ∷
     asks (string true) 4 "" "u&'\\\\\\d800\\D800'''" "" (breaks 3 5) ∷
     asks (string true) 4 "" "U&'\\\\/\\0041\\D7fFg'" "" (writes 1 "\\/Aí\u{9f}¿g") ∷
-    asks (string false) 4 "" "u&'''\u{7f}'" "" (cramped "'\u{7f}") ∷
+    asks (string false) 4 "" "u&'''\u{7f}'" "" (cramped 1 "'\u{7f}") ∷
     asks (string false) 4 "" "u&'\\+0041'" "" (breaks 3 3) ∷
     asks (string true) 4 "" "u&'\\+0041'" "" (breaks 3 3) ∷
     asks (string true) 4 "" "U&'\\+000080-\\+00d7Ff%'" "" (writes 5 "Â\u{80}-í\u{9f}¿%") ∷
@@ -151,20 +151,20 @@ rows =
     asks (string true) 4 "" "U&'\\0800' " "" (writes 0 "à\u{a0}\u{80}") ∷
     asks (string true) 4 "\0" "u&'\\Ffff''\\\\\\\\'" "\0" (writes 0 "ï¿¿'\\\\") ∷
     asks (string false) 4 "" "u&'\\D83D\\dc00''\u{1}'" "" (writes 0 "ð\u{9f}\u{90}\u{80}'\u{1}") ∷
-    asks (string true) 4 "" "u&'\\D83D\\dc00''\u{1}'" "" (cramped "ð\u{9f}\u{90}\u{80}'\u{1}") ∷
+    asks (string true) 4 "" "u&'\\D83D\\dc00''\u{1}'" "" (cramped 1 "ð\u{9f}\u{90}\u{80}'\u{1}") ∷
     asks (string true) 4 "" "u&'\n\\d800\\D800\\dfff'" "" (breaks 3 4) ∷
     asks (string false) 4 "= " "U&''''''" "" (writes 0 "''") ∷
     asks (string false) 4 "" "u&'E'" "ã\u{80}\u{80}" (borrows 3 4 "E") ∷
     asks (string true) 4 "" "u&'E'" "ã\u{80}\u{80}" (borrows 3 4 "E") ∷
     asks (string false) 4 "" "u&'\\0000\\D83D\\DFFF'" "" (breaks 3 3) ∷
     asks (string false) 4 "" "u&'''U'" "" (writes 0 "'U") ∷
-    asks (string true) 4 "= " "U&'\\07ff'" "" (cramped "ß¿") ∷
+    asks (string true) 4 "= " "U&'\\07ff'" "" (cramped 1 "ß¿") ∷
     asks (string false) 4 "" "u&''''" "" (writes 0 "'") ∷
     asks (string false) 4 "= " "u&'\\DBfF \\+00dfFf'" "= " (breaks 3 3) ∷
     asks (string false) 4 "" "u&'\\FFFF'" "" (writes 0 "ï¿¿") ∷
     asks (string true) 4 "" "u&'\\FFFF'" "" (writes 0 "ï¿¿") ∷
     asks (string true) 4 "" "u&'\0\\004''!' â\u{80}¨" "" (breaks 3 0) ∷
-    asks (string true) 4 "" "U&'\\d7ff\\ffffg'" "Ã©" (cramped "í\u{9f}¿ï¿¿g") ∷
+    asks (string true) 4 "" "U&'\\d7ff\\ffffg'" "Ã©" (cramped 1 "í\u{9f}¿ï¿¿g") ∷
     asks (string true) 4 "" "u&'\"'" "" (borrows 3 4 "\"") ∷
     asks (string false) 4 "" "U&'''" "" (breaks 3 0) ∷
     asks (string false) 4 "" "u&'\\+00007F\\DffF\"'" "" (breaks 3 11) ∷
@@ -240,7 +240,7 @@ rows =
     asks (string true) 4 "" "u&'F'â\u{80}© uesCAPEÂ\u{85}ã\u{80}\u{80}' '" "" (breaks 3 0) ∷
     asks (string true) 4 "" "u&'\\''' UesCaPEâ\u{80}\u{8b}\"'\"" "" (breaks 3 0) ∷
     asks (string true) 4 "= " "u&''  uesCaPEá\u{9a}\u{80}'$'" "Ã©" (borrows 5 5 "") ∷
-    asks (string false) 4 "" "u&'!!!+00D7FF1'â\u{80}\u{8a}Â\u{85}ueScapeÂ\u{85}'!'" "" (cramped "!í\u{9f}¿1") ∷
+    asks (string false) 4 "" "u&'!!!+00D7FF1'â\u{80}\u{8a}Â\u{85}ueScapeÂ\u{85}'!'" "" (cramped 1 "!í\u{9f}¿1") ∷
     asks (string true) 4 "" "u&'!!!+00D7FF1'â\u{80}\u{8a}Â\u{85}ueScapeÂ\u{85}'!'" "" (writes 0 "!í\u{9f}¿1") ∷
     asks (string false) 4 "'" "U&''ã\u{80}\u{81}UEÅ¿CAPE'\\'" "\0" (breaks 3 0) ∷
     asks (string true) 4 "ã\u{80}\u{80}" "u&'!+000041g!+000001'  UEsCApE '!'" "" (writes 0 "Ag\u{1}") ∷
@@ -390,7 +390,7 @@ rows =
     asks (string true) 4 "ã\u{80}\u{80}" "''Â¡''Â\u{85}'\\_x'''" "= " (breaks 3 1) ∷
     asks (string true) 4 "" "n'' u&''â\u{81}\u{9f} u&''" "" (breaks 3 2) ∷
     asks (string false) 4 "" "N'eô\u{8f}¿¿\"' e'' 'N'" "" (breaks 3 8) ∷
-    asks (string true) 4 "" "_A'\"''''' '''' " "" (cramped "\"'''") ∷
+    asks (string true) 4 "" "_A'\"''''' '''' " "" (cramped 1 "\"'''") ∷
     asks (string true) 4 "" "u&'9'\u{c} ';#''' " "" (writes 0 "9;#'") ∷
     asks (string false) 4 "" "E''\u{b} ''''â\u{80}¨$9a$$9a$ " "" (breaks 3 12) ∷
     asks (string true) 4 "" "E''\u{b} ''''â\u{80}¨$9a$$9a$ " "" (breaks 3 12) ∷
@@ -410,11 +410,11 @@ rows =
     asks (string false) 4 "" "\"\" \r'9ð\u{90}\u{80}\u{80}' \t\"\"\"\\8/\"" "" (writes 5 "9ð\u{90}\u{80}\u{80}\"\\8/") ∷
     asks (string true) 4 "" "e''\u{b}\"\u{1}\" \"f\\\\\" 'N\\b'x" "" (breaks 3 19) ∷
     asks (string true) 4 "ã\u{80}\u{80}" "_Utf8'' ''\n" "Ã©" (writes 0 "") ∷
-    asks (string false) 4 "" "\"$\\\" \u{b}\"\"\"U\"ã\u{80}\u{80}_A\"\"ã\u{80}\u{80}" "" (cramped "$\\\"U") ∷
+    asks (string false) 4 "" "\"$\\\" \u{b}\"\"\"U\"ã\u{80}\u{80}_A\"\"ã\u{80}\u{80}" "" (cramped 1 "$\\\"U") ∷
     asks (string true) 4 "" "\"$\\\" \u{b}\"\"\"U\"ã\u{80}\u{80}_A\"\"ã\u{80}\u{80}" "" (breaks 3 0) ∷
     asks (string true) 4 "" "''''\u{b}'\\f''''" "" (breaks 3 5) ∷
     asks (string true) 4 "\0" "\"\"\"\"á\u{9a}\u{80}â\u{80}¯'1\\f\\_'\nx'1'â\u{80}\u{80} '\\b|'' " "ã\u{80}\u{80}" (breaks 3 18) ∷
-    asks (string false) 4 "x" "'1'\u{b} '#;!'ã\u{80}\u{80}_a''ã\u{80}\u{80}" "\0" (cramped "1#;!") ∷
+    asks (string false) 4 "x" "'1'\u{b} '#;!'ã\u{80}\u{80}_a''ã\u{80}\u{80}" "\0" (cramped 1 "1#;!") ∷
     asks (string false) 4 "" "N'\\zg\\B' n''ã\u{80}\u{80}" "" (breaks 3 0) ∷
     asks (string false) 4 "" "_utf8mb4\"x\" \u{c}''\n" "" (writes 1 "x") ∷
     asks (string true) 4 "" "\"$Z|\"á\u{9a}\u{80}â\u{80}¨''''\n" "" (writes 0 "$Z|'") ∷
@@ -437,7 +437,7 @@ rows =
     asks (string true) 4 "" "'G;'\r\n'g\\R'\n" "" (writes 5 "G;gR") ∷
     asks (string false) 4 "" "\"\\b\"\"\0\"ã\u{80}\u{81}''" "" (breaks 3 0) ∷
     asks (string true) 4 "" "_B_2'\\\"'Â\u{a0} '\\%'ã\u{80}\u{80}" "" (writes 1 "\"\\%") ∷
-    asks (string false) 4 "" "E'\"'\n'\\f' \"')\" ''" "" (cramped "\"\\f')") ∷
+    asks (string false) 4 "" "E'\"'\n'\\f' \"')\" ''" "" (cramped 1 "\"\\f')") ∷
     asks (string true) 4 "" "E'\"'\n'\\f' \"')\" ''" "" (writes 5 "\"f')") ∷
     asks (string false) 4 "1" "E'\\f'â\u{81}\u{9f}''\0\"xâ\u{80}¨\" \u{b}'' " "" (breaks 3 10) ∷
     asks (string false) 4 "" "''â\u{80}©''" "\0" (writes 0 "") ∷
@@ -447,7 +447,7 @@ rows =
     asks (string false) 4 "Ã©" "E'''''\\ã\u{80}\u{80}' '\\\\''ð\u{90}\u{80}\u{80}'" "\\" (writes 5 "''ã\u{80}\u{80}\\\\'ð\u{90}\u{80}\u{80}") ∷
     asks (string true) 4 "Ã©" "_A\"\"  '\\_Å¿'Â\u{85}X'0'\n\"\"" "x" (breaks 3 14) ∷
     asks (string false) 4 "ã\u{80}\u{80}" "N'xâ\u{80}¨'\n'Å¿Ã©'\u{c} n''\n" "\0" (writes 5 "xâ\u{80}¨Å¿Ã©") ∷
-    asks (string true) 4 "ã\u{80}\u{80}" "N'xâ\u{80}¨'\n'Å¿Ã©'\u{c} n''\n" "\0" (cramped "xâ\u{80}¨Å¿Ã©") ∷
+    asks (string true) 4 "ã\u{80}\u{80}" "N'xâ\u{80}¨'\n'Å¿Ã©'\u{c} n''\n" "\0" (cramped 1 "xâ\u{80}¨Å¿Ã©") ∷
     asks (string false) 4 "" "'' ''\n\"\" '\"Â\u{80}'" "" (writes 1 "\"Â\u{80}") ∷
     asks (string false) 4 "x" "__\"\"  '''\t'â\u{80}¯ $$1#$$x" "\\" (breaks 3 15) ∷
     asks (string true) 4 "x" "__\"\"  '''\t'â\u{80}¯ $$1#$$x" "\\" (breaks 3 15) ∷
@@ -463,17 +463,17 @@ rows =
     asks (string false) 4 "'" "_a''''ï»¿'' '\"\\T' " "Ã©" (breaks 3 0) ∷
     asks (string true) 4 "'" "e' \\u0080'  ''''''ã\u{80}\u{80}" "" (writes 0 " Â\u{80}''") ∷
     asks (string false) 4 "" "'u\\T'''â\u{81}\u{9f}''x" "" (breaks 3 12) ∷
-    asks (string false) 4 "" "e''â\u{80}¨ '1.!'â\u{80}¨\"\"ã\u{80}\u{80} ' N\t'\n" "" (cramped "1.! N\t") ∷
+    asks (string false) 4 "" "e''â\u{80}¨ '1.!'â\u{80}¨\"\"ã\u{80}\u{80} ' N\t'\n" "" (cramped 1 "1.! N\t") ∷
     asks (string false) 4 "" "n'\\'''  'u''G'Â\u{85}\",\"" "" (writes 1 "\\'u'G,") ∷
     asks (string false) 4 "" "''e\\T' '\\T\\'\\\"'ã\u{80}\u{80}" "" (breaks 3 0) ∷
     asks (string true) 4 "" "''e\\T' '\\T\\'\\\"'ã\u{80}\u{80}" "" (breaks 3 0) ∷
-    asks (string true) 4 "" "e''''Â\u{85}'\\rY'\n" "" (cramped "'\rY") ∷
+    asks (string true) 4 "" "e''''Â\u{85}'\\rY'\n" "" (cramped 1 "'\rY") ∷
     asks (string false) 4 "" "N''Â\u{84}\"Â\u{85}\" E'''''''\\'" "" (breaks 3 2) ∷
     asks (string false) 4 "\0" "e''\nÂ\u{85}\"\\Z\\f\" " "'" (writes 5 "\\Z\\f") ∷
     asks (string false) 4 "1" "\"\\f\"\"\"\u{b}'\\'''Å¿Gâ\u{80}¨'" "1" (breaks 3 12) ∷
     asks (string true) 4 "1" "\"\\f\"\"\"\u{b}'\\'''Å¿Gâ\u{80}¨'" "1" (writes 0 "f\"''Å¿Gâ\u{80}¨") ∷
-    asks (string false) 4 "" "N'\\t' ''''\n'\n\"\\Z'" "" (cramped "\\t'\n\"\\Z") ∷
-    asks (string true) 4 "" "N'\\t' ''''\n'\n\"\\Z'" "" (cramped "\t'\n\"\u{1a}") ∷
+    asks (string false) 4 "" "N'\\t' ''''\n'\n\"\\Z'" "" (cramped 1 "\\t'\n\"\\Z") ∷
+    asks (string true) 4 "" "N'\\t' ''''\n'\n\"\\Z'" "" (cramped 1 "\t'\n\"\u{1a}") ∷
     asks (string false) 4 "" "n''Â\u{a0} '\\_' '\\n)'" "" (writes 0 "\\_\\n)") ∷
     asks (string true) 4 "" "n''Â\u{a0} '\\_' '\\n)'" "" (writes 5 "\\_\n)") ∷
     asks (string false) 4 "" "n'\\t''\\'â\u{80}\u{8a}''ã\u{80}\u{80}" "" (writes 1 "\\t'\\") ∷
@@ -482,9 +482,9 @@ rows =
     asks (string true) 4 "\\" "'+\\Z''' '''+' " "ã\u{80}\u{80}" (writes 0 "+\u{1a}''+") ∷
     asks (string false) 4 "" "\"!'\"â\u{80}©N'#'''" "" (breaks 3 0) ∷
     asks (string false) 4 "" "'\"'''\n\"$\"á\u{9a}\u{80}'%\"'\n" "" (writes 0 "\"'$%\"") ∷
-    asks (string true) 4 "" "'\"'''\n\"$\"á\u{9a}\u{80}'%\"'\n" "" (cramped "\"'$%\"") ∷
+    asks (string true) 4 "" "'\"'''\n\"$\"á\u{9a}\u{80}'%\"'\n" "" (cramped 1 "\"'$%\"") ∷
     asks (string false) 4 "" "_B_2''''Â\u{85}\"\\R'\\Ã©\"\n" "" (writes 5 "'\\R'\\Ã©") ∷
-    asks (string true) 4 "" "\"G\u{1}\"'''\\%X' _0\"\"ã\u{80}\u{80}" "" (cramped "G\u{1}'\\%X") ∷
+    asks (string true) 4 "" "\"G\u{1}\"'''\\%X' _0\"\"ã\u{80}\u{80}" "" (cramped 1 "G\u{1}'\\%X") ∷
     asks (string false) 4 "" "N''' ' f'ã\u{80}\u{80}" "" (breaks 3 0) ∷
     asks (string true) 4 "" "N''' ' f'ã\u{80}\u{80}" "" (breaks 3 0) ∷
     asks (string true) 4 "" "'(\"'\n'\\Z\\8'\n" "" (writes 1 "(\"\u{1a}8") ∷
@@ -497,14 +497,14 @@ rows =
     asks (string false) 4 "" "'%;U'â\u{80}¨â\u{80}¨'' " "" (writes 0 "%;U") ∷
     asks (string true) 4 "" "'%;U'â\u{80}¨â\u{80}¨'' " "" (writes 0 "%;U") ∷
     asks (string false) 4 "" "\"_%(\"\u{b}'\\t,'  ''ã\u{80}\u{80}" "" (writes 0 "_%(\\t,") ∷
-    asks (string true) 4 "" "\"_%(\"\u{b}'\\t,'  ''ã\u{80}\u{80}" "" (cramped "_%(\t,") ∷
+    asks (string true) 4 "" "\"_%(\"\u{b}'\\t,'  ''ã\u{80}\u{80}" "" (cramped 1 "_%(\t,") ∷
     asks (string false) 4 "" "E''\n'('''''Â¡\"\\_#\"" "" (breaks 3 11) ∷
     asks (string true) 4 "" "E''\n'('''''Â¡\"\\_#\"" "" (breaks 3 11) ∷
     asks (string true) 4 "\\" "'' '\\''' " "x" (breaks 3 3) ∷
     asks (string false) 4 "$$" "n''á\u{9a}\u{80}'%\"'x" "$$" (breaks 3 10) ∷
     asks (string true) 4 "$$" "n''á\u{9a}\u{80}'%\"'x" "$$" (breaks 3 10) ∷
     asks (string false) 4 "" "U&''Â\u{a0}á\u{9a}\u{80}'''''" "" (breaks 3 9) ∷
-    asks (string false) 4 "" "'\\Z'''\u{b} 'Z'\n" "" (cramped "\\Z'Z") ∷
+    asks (string false) 4 "" "'\\Z'''\u{b} 'Z'\n" "" (cramped 1 "\\Z'Z") ∷
     asks (string false) 4 "" "N'í\u{9f}¿'''â\u{80}\u{80}''" "" (writes 5 "í\u{9f}¿'") ∷
     asks (string true) 4 "" "N'í\u{9f}¿'''â\u{80}\u{80}''" "" (writes 0 "í\u{9f}¿'") ∷
     asks (string false) 4 "" "_utf8mb4'Â\u{80}0G'Â\u{a0}\u{c}''''" "" (writes 0 "Â\u{80}0G'") ∷
@@ -540,6 +540,6 @@ rows =
     asks (string false) 4 "= " "E'' '' ''ã\u{80}\u{80}" "\0" (writes 2 "") ∷
     asks (string true) 4 "= " "E'' '' ''ã\u{80}\u{80}" "\0" (writes 2 "") ∷
     asks (string true) 4 "" "n'\\xï¼\u{99}''\tN\\z'\n" "" (breaks 3 0) ∷
-    asks (string true) 4 "" "\"'\"\n'\\Ã©G\u{b}'\n" "" (cramped "'Ã©G\u{b}") ∷
+    asks (string true) 4 "" "\"'\"\n'\\Ã©G\u{b}'\n" "" (cramped 1 "'Ã©G\u{b}") ∷
     asks (string true) 4 "" "n'''b'â\u{80}\u{80}'\"'''n''\n" "" (writes 1 "'b\"'") ∷
     asks (string false) 4 "" "''â\u{80}©'\\r\\\\' '\"\\\\'x" "" (breaks 3 17) ∷ []

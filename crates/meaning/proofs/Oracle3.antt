@@ -9,7 +9,7 @@ rows =
     asks (string false) 4 "" "'â\u{80}¯\n;'''''\n\"\"" "" (writes 0 "â\u{80}¯\n;''") ∷
     asks (string true) 4 "" "u&''â\u{80}\u{80}''" "" (writes 0 "") ∷
     asks (string false) 4 "" "N'\\0'\n'\\b' " "" (writes 1 "\\0\\b") ∷
-    asks (string true) 4 "" "e''Â\u{a0}'uÂ\u{80}' _Z\"\"\"'\"\n" "" (cramped "uÂ\u{80}\"'") ∷
+    asks (string true) 4 "" "e''Â\u{a0}'uÂ\u{80}' _Z\"\"\"'\"\n" "" (cramped 1 "uÂ\u{80}\"'") ∷
     asks (string false) 4 "" "\".#\" \n''''\u{b}X''" "" (breaks 3 11) ∷
     asks (string true) 4 "" "\".#\" \n''''\u{b}X''" "" (breaks 3 11) ∷
     asks (string false) 4 "" "''\r '\\Z'x" "" (breaks 3 8) ∷
@@ -37,7 +37,7 @@ rows =
     asks (string true) 4 "" "'' Â\u{85}'\"''â\u{80}\u{80}'x" "" (breaks 3 13) ∷
     asks (string true) 4 "ã\u{80}\u{80}" "N'' '\"Ã©\0'ã\u{80}\u{80}" "= " (breaks 3 4) ∷
     asks (string true) 4 "" "'\" \\r'â\u{81}\u{a0}''ã\u{80}\u{80}'' ''x" "\\" (breaks 3 0) ∷
-    asks (string true) 4 "" "\"\"\"'8\"Â\u{a0}\r''â\u{80}\u{8a} u&''" "" (cramped "\"'8") ∷
+    asks (string true) 4 "" "\"\"\"'8\"Â\u{a0}\r''â\u{80}\u{8a} u&''" "" (cramped 1 "\"'8") ∷
     asks (string true) 4 "" "_Utf8\"\\Ã© -\"ã\u{80}\u{80}'\\z'ã\u{80}\u{80}" "" (writes 0 "Ã© -z") ∷
     asks (string true) 4 "" "'\0'\u{b}''''" "" (breaks 3 0) ∷
     asks (string false) 4 "" "'\\f'\t\r'/'\n" "" (writes 0 "\\f/") ∷
@@ -46,7 +46,7 @@ rows =
     asks (string false) 4 "Ã©" "'+'  '#'" "Ã©" (writes 0 "+#") ∷
     asks (string true) 4 "Ã©" "'+'  '#'" "Ã©" (writes 0 "+#") ∷
     asks (string false) 4 "" "\"Z|\"\n'\\r\\b'''Â\u{85}';\" '" "" (writes 5 "Z|\\r\\b';\" ") ∷
-    asks (string true) 4 "" "\"Z|\"\n'\\r\\b'''Â\u{85}';\" '" "" (cramped "Z|\r\u{8}';\" ") ∷
+    asks (string true) 4 "" "\"Z|\"\n'\\r\\b'''Â\u{85}';\" '" "" (cramped 1 "Z|\r\u{8}';\" ") ∷
     asks (string false) 4 "" "'Y|\"''''\\z'''\n\"ô\u{8f}¿¿ \" " "" (writes 0 "Y|\"''\\z'ô\u{8f}¿¿ ") ∷
     asks (string true) 4 "" "'Y|\"''''\\z'''\n\"ô\u{8f}¿¿ \" " "" (writes 0 "Y|\"''z'ô\u{8f}¿¿ ") ∷
     asks (string false) 4 "" "\"\" '''ã\u{80}\u{80}" "" (breaks 3 3) ∷
@@ -54,20 +54,20 @@ rows =
     asks (string false) 4 "" "__'\"\09' â\u{80}¨''" "x" (breaks 3 0) ∷
     asks (string false) 4 "" "_A\"\\F\" '/;'" "" (writes 0 "\\F/;") ∷
     asks (string false) 4 "" "_z9'a''' '\\f&' ''x" "" (breaks 3 17) ∷
-    asks (string false) 4 "Ã©" "n'\"\\T'\n\"a\"" "" (cramped "\"\\Ta") ∷
+    asks (string false) 4 "Ã©" "n'\"\\T'\n\"a\"" "" (cramped 1 "\"\\Ta") ∷
     asks (string true) 4 "Ã©" "n'\"\\T'\n\"a\"" "" (writes 0 "\"Ta") ∷
     asks (string true) 4 "" "u&'\"'Â\u{a0}'9\\B\\x'\n\"\"'Yx'" "" (writes 1 "\"9BxYx") ∷
     asks (string false) 4 "" "u&''â\u{80}\u{8a} ''" "" (writes 2 "") ∷
     asks (string true) 4 "" "'\\0e\0'\u{1f}''  \"\"x" "" (breaks 3 0) ∷
     asks (string false) 4 "" "'\\'.'\n''\n\nN'\u{1}\\z'" "" (breaks 3 2) ∷
-    asks (string true) 4 "" "'\\'.'\n''\n\nN'\u{1}\\z'" "" (cramped "'.\u{1}z") ∷
-    asks (string false) 4 "= " "n''\n'''9' '''x'\n" "'" (cramped "'9'x") ∷
-    asks (string true) 4 "= " "n''\n'''9' '''x'\n" "'" (cramped "'9'x") ∷
+    asks (string true) 4 "" "'\\'.'\n''\n\nN'\u{1}\\z'" "" (cramped 1 "'.\u{1}z") ∷
+    asks (string false) 4 "= " "n''\n'''9' '''x'\n" "'" (cramped 1 "'9'x") ∷
+    asks (string true) 4 "= " "n''\n'''9' '''x'\n" "'" (cramped 1 "'9'x") ∷
     asks (string false) 4 "" "\"\" '\\' 'X'1'" "" (breaks 3 10) ∷
     asks (string true) 4 "" "'\\%' '''á\u{9a}\u{80}|' " "" (writes 0 "\\%'á\u{9a}\u{80}|") ∷
     asks (string true) 4 "" "u&'\\007F\\x'â\u{81}\u{9f} '.' " "" (breaks 3 8) ∷
     asks (string false) 4 "" "n'''' '''\\t\\''" "" (breaks 3 6) ∷
-    asks (string true) 4 "" "n'''' '''\\t\\''" "" (cramped "''\t'") ∷
+    asks (string true) 4 "" "n'''' '''\\t\\''" "" (cramped 1 "''\t'") ∷
     asks (string true) 4 "" "\"#o\"\n' ''â\u{80}¯'" "" (writes 0 "#o 'â\u{80}¯") ∷
     asks (string false) 4 "" "_z9'' '&F' " "" (writes 0 "&F") ∷
     asks (string true) 4 "" "_z9'' '&F' " "" (writes 0 "&F") ∷
@@ -81,8 +81,8 @@ rows =
     asks (string true) 4 "" "'' ','x" "" (breaks 3 6) ∷
     asks (string true) 4 "" "'8\0''''' ã\u{80}\u{80}'\"\t'" "" (breaks 3 0) ∷
     asks (string true) 4 "" "n'F' ''Â\u{a0}\u{c}\"8\"\"%\"\u{8}''''x" "" (breaks 3 16) ∷
-    asks (string true) 4 "" "'b%'\n'+U#'" "" (cramped "b%+U#") ∷
-    asks (string false) 4 "" "'\\x\\t\"' '' \t'â\u{80}¯\\R'''" "" (cramped "\\x\\t\"â\u{80}¯\\R'") ∷
+    asks (string true) 4 "" "'b%'\n'+U#'" "" (cramped 1 "b%+U#") ∷
+    asks (string false) 4 "" "'\\x\\t\"' '' \t'â\u{80}¯\\R'''" "" (cramped 1 "\\x\\t\"â\u{80}¯\\R'") ∷
     asks (string true) 4 "" "u&''\r'KgY'" "" (writes 0 "KgY") ∷
     asks (string false) 4 "$$" "n'ô\u{8f}¿¿%'''\u{b}u&''" "'" (breaks 3 9) ∷
     asks (string false) 4 "" "\"\\t\\Z\\r\"'''\\'\\T'\n ''" "" (breaks 3 13) ∷
@@ -120,7 +120,7 @@ rows =
     asks (string true) 4 "" "x'1100E'\\" "$$" (breaks 3 0) ∷
     asks (string false) 4 "" "+99619_e836" "" (breaks 3 0) ∷
     asks (string true) 4 "" "+99619_e836" "" (breaks 3 0) ∷
-    asks (string true) 4 "" "N'\\'" "" (cramped "\\") ∷
+    asks (string true) 4 "" "N'\\'" "" (cramped 1 "\\") ∷
     asks (string true) 4 "" "u&0''" "" (breaks 3 0) ∷
     asks (string false) 4 "1" "0ae''" "" (breaks 3 0) ∷
     asks (string false) 4 "" "TIME$X'\\TNu' 'x'" "" (breaks 3 0) ∷
@@ -170,7 +170,7 @@ rows =
     asks (string true) 4 "\0" "E'''8\\u\\xC3\\101" "" (breaks 3 0) ∷
     asks (string true) 4 "" "'\t\\ã\u{80}\u{80}Ã©'" "" (writes 1 "\tã\u{80}\u{80}Ã©") ∷
     asks (string false) 4 "" "\"\\Z\\Ba'\"" "" (borrows 1 7 "\\Z\\Ba'") ∷
-    asks (string true) 4 "" "\"\\Z\\Ba'\"" "" (cramped "\u{1a}Ba'") ∷
+    asks (string true) 4 "" "\"\\Z\\Ba'\"" "" (cramped 1 "\u{1a}Ba'") ∷
     asks (string true) 4 "" "\"\u{b}\"\"" "" (breaks 3 2) ∷
     asks (string true) 4 "" "U&'\\d83d\\_0dC00'" "" (breaks 3 3) ∷
     asks (string false) 4 "'" "+98_12._1" "'" (breaks 3 0) ∷
@@ -189,7 +189,7 @@ rows =
     asks (string false) 4 "" " e'\\ð\u{9f}\u{98}\u{80}" "" (breaks 3 0) ∷
     asks (string true) 4 "" " e'\\ð\u{9f}\u{98}\u{80}" "" (breaks 3 0) ∷
     asks (string false) 4 "" "î\u{80}\u{80}'" "" (breaks 3 0) ∷
-    asks (string true) 4 "" "E'\\360\\x9F\\x98\\x80'''" "" (cramped "ð\u{9f}\u{98}\u{80}'") ∷
+    asks (string true) 4 "" "E'\\360\\x9F\\x98\\x80'''" "" (cramped 1 "ð\u{9f}\u{98}\u{80}'") ∷
     asks (string true) 4 "" "_B_2'(\\'í\u{9f}¿'" "" (writes 0 "('í\u{9f}¿") ∷
     asks (string true) 4 "\0" "\"\\_\\B\"\"\"" "Ã©" (writes 1 "\\_B\"") ∷
     asks (string false) 4 "" "_B2\"\"" "" (borrows 4 4 "") ∷
@@ -207,7 +207,7 @@ rows =
     asks (string false) 4 "" "$$ã\u{80}\u{80}X$$$$" "" (borrows 2 8 "ã\u{80}\u{80}X$$") ∷
     asks (string false) 4 "" "\"\\8\\0\"" "" (borrows 1 5 "\\8\\0") ∷
     asks (string true) 4 "" "\"\\8\\0\"" "" (writes 5 "8\0") ∷
-    asks (string true) 4 "" "n'\\N'" "" (cramped "N") ∷
+    asks (string true) 4 "" "n'\\N'" "" (cramped 1 "N") ∷
     asks (string false) 4 "" "'11'" "" (borrows 1 3 "11") ∷
     asks (string false) 4 "" "_A'\\\"''\u{7f}'" "" (writes 5 "\\\"'\u{7f}") ∷
     asks (string true) 4 "" "_A'\\\"''\u{7f}'" "" (writes 1 "\"'\u{7f}") ∷
@@ -228,7 +228,7 @@ rows =
     asks (string false) 4 "" "'eZ te\t\t'" "" (borrows 1 8 "eZ te\t\t") ∷
     asks (string true) 4 "" "'eZ te\t\t'" "" (borrows 1 8 "eZ te\t\t") ∷
     asks (string false) 4 "" "'\"f'" "" (borrows 1 3 "\"f") ∷
-    asks (string true) 4 "" "__'10\\'/Ã©'''" "" (cramped "10'/Ã©'") ∷
+    asks (string true) 4 "" "__'10\\'/Ã©'''" "" (cramped 1 "10'/Ã©'") ∷
     asks plain 4 "" "e'\\u'" "" (breaks 3 2) ∷
     asks plain 4 "" "B'010100'x" "" (breaks 3 0) ∷
     asks plain 4 "ã\u{80}\u{80}" "$$_2" "x" (breaks 3 0) ∷
@@ -384,7 +384,7 @@ rows =
     asks decimal-text 1 "'" "-46" "\0" (borrows 1 4 "-46") ∷
     asks decimal-text 1 "" "0x_B" "" (refuses 5) ∷
     asks decimal-text 1 "\0" "5244.95e+48" "Ã©" (borrows 1 12 "5244.95e+48") ∷
-    asks decimal-text 3 "" "0O+471041_275" "" (cramped "82068157") ∷
+    asks decimal-text 3 "" "0O+471041_275" "" (cramped 1 "82068157") ∷
     asks decimal-text 2 "'" "+099" "'" (borrows 1 5 "+099") ∷
     asks decimal-text 1 "" "_.e+8" "" (refuses 5) ∷
     asks decimal-text 3 "" "_E_" "" (refuses 5) ∷
@@ -400,7 +400,7 @@ rows =
     asks decimal-text 2 "" ".0151_e675" "" (refuses 5) ∷
     asks decimal-text 3 "'" "-85.0" "1" (borrows 1 6 "-85.0") ∷
     asks decimal-text 2 "" "-0o+33605" "" (writes 0 "-14213") ∷
-    asks decimal-text 2 "" "483706_19472" "" (cramped "48370619472") ∷
+    asks decimal-text 2 "" "483706_19472" "" (cramped 1 "48370619472") ∷
     asks decimal-text 2 "" "-0x+71" "" (writes 0 "-113") ∷
     asks decimal-text 1 "" "963" "" (borrows 0 3 "963") ∷
     asks decimal-text 1 "" "0X+6e_f" "= " (writes 1 "1775") ∷
@@ -436,7 +436,7 @@ rows =
     asks decimal-text 1 "" "Ã©\0" "" (borrows 0 3 "Ã©\0") ∷
     asks decimal-text 2 "1" "aa" "Ã©" (borrows 1 3 "aa") ∷
     asks decimal-text 2 "" "-61_02_3._5180E-54" "" (refuses 5) ∷
-    asks decimal-text 3 "" "-0b00" "" (cramped "0") ∷
+    asks decimal-text 3 "" "-0b00" "" (cramped 1 "0") ∷
     asks decimal-text 1 "" "-17404e8" "" (borrows 0 8 "-17404e8") ∷
     asks decimal-text 1 "Ã©" "._e188" "Ã©" (refuses 5) ∷
     asks decimal-text 2 "" "-77_8036" "" (writes 0 "-778036") ∷
@@ -444,13 +444,13 @@ rows =
     asks decimal-text 3 "" "2" "" (borrows 0 1 "2") ∷
     asks decimal-text 3 "" "0" "'" (borrows 0 1 "0") ∷
     asks decimal-text 3 "" " e+ " "" (borrows 0 4 " e+ ") ∷
-    asks decimal-text 1 "" "-48_5e+9" "$$" (cramped "-485e+9") ∷
+    asks decimal-text 1 "" "-48_5e+9" "$$" (cramped 1 "-485e+9") ∷
     asks decimal-text 3 "" "39535322" "" (borrows 0 8 "39535322") ∷
     asks decimal-text 2 "" "0o+01634" "" (writes 1 "924") ∷
     asks decimal-text 3 "" "-0x-078F_a3_0" "" (writes 5 "7928368") ∷
     asks decimal-text 3 "" "48_9777_.73_e0" "" (refuses 5) ∷
     asks decimal-text 1 "" "45085_.2e" "" (refuses 5) ∷
-    asks decimal-text 2 "" "-7986_57907" "" (cramped "-798657907") ∷
+    asks decimal-text 2 "" "-7986_57907" "" (cramped 1 "-798657907") ∷
     asks decimal-text 1 "" "0X7_3d04" "" (writes 0 "474372") ∷
     asks decimal-text 2 "" "aX\0o3" "" (borrows 0 5 "aX\0o3") ∷
     asks decimal-text 1 "" "70.6_693_e034" "" (refuses 5) ∷
@@ -465,7 +465,7 @@ rows =
     asks decimal-text 2 "" "28_7._0_5" "" (refuses 5) ∷
     asks decimal-text 1 "" "-0283_94._4_35e92" "" (refuses 5) ∷
     asks decimal-text 3 "\\" "1873" "\\" (borrows 1 5 "1873") ∷
-    asks decimal-text 1 "" "-0x+b28" "" (cramped "-2856") ∷
+    asks decimal-text 1 "" "-0x+b28" "" (cramped 1 "-2856") ∷
     asks decimal-text 3 "" "-7393_8e253" "" (writes 0 "-73938e253") ∷
     asks decimal-text 3 "" "81.8289E-566" "" (borrows 0 12 "81.8289E-566") ∷
     asks decimal-text 2 "" "0x5DF9351" "" (writes 5 "98538321") ∷
@@ -485,7 +485,7 @@ rows =
     asks decimal-text 1 "" "+1_92026_.89_2_9e+9" "" (refuses 5) ∷
     asks decimal-text 2 "" "Xb" "" (borrows 0 2 "Xb") ∷
     asks decimal-text 1 "" "0X_b4CA6" "" (refuses 5) ∷
-    asks decimal-text 3 "" "0O+45" "'" (cramped "37") ∷
+    asks decimal-text 3 "" "0O+45" "'" (cramped 1 "37") ∷
     asks decimal-text 3 "" "+0B+010010_101" "" (writes 0 "149") ∷
     asks decimal-text 1 "= " "0b+11_01100" "= " (writes 5 "108") ∷
     asks decimal-text 2 "" "bx5B" "" (borrows 0 4 "bx5B") ∷
@@ -496,7 +496,7 @@ rows =
     asks decimal-text 1 "" ".434479'" "" (borrows 0 8 ".434479'") ∷
     asks decimal-text 2 "" "4ã\u{80}\u{80}O" "" (borrows 0 5 "4ã\u{80}\u{80}O") ∷
     asks decimal-text 2 "" "0O021_" "" (refuses 5) ∷
-    asks decimal-text 1 "" "o0_72" "" (cramped "o072") ∷
+    asks decimal-text 1 "" "o0_72" "" (cramped 1 "o072") ∷
     asks decimal-text 3 "Ã©" "\"O4E__Ã©" "x" (refuses 5) ∷
     asks decimal-text 3 "" "01" "" (borrows 0 2 "01") ∷
     asks decimal-text 3 "Ã©" "X--2dd6" "$$" (borrows 2 9 "X--2dd6") ∷

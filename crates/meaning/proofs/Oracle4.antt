@@ -18,11 +18,11 @@ rows =
     asks bit-text 12 "" "b'0'" "= " (borrows 2 3 "0") ∷
     asks bit-text 12 "" "b''" "" (borrows 2 2 "") ∷
     asks bit-text 12 "" "x'11194'" "Ã©" (refuses 7) ∷
-    asks bit-text 12 "ã\u{80}\u{80}" "b'' '111'á\u{9a}\u{80} '1'" "'" (cramped "1111") ∷
+    asks bit-text 12 "ã\u{80}\u{80}" "b'' '111'á\u{9a}\u{80} '1'" "'" (cramped 1 "1111") ∷
     asks bit-text 12 "ã\u{80}\u{80}" "B' 10001' " "\\" (refuses 7) ∷
     asks bit-text 12 "" "x'G1B000' " "" (refuses 7) ∷
     asks bit-text 12 "" "X'10'â\u{80}\u{8a}X'0'Â\u{a0}â\u{81}\u{9f}'11'" "" (refuses 7) ∷
-    asks bit-text 12 "" "X'10'\n'' " "" (cramped "10") ∷
+    asks bit-text 12 "" "X'10'\n'' " "" (cramped 1 "10") ∷
     asks bit-text 12 "x" "b'1c'" "Ã©" (refuses 7) ∷
     asks bit-text 12 "" "B'100119'\nX''á\u{9a}\u{80}Â\u{a0}''" "" (refuses 7) ∷
     asks bit-text 12 "" "X'04'" "" (refuses 7) ∷
@@ -36,7 +36,7 @@ rows =
     asks bit-text 12 "" "B'011'" "" (borrows 2 5 "011") ∷
     asks bit-text 12 "" "X'00'" "" (borrows 2 4 "00") ∷
     asks bit-text 12 "" "X'1'" "" (borrows 2 3 "1") ∷
-    asks bit-text 12 "" "B''  '0'" "" (cramped "0") ∷
+    asks bit-text 12 "" "B''  '0'" "" (cramped 1 "0") ∷
     asks bit-text 12 "" "B'00' " "" (writes 5 "00") ∷
     asks bit-text 12 "ã\u{80}\u{80}" "B'000'" "Ã©" (borrows 5 8 "000") ∷
     asks bit-text 12 "" "B'0'â\u{80}¨" "" (writes 0 "0") ∷
@@ -65,7 +65,7 @@ rows =
     asks bit-text 13 "" "b'1\0100'" "" (refuses 7) ∷
     asks bit-text 13 "" "b'0701\\1'" "" (refuses 7) ∷
     asks bit-text 13 "$$" "b'400100'â\u{80}¨" "" (writes 1 "400100") ∷
-    asks bit-text 13 "" "B'005'â\u{80}¨'' '10'" "" (cramped "00510") ∷
+    asks bit-text 13 "" "B'005'â\u{80}¨'' '10'" "" (cramped 1 "00510") ∷
     asks bit-text 13 "1" "x'1\"01\"0'" "\\" (refuses 7) ∷
     asks bit-text 13 "x" "B'01f7A0'" "Ã©" (borrows 3 9 "01f7A0") ∷
     asks bit-text 13 "" "x'E31'" "" (borrows 2 5 "E31") ∷
@@ -101,7 +101,7 @@ rows =
     asks bit-text 13 "" "b'8Ef061'" "" (borrows 2 8 "8Ef061") ∷
     asks bit-text 13 "" "X'1\\000d'" "" (refuses 7) ∷
     asks bit-text 13 "" "x'''101'" "" (refuses 7) ∷
-    asks bit-text 13 "" "b'da0'\u{b}'A'" "" (cramped "da0A") ∷
+    asks bit-text 13 "" "b'da0'\u{b}'A'" "" (cramped 1 "da0A") ∷
     asks bit-text 13 "" "b'0'x" "x" (refuses 7) ∷
     asks bit-text 13 "" "b'1C 01'\u{8}'''' " "" (refuses 7) ∷
     asks bit-text 13 "" "x'0000' '11'" "" (writes 1 "000011") ∷
@@ -178,7 +178,7 @@ rows =
     asks temporal-text 8 "" "INTERVAL(3) e'\\nE'\0" "" (writes 0 "\nE") ∷
     asks temporal-text 10 "" "'\u{7f}' 'x'" "" (writes 0 "\u{7f}x") ∷
     asks temporal-text 8 "" "($$'''" "" (breaks 3 0) ∷
-    asks temporal-text 11 "" "X'\\''' DAY" "" (cramped "\\'") ∷
+    asks temporal-text 11 "" "X'\\''' DAY" "" (cramped 1 "\\'") ∷
     asks temporal-text 9 "\\" "date\n''" "" (borrows 7 7 "") ∷
     asks temporal-text 11 "Ã©" "''\0" "" (borrows 3 3 "") ∷
     asks temporal-text 8 "" "TIME $1$'\\'''''" "" (breaks 3 0) ∷
@@ -189,9 +189,9 @@ rows =
     asks temporal-text 11 "\\" "$-$\\n$-$\n$x$-$ $$" "1" (breaks 3 0) ∷
     asks temporal-text 10 "" "ã\u{80}\u{80}\"'\"\0" "" (breaks 3 4) ∷
     asks temporal-text 10 "" "INTERVAL(3) \"\0'\\R\"\0" "" (breaks 3 14) ∷
-    asks temporal-text 9 "x" "DATE ''''\0" "\0" (cramped "'") ∷
+    asks temporal-text 9 "x" "DATE ''''\0" "\0" (cramped 1 "'") ∷
     asks temporal-text 11 "" "TIMESTAMP \"!\\'\"" "" (breaks 3 13) ∷
-    asks temporal-text 10 "" "\"e'' 'x'" "" (cramped "x") ∷
+    asks temporal-text 10 "" "\"e'' 'x'" "" (cramped 1 "x") ∷
     asks temporal-text 8 "" "Ã©aE')Z'\0" "" (borrows 5 7 ")Z") ∷
     asks temporal-text 11 "" "INTERVAL(3) 'Y\\fcc'" "'" (borrows 13 18 "Y\\fcc") ∷
     asks temporal-text 11 "" "X'\\''' 'x'" "" (writes 0 "\\'x") ∷
@@ -248,8 +248,8 @@ rows =
     asks temporal-text 8 "$$" "INTERVAL(3) $_$0$_$\0" "Ã©" (borrows 17 18 "0") ∷
     asks temporal-text 11 "" "INTERVAL $'''â\u{80}¨''" "" (breaks 3 0) ∷
     asks temporal-text 10 "" "Ã©E''''" "" (writes 5 "'") ∷
-    asks temporal-text 11 "\0" "DATE '''\\fï¼\u{99}\\R'" "Ã©" (cramped "'\\fï¼\u{99}\\R") ∷
-    asks temporal-text 9 "$$" "INTERVAL '\\Zâ\u{80}\u{8a}''\\t'Ã©" "x" (cramped "\\Zâ\u{80}\u{8a}'\\t") ∷
+    asks temporal-text 11 "\0" "DATE '''\\fï¼\u{99}\\R'" "Ã©" (cramped 1 "'\\fï¼\u{99}\\R") ∷
+    asks temporal-text 9 "$$" "INTERVAL '\\Zâ\u{80}\u{8a}''\\t'Ã©" "x" (cramped 1 "\\Zâ\u{80}\u{8a}'\\t") ∷
     asks temporal-text 10 "" "\"'\0''Y''" "" (breaks 3 1) ∷
     asks temporal-text 10 "" "\0\"\\T\\\"\"\" " "" (breaks 3 0) ∷
     asks temporal-text 9 "" "DATE '2001-02-03' " "" (borrows 6 16 "2001-02-03") ∷
@@ -259,11 +259,11 @@ rows =
     asks temporal-text 11 "" "_e'''' " "" (writes 0 "'") ∷
     asks temporal-text 9 "" "_'90'" "" (borrows 2 4 "90") ∷
     asks temporal-text 10 "" "0$''''''\0" "" (breaks 3 0) ∷
-    asks temporal-text 11 "" "TIME '%\\''' $$" "" (cramped "%\\'") ∷
+    asks temporal-text 11 "" "TIME '%\\''' $$" "" (cramped 1 "%\\'") ∷
     asks temporal-text 11 "" "date\n'$$''" "" (breaks 3 8) ∷
     asks temporal-text 8 "Ã©" "0E'\\U00000001' DAY" "ã\u{80}\u{80}" (borrows 5 15 "\\U00000001") ∷
     asks temporal-text 9 "" "DATE $$'''\\x' " "" (breaks 3 0) ∷
-    asks temporal-text 10 "" "_e'\"' 'x'" "" (cramped "\"x") ∷
+    asks temporal-text 10 "" "_e'\"' 'x'" "" (cramped 1 "\"x") ∷
     asks temporal-text 10 "= " "\"1e'\"u'" "$$" (borrows 6 8 "\"u") ∷
     asks temporal-text 8 "" "Ã©$a$'\\R'" "" (breaks 3 0) ∷
     asks temporal-text 8 "" "Ã©'\\R\\'''\u{c}'' \0" "" (writes 0 "\\R\\'") ∷
@@ -322,14 +322,14 @@ rows =
     asks temporal-text 9 "" "date\n$1$'(\\b'\0" "$$" (breaks 3 0) ∷
     asks temporal-text 10 "" "Ã©$ã\u{80}\u{80}_U\\$ã\u{80}\u{80}\"$Ã©" "" (breaks 3 0) ∷
     asks temporal-text 11 "x" "DATE $$ex$$$" "'" (borrows 8 10 "ex") ∷
-    asks temporal-text 8 "" "date\n'\\\"&'\n'''î\u{80}\u{80}\"'xE" "" (cramped "\\\"&'î\u{80}\u{80}\"") ∷
+    asks temporal-text 8 "" "date\n'\\\"&'\n'''î\u{80}\u{80}\"'xE" "" (cramped 1 "\\\"&'î\u{80}\u{80}\"") ∷
     asks temporal-text 9 "" "\"A$\\$A$Ã©" "" (breaks 3 0) ∷
     asks temporal-text 9 "" "DTE $$''" "" (breaks 3 0) ∷
     asks temporal-text 10 "1" "DATE'' DAY" "1" (borrows 6 6 "") ∷
     asks temporal-text 8 "" "'12:30" "" (breaks 3 0) ∷
     asks temporal-text 8 "" "ATE'$$" "" (breaks 3 3) ∷
     asks temporal-text 8 "" "D'ATE $Ã©$0x" "" (breaks 3 1) ∷
-    asks temporal-text 9 "" "N'&\\\\z' \n'Ã©\\t' " "" (cramped "&\\\\zÃ©\\t") ∷
+    asks temporal-text 9 "" "N'&\\\\z' \n'Ã©\\t' " "" (cramped 1 "&\\\\zÃ©\\t") ∷
     asks temporal-text 8 "'" "$$$Ã©a" "ã\u{80}\u{80}" (breaks 3 0) ∷
     asks temporal-text 10 "" "($$$$+\u{1}$\0$ " "" (borrows 3 3 "") ∷
     asks temporal-text 9 "Ã©" "ã\u{80}\u{80}\"\u{7f}ð\u{9f}\u{98}\u{80}\"" "= " (breaks 3 0) ∷
@@ -436,7 +436,7 @@ rows =
     asks source-text 8 "" "'\\N\\Ã©'" "" (borrows 0 7 "'\\N\\Ã©'") ∷
     asks source-text 7 "" "\"\\'ð\u{90}\u{80}\u{80}'\u{7f}\u{1}\"" "" (borrows 0 11 "\"\\'ð\u{90}\u{80}\u{80}'\u{7f}\u{1}\"") ∷
     asks source-text 14 "" "X'e0'â\u{80}¨" "'" (borrows 0 8 "X'e0'â\u{80}¨") ∷
-    names "U&\"\\007Fu\"" (cramped "\u{7f}u") ∷
+    names "U&\"\\007Fu\"" (cramped 1 "\u{7f}u") ∷
     names "u&\"aY\"\"\"\"\"" (writes 0 "aY\"\"") ∷
     names "u&\"\\0001\0\"" (writes 5 "\u{1}\0") ∷
     names "U&\"\\D83D \\+00dfff\"" (refuses 6) ∷
@@ -444,7 +444,7 @@ rows =
     names "U&\"\\005Cg\"" (writes 0 "\\g") ∷
     names "U&\"\\00\"" (refuses 6) ∷
     names "u&\"\"\"\"\"\\08001\\d800g\"" (refuses 6) ∷
-    names "u&\"\\07FF\\+0007fFg\"" (cramped "ß¿ß¿g") ∷
+    names "u&\"\\07FF\\+0007fFg\"" (cramped 1 "ß¿ß¿g") ∷
     names "U&\"\\D7ffY\"" (writes 5 "í\u{9f}¿Y") ∷
     names "U&\"\"" (borrows 3 3 "") ∷
     names "U&\"\\\\x\\D800\\0041ï¿¿\"" (refuses 6) ∷
@@ -457,7 +457,7 @@ rows =
     names "u&\"\\+00d800g\"" (refuses 6) ∷
     names "U&\"\"\"\" â\u{81}\u{9f}" (writes 1 "\"") ∷
     names "u&\"\"\"\"\t" (writes 0 "\"") ∷
-    names "u&\"'\\005C1\"" (cramped "'\\1") ∷
+    names "u&\"'\\005C1\"" (cramped 1 "'\\1") ∷
     names "u&\"Â\u{80}\\o\"â\u{80}¯" (refuses 6) ∷
     names "U&\"\\d83D\\+00dE00ï¿¿\"\"" (refuses 6) ∷
     names "u&\"\\0000g\\\\\\005CN\"" (refuses 6) ∷
@@ -466,7 +466,7 @@ rows =
     names "u&\"'\"" (borrows 3 4 "'") ∷
     names "u&\"\"\"\\\\\\Dbff\\de00\"" (writes 1 "\"\\ô\u{8f}¸\u{80}") ∷
     names "U&\"G\\+0041\"" (refuses 6) ∷
-    names "U&\"\\\\\"" (cramped "\\") ∷
+    names "U&\"\\\\\"" (cramped 1 "\\") ∷
     names "U&\"%\"" (borrows 3 4 "%") ∷
     names "u&\"\\D800 \\d800'\"" (refuses 6) ∷
     names "u&\"Â\u{80}\"" (borrows 3 5 "Â\u{80}") ∷
@@ -477,7 +477,7 @@ rows =
     names "u&\"1X\\+10FffFð\u{9f}\u{98}\u{80}\"" (writes 5 "1Xô\u{8f}¿¿ð\u{9f}\u{98}\u{80}") ∷
     names "U&\"E\"" (borrows 3 4 "E") ∷
     names "U&\"\" Â\u{85}" (borrows 3 3 "") ∷
-    names "U&\"\\0080\"" (cramped "Â\u{80}") ∷
+    names "U&\"\\0080\"" (cramped 1 "Â\u{80}") ∷
     names "u&\"\\D800\\+000041\"" (refuses 6) ∷
     names "U&\"\\0800\"f\\\\\"" (refuses 6) ∷
     names "u&\"ð\u{9f}\u{98}\u{80}\\\\bb\"" (writes 0 "ð\u{9f}\u{98}\u{80}\\bb") ∷
@@ -486,7 +486,7 @@ rows =
     names "U&\"\\00011\"Â\u{85}" (writes 0 "\u{1}1") ∷
     names "U&\"\"\"\"" (writes 0 "\"") ∷
     names "u&\"$x\"" (borrows 3 5 "$x") ∷
-    names "U&\"\\0041\\dBff\\DC00\"" (cramped "Aô\u{8f}°\u{80}") ∷
+    names "U&\"\\0041\\dBff\\DC00\"" (cramped 1 "Aô\u{8f}°\u{80}") ∷
     names "U&\"\\+00dBfFg\"" (refuses 6) ∷
     names "u&\"b\"\\+\"" (refuses 6) ∷
     names "U&\"'\\DBff1\"" (refuses 6) ∷
@@ -508,7 +508,7 @@ rows =
     names "u&\"G\"uEsCApE''" (refuses 6) ∷
     names "U&\"!\"\u{c} ueScApEÂ\u{85} '\\'" (borrows 3 4 "!") ∷
     names "u&\"\" uEscAPe'$'" (borrows 3 3 "") ∷
-    names "U&\"\n\"\"\"uESCaPeã\u{80}\u{80}'Ã©'" (cramped "\n\"") ∷
+    names "U&\"\n\"\"\"uESCaPeã\u{80}\u{80}'Ã©'" (cramped 1 "\n\"") ∷
     names "U&\"\"â\u{80}©UEscaPE\t\u{b}'Ã©'" (borrows 3 3 "") ∷
     names "U&\"\"UEÅ¿CAPE'+'" (refuses 6) ∷
     names "u&\"gx\"â\u{80}©UeSCapeâ\u{80}\u{8a}" (refuses 6) ∷

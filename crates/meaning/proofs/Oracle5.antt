@@ -7,12 +7,12 @@ use Rattle.meaning.proofs.Rows.{unnamed, says, refuses, breaks, unfit}
 
 abbrev pub rows : List Row
 rows =
-    names "U&\"'\"\"G\"â\u{81}\u{9f}uEScape'Ã©'" (cramped "'\"G") ∷
+    names "U&\"'\"\"G\"â\u{81}\u{9f}uEScape'Ã©'" (cramped 1 "'\"G") ∷
     names "u&\"\"uesCape  '_'" (borrows 3 3 "") ∷
     names "U&\"\"uESCaPEâ\u{81}\u{9f}'$'" (borrows 3 3 "") ∷
     names "Uã\u{80}\u{80}&\"\"" (refuses 6) ∷
     names "U&\"\\DBFf \\+00De00" (refuses 6) ∷
-    names "u&\"\\\\'ã\u{80}\u{80}n\"" (cramped "\\'ã\u{80}\u{80}n") ∷
+    names "u&\"\\\\'ã\u{80}\u{80}n\"" (cramped 1 "\\'ã\u{80}\u{80}n") ∷
     names "u\"\"" (refuses 6) ∷
     names "U&\"\\07ff1\\'x\"" (refuses 6) ∷
     names "U&\"" (refuses 6) ∷
@@ -30,7 +30,7 @@ rows =
     names "U&\"\n\" " (borrows 3 4 "\n") ∷
     names "U&\"$\\\\\"" (writes 0 "$\\") ∷
     names "U&\"\u{1}\"\tUEScApe  '&'" (borrows 3 4 "\u{1}") ∷
-    names "U&\"\"\"\\0800g\"" (cramped "\"à\u{a0}\u{80}g") ∷
+    names "U&\"\"\"\\0800g\"" (cramped 1 "\"à\u{a0}\u{80}g") ∷
     names "u&\"\"\"ã\u{80}\u{80}\"" (writes 5 "\"ã\u{80}\u{80}") ∷
     names "u&\"\\\\í\u{9f}¿$b\"" (writes 1 "\\í\u{9f}¿$b") ∷
     names "u&\"\\0027\\0a41g\"" (writes 5 "'à©\u{81}g") ∷

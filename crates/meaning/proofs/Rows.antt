@@ -31,6 +31,7 @@ use Rattle.meaning.specs.Answers.{charsetValues, integerNumber, integerV
 use Rattle.meaning.specs.Answers.{identifierValues, writingNumber, writingValues, foundNumber, foundValues, datedNumber, datedValues, partShown, shown}
 use Rattle.meaning.specs.Answers.{rangeShown, charsetShown}
 use Rattle.meaning.specs.Numbers.{radixPrefix}
+use Rattle.meaning.specs.Halves.{joinedHalves, textOf}
 use Rattle.meaning.specs.Helpers.{uescapeLegal, escapeValid, unicodeValid, embedsNul, isUnicodeIdent}
 use Rattle.meaning.specs.Questions.{stringQuestion, plainQuestion, decimalQuestion, bitsQuestion, temporalQuestion, sourceQuestion, moneyQuestion}
 use Rattle.meaning.specs.Questions.{charsetQuestion, i64Question, boolQuestion, nullQuestion, identifierQuestion}
@@ -53,13 +54,14 @@ pub data Helper : Type 0 where
   uescape-legal escape-valid unicode-valid embeds-nul is-ident : Helper
 
 -- WHAT IS ANSWERED. A part of the source, from .. to .., and its bytes; bytes that are written, with some bytes of room left over;
--- the same bytes, where the room is one byte short; an integer, and its negative; no charset name; yes or no; a refusal by its number,
+-- the same bytes, where the room is some bytes short; an integer, and its negative; no charset name; yes or no; a refusal by its number,
 -- which gives back the span; refusal 6 with some bytes of room, which gives back the span and a place of the text; a wrong kind, where
--- the question expects another family; a year, a month, a day and the day's number
+-- the question expects another family; a year, a month, a day and the day's number; one of these that writes nothing, with some bytes of
+-- room
 pub data Told : Type 0 where
   borrows : ℕ → ℕ → String → Told
   writes : ℕ → String → Told
-  cramped : String → Told
+  cramped : ℕ → String → Told
   plus minus : ℕ → Told
   unnamed : Told
   says : Bool → Told
@@ -67,6 +69,7 @@ pub data Told : Type 0 where
   breaks : ℕ → ℕ → Told
   unfit : ℕ → Told
   dated : ℕ → ℕ → ℕ → ℕ → Told
+  lending : ℕ → Told → Told
 
 -- what a row compares: the number and the values, the bytes shown, and the buffer behind the call
 pub record Seen : Type 0 where
@@ -78,11 +81,11 @@ pub record Seen : Type 0 where
 abbrev pub fill : ℕ → List ℕ
 fill n = replicate n 0xA5
 
--- the room that a row lends: what its answer needs and some bytes more, or one byte too few; where nothing is written three bytes, or as many as it says
+-- the room that a row lends: what its answer needs and some bytes more, or some too few; where nothing is written three bytes, or as many as it says
 abbrev pub lent : Told → List ℕ
 lent (borrows f u t) = fill 3
 lent (writes n t) = fill (length (ascii t) + n)
-lent (cramped t) = fill (length (ascii t) - 1)
+lent (cramped k t) = fill (length (ascii t) - k)
 lent (plus n) = fill 3
 lent (minus n) = fill 3
 lent unnamed = fill 3
@@ -91,6 +94,7 @@ lent (refuses n) = fill 3
 lent (breaks n p) = fill n
 lent (unfit e) = fill 3
 lent (dated y m d n) = fill 3
+lent (lending n w) = fill n
 
 abbrev pub yes-no : Bool → ℕ
 yes-no true = 1
@@ -100,7 +104,7 @@ yes-no false = 0
 abbrev pub due : Literal → Told → Seen
 due l (borrows f u t) = record { values = 0 ∷ f ∷ u ∷ []; bytes = ascii t; buffer = fill 3 }
 due l (writes n t) = record { values = 0 ∷ length (ascii t) ∷ []; bytes = ascii t; buffer = ascii t ++ fill n }
-due l (cramped t) = record { values = 9 ∷ length (ascii t) ∷ []; bytes = []; buffer = fill (length (ascii t) - 1) }
+due l (cramped k t) = record { values = 9 ∷ length (ascii t) ∷ []; bytes = []; buffer = fill (length (ascii t) - k) }
 due l (plus n) = record { values = 0 ∷ 0 ∷ n ∷ []; bytes = []; buffer = fill 3 }
 due l (minus n) = record { values = 0 ∷ 1 ∷ n ∷ []; bytes = []; buffer = fill 3 }
 due l unnamed = record { values = 0 ∷ []; bytes = []; buffer = fill 3 }
@@ -109,6 +113,7 @@ due l (refuses n) = record { values = n ∷ l .span .start ∷ l .span .end ∷ 
 due l (breaks n p) = record { values = 6 ∷ l .span .start ∷ l .span .end ∷ p ∷ []; bytes = []; buffer = fill n }
 due l (unfit e) = record { values = 1 ∷ e ∷ kindCode (l .kind) ∷ payload (l .kind); bytes = []; buffer = fill 3 }
 due l (dated y m d n) = record { values = 0 ∷ y ∷ m ∷ d ∷ n ∷ []; bytes = []; buffer = fill 3 }
+due l (lending n w) = record { values = due l w .values; bytes = due l w .bytes; buffer = fill n }
 
 -- what is seen of each kind of answer
 abbrev pub textSeen : List ℕ → Outcome Text → Seen
@@ -175,7 +180,7 @@ helperSays is-ident t = isUnicodeIdent t
 abbrev pub identifierDue : Told → Seen
 identifierDue (borrows f u t) = record { values = 0 ∷ f ∷ u ∷ []; bytes = ascii t; buffer = fill 3 }
 identifierDue (writes n t) = record { values = 0 ∷ length (ascii t) ∷ []; bytes = ascii t; buffer = ascii t ++ fill n }
-identifierDue (cramped t) = record { values = 9 ∷ length (ascii t) ∷ []; bytes = []; buffer = fill (length (ascii t) - 1) }
+identifierDue (cramped k t) = record { values = 9 ∷ length (ascii t) ∷ []; bytes = []; buffer = fill (length (ascii t) - k) }
 identifierDue (plus n) = valuesSeen [] []
 identifierDue (minus n) = valuesSeen [] []
 identifierDue unnamed = valuesSeen [] []
@@ -184,6 +189,7 @@ identifierDue (refuses n) = record { values = n ∷ []; bytes = []; buffer = fil
 identifierDue (breaks n p) = valuesSeen [] []
 identifierDue (unfit e) = valuesSeen [] []
 identifierDue (dated y m d n) = valuesSeen [] []
+identifierDue (lending n w) = valuesSeen [] []
 
 abbrev pub identifierShown : List ℕ → List ℕ → Identifier → List ℕ
 identifierShown t out (Identifier′.Borrowed f u) = partShown f u t
@@ -240,7 +246,7 @@ sameCall a b = eqb (a .number) (b .number) && same (a .answers) (b .answers) && 
 -- of a source; one without a source; a helper; an identifier; a radix prefix; a value that the writer is given, with a setting, a part
 -- size and a buffer's length; one that it is given with a form, and a buffer's length; what the record program is given, with zero
 -- bytes between a head and a tail, and the lines it prints; a block's items and source, and the lengths of the answer slice and the buffer;
--- the number of a day, and what is told of it
+-- the number of a day, and what is told of it; the two halves of a number, and its text
 pub data Row : Type 0 where
   asks : Question → ℕ → String → String → String → Told → Row
   spans : Question → ℕ → ℕ → ℕ → String → Told → Row
@@ -253,6 +259,7 @@ pub data Row : Type 0 where
   prints : String → ℕ → String → String → Row
   block : List ℕ → String → ℕ → ℕ → Called → Row
   numbered : ℕ → List ℕ → Row
+  halves : ℕ → ℕ → String → Row
 
 abbrev pub sameSeen : Seen → Seen → Bool
 sameSeen a b = same (a .values) (b .values) && same (a .bytes) (b .bytes) && same (a .buffer) (b .buffer)
@@ -283,6 +290,7 @@ right (forms f v n w) = sameSeen (wroteSeen (formQuestion f (ascii v) (fill n)))
 right (prints head n tail lines) = same (output (ascii head ++ (replicate n 0 ++ ascii tail))) (ascii lines)
 right (block is t n m w) = sameCall (blockCall is (ascii t) (others 0 n) (fill m)) (callDue n m w)
 right (numbered n vs) = same (foundTold (dayQuestion n)) vs
+right (halves hi lo t) = same (textOf (joinedHalves hi lo)) (ascii t)
 
 abbrev pub all : List Row → Bool
 all [] = true

@@ -7,6 +7,7 @@ use Rattle.meaning.specs.Cutting.{named, segment, segmentStep, cut, cont
 use Rattle.meaning.specs.Spelling.{encloses, argument, upper, isUnicode, unicodeSpelling, delimiter, spelling}
 use Rattle.meaning.specs.Reading.{answer, one, read}
 use Rattle.meaning.specs.Numbers.{signLength, isMinus, baseBy, radixPrefix, parsed, separated, radixValue, i64Of, digitsBy, digitsOf, decimalOf}
+use Rattle.meaning.specs.Halves.{textOf}
 use Rattle.meaning.specs.Kinds.{bitBody, bits, money, tokenStart, quoteToken, temporalToken, temporal, charsetEnd}
 use Rattle.meaning.specs.Helpers.{uescapeLegal, escapeValid, unicodeValid, ident}
 use Rattle.meaning.specs.Answers.{partShown, filled}
@@ -30,14 +31,142 @@ use Rattle.meaning.proofs.PartRows as PartRows
 use Rattle.meaning.proofs.PlaceRows as PlaceRows
 use Rattle.meaning.proofs.BlockRows as BlockRows
 use Rattle.meaning.proofs.DateRows as DateRows
+use Rattle.meaning.proofs.PrintRows as PrintRows
+
+oracle1-right : T (all Oracle1.rows)
+unfolding within isMark isLetter isDecimal inName startsTag inTag digit allDigits lead utf8 more encode isScalar width isSpace doubled oneByte mayEscape
+    scalarBy pair lowHalf uescaped named segment segmentStep cut continues encloses argument upper isUnicode unicodeSpelling delimiter spelling answer one
+    read signLength isMinus baseBy radixPrefix parsed separated radixValue i64Of digitsBy digitsOf decimalOf textOf bitBody bits money tokenStart
+    quoteToken temporalToken temporal charsetEnd uescapeLegal escapeValid unicodeValid ident partShown filled cutsCharacter badSpan sourceText tested
+    stringQuestion decimalQuestion bitsQuestion temporalQuestion sourceQuestion moneyQuestion charsetQuestion i64Question identifierQuestion spell
+    writtenText overLimit unwritableNul writeQuestion figure isDoubled escapeForm unicodeFigures formText formQuestion line goodRecord recordLine output
+    itemAsked badBlock blockCall isLeap monthLength yearLength dayNumber isDay calendarDay dateOf dayQuestion isTenBytes isDate dayIn dateQuestion
+oracle1-right = tt
+
+oracle2-right : T (all Oracle2.rows)
+unfolding within isMark isLetter isDecimal inName startsTag inTag digit allDigits lead utf8 more encode isScalar width isSpace doubled oneByte mayEscape
+    scalarBy pair lowHalf uescaped named segment segmentStep cut continues encloses argument upper isUnicode unicodeSpelling delimiter spelling answer one
+    read signLength isMinus baseBy radixPrefix parsed separated radixValue i64Of digitsBy digitsOf decimalOf textOf bitBody bits money tokenStart
+    quoteToken temporalToken temporal charsetEnd uescapeLegal escapeValid unicodeValid ident partShown filled cutsCharacter badSpan sourceText tested
+    stringQuestion decimalQuestion bitsQuestion temporalQuestion sourceQuestion moneyQuestion charsetQuestion i64Question identifierQuestion spell
+    writtenText overLimit unwritableNul writeQuestion figure isDoubled escapeForm unicodeFigures formText formQuestion line goodRecord recordLine output
+    itemAsked badBlock blockCall isLeap monthLength yearLength dayNumber isDay calendarDay dateOf dayQuestion isTenBytes isDate dayIn dateQuestion
+oracle2-right = tt
+
+oracle3-right : T (all Oracle3.rows)
+unfolding within isMark isLetter isDecimal inName startsTag inTag digit allDigits lead utf8 more encode isScalar width isSpace doubled oneByte mayEscape
+    scalarBy pair lowHalf uescaped named segment segmentStep cut continues encloses argument upper isUnicode unicodeSpelling delimiter spelling answer one
+    read signLength isMinus baseBy radixPrefix parsed separated radixValue i64Of digitsBy digitsOf decimalOf textOf bitBody bits money tokenStart
+    quoteToken temporalToken temporal charsetEnd uescapeLegal escapeValid unicodeValid ident partShown filled cutsCharacter badSpan sourceText tested
+    stringQuestion decimalQuestion bitsQuestion temporalQuestion sourceQuestion moneyQuestion charsetQuestion i64Question identifierQuestion spell
+    writtenText overLimit unwritableNul writeQuestion figure isDoubled escapeForm unicodeFigures formText formQuestion line goodRecord recordLine output
+    itemAsked badBlock blockCall isLeap monthLength yearLength dayNumber isDay calendarDay dateOf dayQuestion isTenBytes isDate dayIn dateQuestion
+oracle3-right = tt
+
+oracle4-right : T (all Oracle4.rows)
+unfolding within isMark isLetter isDecimal inName startsTag inTag digit allDigits lead utf8 more encode isScalar width isSpace doubled oneByte mayEscape
+    scalarBy pair lowHalf uescaped named segment segmentStep cut continues encloses argument upper isUnicode unicodeSpelling delimiter spelling answer one
+    read signLength isMinus baseBy radixPrefix parsed separated radixValue i64Of digitsBy digitsOf decimalOf textOf bitBody bits money tokenStart
+    quoteToken temporalToken temporal charsetEnd uescapeLegal escapeValid unicodeValid ident partShown filled cutsCharacter badSpan sourceText tested
+    stringQuestion decimalQuestion bitsQuestion temporalQuestion sourceQuestion moneyQuestion charsetQuestion i64Question identifierQuestion spell
+    writtenText overLimit unwritableNul writeQuestion figure isDoubled escapeForm unicodeFigures formText formQuestion line goodRecord recordLine output
+    itemAsked badBlock blockCall isLeap monthLength yearLength dayNumber isDay calendarDay dateOf dayQuestion isTenBytes isDate dayIn dateQuestion
+oracle4-right = tt
+
+oracle5-right : T (all Oracle5.rows)
+unfolding within isMark isLetter isDecimal inName startsTag inTag digit allDigits lead utf8 more encode isScalar width isSpace doubled oneByte mayEscape
+    scalarBy pair lowHalf uescaped named segment segmentStep cut continues encloses argument upper isUnicode unicodeSpelling delimiter spelling answer one
+    read signLength isMinus baseBy radixPrefix parsed separated radixValue i64Of digitsBy digitsOf decimalOf textOf bitBody bits money tokenStart
+    quoteToken temporalToken temporal charsetEnd uescapeLegal escapeValid unicodeValid ident partShown filled cutsCharacter badSpan sourceText tested
+    stringQuestion decimalQuestion bitsQuestion temporalQuestion sourceQuestion moneyQuestion charsetQuestion i64Question identifierQuestion spell
+    writtenText overLimit unwritableNul writeQuestion figure isDoubled escapeForm unicodeFigures formText formQuestion line goodRecord recordLine output
+    itemAsked badBlock blockCall isLeap monthLength yearLength dayNumber isDay calendarDay dateOf dayQuestion isTenBytes isDate dayIn dateQuestion
+oracle5-right = tt
+
+clarified-right : T (all Clarified.rows)
+unfolding within isMark isLetter isDecimal inName startsTag inTag digit allDigits lead utf8 more encode isScalar width isSpace doubled oneByte mayEscape
+    scalarBy pair lowHalf uescaped named segment segmentStep cut continues encloses argument upper isUnicode unicodeSpelling delimiter spelling answer one
+    read signLength isMinus baseBy radixPrefix parsed separated radixValue i64Of digitsBy digitsOf decimalOf textOf bitBody bits money tokenStart
+    quoteToken temporalToken temporal charsetEnd uescapeLegal escapeValid unicodeValid ident partShown filled cutsCharacter badSpan sourceText tested
+    stringQuestion decimalQuestion bitsQuestion temporalQuestion sourceQuestion moneyQuestion charsetQuestion i64Question identifierQuestion spell
+    writtenText overLimit unwritableNul writeQuestion figure isDoubled escapeForm unicodeFigures formText formQuestion line goodRecord recordLine output
+    itemAsked badBlock blockCall isLeap monthLength yearLength dayNumber isDay calendarDay dateOf dayQuestion isTenBytes isDate dayIn dateQuestion
+clarified-right = tt
+
+formrows-right : T (all FormRows.rows)
+unfolding within isMark isLetter isDecimal inName startsTag inTag digit allDigits lead utf8 more encode isScalar width isSpace doubled oneByte mayEscape
+    scalarBy pair lowHalf uescaped named segment segmentStep cut continues encloses argument upper isUnicode unicodeSpelling delimiter spelling answer one
+    read signLength isMinus baseBy radixPrefix parsed separated radixValue i64Of digitsBy digitsOf decimalOf textOf bitBody bits money tokenStart
+    quoteToken temporalToken temporal charsetEnd uescapeLegal escapeValid unicodeValid ident partShown filled cutsCharacter badSpan sourceText tested
+    stringQuestion decimalQuestion bitsQuestion temporalQuestion sourceQuestion moneyQuestion charsetQuestion i64Question identifierQuestion spell
+    writtenText overLimit unwritableNul writeQuestion figure isDoubled escapeForm unicodeFigures formText formQuestion line goodRecord recordLine output
+    itemAsked badBlock blockCall isLeap monthLength yearLength dayNumber isDay calendarDay dateOf dayQuestion isTenBytes isDate dayIn dateQuestion
+formrows-right = tt
+
+partrows-right : T (all PartRows.rows)
+unfolding within isMark isLetter isDecimal inName startsTag inTag digit allDigits lead utf8 more encode isScalar width isSpace doubled oneByte mayEscape
+    scalarBy pair lowHalf uescaped named segment segmentStep cut continues encloses argument upper isUnicode unicodeSpelling delimiter spelling answer one
+    read signLength isMinus baseBy radixPrefix parsed separated radixValue i64Of digitsBy digitsOf decimalOf textOf bitBody bits money tokenStart
+    quoteToken temporalToken temporal charsetEnd uescapeLegal escapeValid unicodeValid ident partShown filled cutsCharacter badSpan sourceText tested
+    stringQuestion decimalQuestion bitsQuestion temporalQuestion sourceQuestion moneyQuestion charsetQuestion i64Question identifierQuestion spell
+    writtenText overLimit unwritableNul writeQuestion figure isDoubled escapeForm unicodeFigures formText formQuestion line goodRecord recordLine output
+    itemAsked badBlock blockCall isLeap monthLength yearLength dayNumber isDay calendarDay dateOf dayQuestion isTenBytes isDate dayIn dateQuestion
+partrows-right = tt
+
+placerows-right : T (all PlaceRows.rows)
+unfolding within isMark isLetter isDecimal inName startsTag inTag digit allDigits lead utf8 more encode isScalar width isSpace doubled oneByte mayEscape
+    scalarBy pair lowHalf uescaped named segment segmentStep cut continues encloses argument upper isUnicode unicodeSpelling delimiter spelling answer one
+    read signLength isMinus baseBy radixPrefix parsed separated radixValue i64Of digitsBy digitsOf decimalOf textOf bitBody bits money tokenStart
+    quoteToken temporalToken temporal charsetEnd uescapeLegal escapeValid unicodeValid ident partShown filled cutsCharacter badSpan sourceText tested
+    stringQuestion decimalQuestion bitsQuestion temporalQuestion sourceQuestion moneyQuestion charsetQuestion i64Question identifierQuestion spell
+    writtenText overLimit unwritableNul writeQuestion figure isDoubled escapeForm unicodeFigures formText formQuestion line goodRecord recordLine output
+    itemAsked badBlock blockCall isLeap monthLength yearLength dayNumber isDay calendarDay dateOf dayQuestion isTenBytes isDate dayIn dateQuestion
+placerows-right = tt
+
+blockrows-right : T (all BlockRows.rows)
+unfolding within isMark isLetter isDecimal inName startsTag inTag digit allDigits lead utf8 more encode isScalar width isSpace doubled oneByte mayEscape
+    scalarBy pair lowHalf uescaped named segment segmentStep cut continues encloses argument upper isUnicode unicodeSpelling delimiter spelling answer one
+    read signLength isMinus baseBy radixPrefix parsed separated radixValue i64Of digitsBy digitsOf decimalOf textOf bitBody bits money tokenStart
+    quoteToken temporalToken temporal charsetEnd uescapeLegal escapeValid unicodeValid ident partShown filled cutsCharacter badSpan sourceText tested
+    stringQuestion decimalQuestion bitsQuestion temporalQuestion sourceQuestion moneyQuestion charsetQuestion i64Question identifierQuestion spell
+    writtenText overLimit unwritableNul writeQuestion figure isDoubled escapeForm unicodeFigures formText formQuestion line goodRecord recordLine output
+    itemAsked badBlock blockCall isLeap monthLength yearLength dayNumber isDay calendarDay dateOf dayQuestion isTenBytes isDate dayIn dateQuestion
+blockrows-right = tt
+
+daterows-right : T (all DateRows.rows)
+unfolding within isMark isLetter isDecimal inName startsTag inTag digit allDigits lead utf8 more encode isScalar width isSpace doubled oneByte mayEscape
+    scalarBy pair lowHalf uescaped named segment segmentStep cut continues encloses argument upper isUnicode unicodeSpelling delimiter spelling answer one
+    read signLength isMinus baseBy radixPrefix parsed separated radixValue i64Of digitsBy digitsOf decimalOf textOf bitBody bits money tokenStart
+    quoteToken temporalToken temporal charsetEnd uescapeLegal escapeValid unicodeValid ident partShown filled cutsCharacter badSpan sourceText tested
+    stringQuestion decimalQuestion bitsQuestion temporalQuestion sourceQuestion moneyQuestion charsetQuestion i64Question identifierQuestion spell
+    writtenText overLimit unwritableNul writeQuestion figure isDoubled escapeForm unicodeFigures formText formQuestion line goodRecord recordLine output
+    itemAsked badBlock blockCall isLeap monthLength yearLength dayNumber isDay calendarDay dateOf dayQuestion isTenBytes isDate dayIn dateQuestion
+daterows-right = tt
+
+printrows-right : T (all PrintRows.rows)
+unfolding within isMark isLetter isDecimal inName startsTag inTag digit allDigits lead utf8 more encode isScalar width isSpace doubled oneByte mayEscape
+    scalarBy pair lowHalf uescaped named segment segmentStep cut continues encloses argument upper isUnicode unicodeSpelling delimiter spelling answer one
+    read signLength isMinus baseBy radixPrefix parsed separated radixValue i64Of digitsBy digitsOf decimalOf textOf bitBody bits money tokenStart
+    quoteToken temporalToken temporal charsetEnd uescapeLegal escapeValid unicodeValid ident partShown filled cutsCharacter badSpan sourceText tested
+    stringQuestion decimalQuestion bitsQuestion temporalQuestion sourceQuestion moneyQuestion charsetQuestion i64Question identifierQuestion spell
+    writtenText overLimit unwritableNul writeQuestion figure isDoubled escapeForm unicodeFigures formText formQuestion line goodRecord recordLine output
+    itemAsked badBlock blockCall isLeap monthLength yearLength dayNumber isDay calendarDay dateOf dayQuestion isTenBytes isDate dayIn dateQuestion
+printrows-right = tt
 
 pub rows-right : T (all Oracle1.rows) × T (all Oracle2.rows) × T (all Oracle3.rows) × T (all Oracle4.rows) × T (all Oracle5.rows) × T (all Clarified.rows)
     × T (all FormRows.rows) × T (all PartRows.rows) × T (all PlaceRows.rows) × T (all BlockRows.rows) × T (all DateRows.rows)
-unfolding within isMark isLetter isDecimal inName startsTag inTag digit allDigits lead utf8 more encode isScalar width isSpace doubled oneByte mayEscape
-    scalarBy pair lowHalf uescaped named segment segmentStep cut continues encloses argument upper isUnicode unicodeSpelling delimiter spelling answer one
-    read signLength isMinus baseBy radixPrefix parsed separated radixValue i64Of digitsBy digitsOf decimalOf bitBody bits money tokenStart quoteToken
-    temporalToken temporal charsetEnd uescapeLegal escapeValid unicodeValid ident partShown filled cutsCharacter badSpan sourceText tested stringQuestion
-    decimalQuestion bitsQuestion temporalQuestion sourceQuestion moneyQuestion charsetQuestion i64Question identifierQuestion spell writtenText overLimit
-    unwritableNul writeQuestion figure isDoubled escapeForm unicodeFigures formText formQuestion line goodRecord recordLine output itemAsked badBlock
-    blockCall isLeap monthLength yearLength dayNumber isDay calendarDay dateOf dayQuestion isTenBytes isDate dayIn dateQuestion
-rows-right = (tt, tt, tt, tt, tt, tt, tt, tt, tt, tt, tt)
+    × T (all PrintRows.rows)
+rows-right = (
+  oracle1-right,
+  oracle2-right,
+  oracle3-right,
+  oracle4-right,
+  oracle5-right,
+  clarified-right,
+  formrows-right,
+  partrows-right,
+  placerows-right,
+  blockrows-right,
+  daterows-right,
+  printrows-right,
+)
