@@ -9,7 +9,7 @@ use numbers::radix::Halves;
 use numbers::radix::read_radix_digits;
 
 // The low half of the negation, which wraps.
-// Rules out: the complement less one.
+// Rules out: the complement less one (must-fail: digits_mistaken).
 pub(crate) fn negated_low(lo: u64) -> u64
     ensures { λ r. ⌜ r ≡ negatedLow lo ⌝ }
 {
@@ -17,7 +17,7 @@ pub(crate) fn negated_low(lo: u64) -> u64
 }
 
 // The high half of the negation, which wraps, and which the low half borrows from unless it is zero.
-// Rules out: no carry into the high half (must-fail: no_carry_into_high).
+// Rules out: no carry into the high half; one by a low half of zero (must-fail: no_carry_into_high, digits_mistaken).
 pub(crate) fn negated_high(hi: u64, lo: u64) -> u64
     ensures { λ r. ⌜ r ≡ negatedHigh hi lo ⌝ }
 {
@@ -70,7 +70,7 @@ fn negated_halves(hi: u64, lo: u64) -> Halves
 }
 
 // A sign or none, then digits of base 2, 8 or 16 with `_` between two of them.
-// Rules out: this sign, the second of the text, passed over.
+// Rules out: this sign, the second of the text, passed over (must-fail: minus_lost).
 fn read_signed_halves(text: &[u8], base: u32) -> Halves
     requires { ⌜ radixBy base ≡ base ⌝ }
     ensures { λ r. ⌜ r ≡ halvesOf (parsedApart 127 base (now (text .entry))) ⌝ }

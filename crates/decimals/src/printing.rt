@@ -20,7 +20,7 @@ pub(crate) struct Parted {
 }
 
 // The number divided by a billion: the low half goes by two limbs of 32 bits.
-// Rules out: what is left taken by another divisor.
+// Rules out: what is left taken by another divisor, or of another limb (must-fail: digits_mistaken, other_digits).
 fn by_billion(hi: u64, lo: u64) -> Parted
     ensures { λ r. ⌜ Parts (joinedHalves hi lo) r ⌝ }
 {
@@ -34,6 +34,7 @@ fn by_billion(hi: u64, lo: u64) -> Parted
 }
 
 // How many decimal digits a number of 64 bits has.
+// Rules out: 9 counted as two digits; 10 as one (must-fail: digits_mistaken, other_digits).
 fn count_low(value: u64) -> usize
     ensures { λ r. ⌜ r ≡ length (digitsOf value) ⌝ }
 {
@@ -47,6 +48,7 @@ fn count_low(value: u64) -> usize
 }
 
 // How many decimal digits a number of 128 bits has.
+// Rules out: the low half alone counted, or as it was given (must-fail: low_half_alone, group_mistaken).
 fn count_digits(hi: u64, lo: u64) -> usize
     ensures { λ r. ⌜ r ≡ length (digitsOf (joinedHalves hi lo)) ⌝ }
 {
@@ -63,6 +65,7 @@ fn count_digits(hi: u64, lo: u64) -> usize
 }
 
 // Fills a part of the buffer, from its end back, with the last digits of a number, zeros in front.
+// Rules out: a group without its leading zeros; digits from 9 on (must-fail: digits_mistaken, other_digits).
 fn fill_low(value: u64, from: usize, until: usize, out: &mut [u8])
     requires { ⌜ (from ≤ until) × (until ≤ length (now out)) ⌝ }
     ensures { λ _. ⌜ drop from (now (out .exit)) ≡ lastOf (until - from) value ++ drop until (now (out .entry)) ⌝ }
@@ -77,7 +80,7 @@ fn fill_low(value: u64, from: usize, until: usize, out: &mut [u8])
 }
 
 // Fills a part of the buffer that is as long as the number's digits with them.
-// Rules out: a place that moves by less than is filled.
+// Rules out: a place that moves by less than is filled; a group's places left as they were lent (must-fail: group_mistaken, group_left_out).
 fn fill_digits(hi: u64, lo: u64, from: usize, until: usize, out: &mut [u8])
     requires { ⌜ (from + length (digitsOf (joinedHalves hi lo)) ≡ until) × (until ≤ length (now out)) ⌝ }
     ensures { λ _. ⌜ drop from (now (out .exit)) ≡ digitsOf (joinedHalves hi lo) ++ drop until (now (out .entry)) ⌝ }
@@ -97,6 +100,7 @@ fn fill_digits(hi: u64, lo: u64, from: usize, until: usize, out: &mut [u8])
 }
 
 // Prints a number of 128 bits. Without room the buffer is as it was lent.
+// Rules out: a store before the test of room; more room asked than is needed (must-fail: limit_or_place_mistaken, room_mistaken).
 fn print_plus(hi: u64, lo: u64, out: &mut [u8]) -> Read
     ensures { λ r. ⌜ Reads (written (digitsOf (joinedHalves hi lo))) (now (out .entry)) r (now (out .exit)) ⌝ }
 {
@@ -109,7 +113,8 @@ fn print_plus(hi: u64, lo: u64, out: &mut [u8]) -> Read
 }
 
 // Prints a number of 128 bits behind a minus. Without room the buffer is as it was lent.
-// Rules out: the minus over a digit (must-fail: limit_or_place_mistaken).
+// Rules out: the minus over the first digit; a store before the test of room; the minus not counted (must-fail: limit_or_place_mistaken,
+// minus_before_the_test, room_mistaken).
 fn print_minus(hi: u64, lo: u64, out: &mut [u8]) -> Read
     ensures { λ r. ⌜ Reads (written (45 ∷ digitsOf (joinedHalves hi lo))) (now (out .entry)) r (now (out .exit)) ⌝ }
 {
@@ -123,6 +128,8 @@ fn print_minus(hi: u64, lo: u64, out: &mut [u8]) -> Read
 }
 
 // Prints the signed number that 128 bits stand for. Without room the buffer is as it was lent.
+// Rules out: -2^127 without its minus; 2^127 - 1 behind one; a borrow by a low half of zero (must-fail: minus_lost, minus_before_the_greatest,
+// borrowed_by_zero).
 pub(crate) fn print_halves(hi: u64, lo: u64, out: &mut [u8]) -> Read
     ensures { λ r. ⌜ Reads (written (textOf (joinedHalves hi lo))) (now (out .entry)) r (now (out .exit)) ⌝ }
 {
