@@ -23,7 +23,7 @@ use Rattle.strings.proofs.Lending.{lent, back, back-same, back-take}
 use Rattle.strings.proofs.Storages.{stored-more}
 
 module _ (f : Family) (text : List ℕ) (b : Body) (chunk out : List ℕ) (ready : Store) (out′ : List ℕ) (part : Turn) (last : List ℕ)
-    (size : length chunk ≡ 272) (n : b .n ≤ 272) (inside : b .at ≤ length text)
+    (size : length chunk ≡ 240) (n : b .n ≤ 240) (inside : b .at ≤ length text)
     (e : Empties (record { total = b .total; n = b .n }) chunk out ready out′)
     (x′ : Turns f (lent (b .at) text) (lent (ready .n) chunk) part last) (end : End) (y : Ends text (b .at + part .at) f (part .ends) end) where
   abbrev chunk′ : List ℕ
@@ -38,7 +38,7 @@ module _ (f : Family) (text : List ℕ) (b : Body) (chunk out : List ℕ) (ready
   in-chunk : ready .n ≤ length chunk
   in-chunk = omega (arith, e .small, size)
 
-  few : ready .n + part .n ≤ 272
+  few : ready .n + part .n ≤ 240
   few = omega (arith, x .room, e .small)
 
   value-length : length (take (part .n) last) ≡ part .n
@@ -76,7 +76,7 @@ module _ (f : Family) (text : List ℕ) (b : Body) (chunk out : List ℕ) (ready
   }
 
 -- nothing read yet
-pub reading-none : (f : Family) (text : List ℕ) (s : Store) (chunk out : List ℕ) (end : End) → s .n ≤ 272
+pub reading-none : (f : Family) (text : List ℕ) (s : Store) (chunk out : List ℕ) (end : End) → s .n ≤ 240
     → Reading f text s chunk out (record { at = 0; plain = true; total = s .total; n = s .n; end = end }) chunk out
 reading-none f text s chunk out end h = record {
   v = [];
@@ -92,7 +92,7 @@ reading-none f text s chunk out end h = record {
 
 -- BY TURNS: what a turn asks, and what holds behind it
 module _ {f : Family} {text : List ℕ} {s : Store} {chunk₀ out₀ : List ℕ} {b : Body} {chunk out : List ℕ} (r : Reading f text s chunk₀ out₀ b chunk out) where
-  pub reading-size : length chunk₀ ≡ 272 → length chunk ≡ 272
+  pub reading-size : length chunk₀ ≡ 240 → length chunk ≡ 240
   reading-size e = r .chunk-same ∙ e
 
   pub reading-room : s .total + s .n + length text < 18446744073709551616 → b .total + b .n + length text < 18446744073709551616 + b .at

@@ -27,13 +27,13 @@ pub record Going (σ : Settings) (t d : List ℕ) (at : ℕ) (s : Store) (chunk 
   pub w : List ℕ
   pub walked : Walked σ t at w
   pub stored : Stored d w chunk out (s .total) (s .n)
-  pub size : length chunk ≡ 272
+  pub size : length chunk ≡ 240
   pub inside : at ≤ length t
-  pub few : s .n ≤ 272
+  pub few : s .n ≤ 240
   pub sum : s .total + s .n ≤ at
   pub joins : (at ≡ 0 → ⊥) → continues σ t ≡ true
 
-pub going-none : (σ : Settings) (t d chunk : List ℕ) → length chunk ≡ 272 → Going σ t d 0 (record { total = 0; n = 0 }) chunk d
+pub going-none : (σ : Settings) (t d chunk : List ℕ) → length chunk ≡ 240 → Going σ t d 0 (record { total = 0; n = 0 }) chunk d
 going-none σ t d chunk h = record {
   w = [];
   walked = walked-none σ t;

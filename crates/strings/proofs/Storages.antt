@@ -82,7 +82,7 @@ module _ {d w chunk out : List ℕ} {total n : ℕ} (s : Stored d w chunk out to
           ∙ sym (append-assoc (take total w) (drop total w) (drop (total + n) d))
           ∙ ap (_++ drop (total + n) d) (take-append-drop total w ∙ sym all)
 
-pub empties-not : (s : Store) (chunk out : List ℕ) → s .n ≤ 240 → Empties s chunk out s out
+pub empties-not : (s : Store) (chunk out : List ℕ) → s .n ≤ 208 → Empties s chunk out s out
 empties-not s chunk out h = record { sum = refl; small = h; same = refl; stores = λ d w x. x }
 
 pub empties-all : (s : Store) (chunk out after : List ℕ) → s .n ≤ length chunk → Behind (take (s .n) chunk) (s .total) out after

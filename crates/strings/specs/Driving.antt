@@ -74,7 +74,7 @@ pub record SegmentRead (σ : Settings) (t : List ℕ) (at : ℕ) (s : Store) (ch
   pub inside : r .next ≤ length t
   pub stores : (d w : List ℕ) → Stored d w chunk out (s .total) (s .n) → Stored d (w ++ v) chunk′ out′ (r .total) (r .n)
   pub sum : r .total + r .n ≤ r .next
-  pub few : r .n ≤ 272
+  pub few : r .n ≤ 240
   pub goes : at < r .next
 
 pub record ReadsSegment (σ : Settings) (t : List ℕ) (at : ℕ) (s : Store) (chunk out : List ℕ) (r : Segment) (chunk′ out′ : List ℕ) : Type 0 where
@@ -92,7 +92,7 @@ pub record DrivenBy (σ : Settings) (t d : List ℕ) (r : Segment) (chunk′ out
 
 pub record Drives (σ : Settings) (t d : List ℕ) (r : Segment) (chunk′ out′ : List ℕ) : Type 0 where
   pub out-same : length out′ ≡ length d
-  pub chunk-same : length chunk′ ≡ 272
+  pub chunk-same : length chunk′ ≡ 240
   pub reads : r .read ≡ true → DrivenBy σ t d r chunk′ out′
 
 -- a value that is written by a second walk, into a buffer of just its length

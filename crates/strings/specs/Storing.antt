@@ -27,7 +27,7 @@ pub record Behind (bytes : List ℕ) (total : ℕ) (out after : List ℕ) : Type
 
 pub record Empties (s : Store) (chunk out : List ℕ) (r : Store) (after : List ℕ) : Type 0 where
   pub sum : r .total + r .n ≡ s .total + s .n
-  pub small : r .n ≤ 240
+  pub small : r .n ≤ 208
   pub same : length after ≡ length out
   pub stores : (d w : List ℕ) → Stored d w chunk out (s .total) (s .n) → Stored d w chunk after (r .total) (r .n)
 
@@ -39,7 +39,7 @@ pub record Reading (f : Family) (text : List ℕ) (s : Store) (chunk₀ out₀ :
   pub stores : (d w : List ℕ) → Stored d w chunk₀ out₀ (s .total) (s .n) → Stored d (w ++ v) chunk out (b .total) (b .n)
   pub sum : b .total + b .n ≤ s .total + s .n + b .at
   pub inside : b .at ≤ length text
-  pub few : b .n ≤ 272
+  pub few : b .n ≤ 240
   pub chunk-same : length chunk ≡ length chunk₀
   pub out-same : length out ≡ length out₀
 

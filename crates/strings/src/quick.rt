@@ -170,7 +170,7 @@ fn read_segment(
     chunk: &mut [u8],
     out: &mut [u8],
 ) -> Segment
-    requires { ⌜ (has 0 (now text) ≡ false) × (utf8 (now text) ≡ true) × (at ≤ length (now text)) × (length (now chunk) ≡ 272) × (store .n ≤ 272) × (store .total + store .n ≤ at) ⌝ }
+    requires { ⌜ (has 0 (now text) ≡ false) × (utf8 (now text) ≡ true) × (at ≤ length (now text)) × (length (now chunk) ≡ 240) × (store .n ≤ 240) × (store .total + store .n ≤ at) ⌝ }
     ensures { λ r. ⌜ ReadsSegment settings (now (text .entry)) at store (now (chunk .entry)) (now (out .entry)) r (now (chunk .exit)) (now (out .exit)) ⌝ }
 {
     let opened = open_segment(text, at, settings);
@@ -195,7 +195,7 @@ fn read_segment(
 // segments are read by one call, so that it is compiled into the loop once.
 // Rules out: white space behind a lone segment passed over; several segments of which the second begins with a letter (must-fail: white_space_behind_one, second_by_a_letter).
 fn drive(text: &[u8], settings: Settings, chunk: &mut [u8], out: &mut [u8]) -> Segment
-    requires { ⌜ (has 0 (now text) ≡ false) × (utf8 (now text) ≡ true) × (length (now chunk) ≡ 272) ⌝ }
+    requires { ⌜ (has 0 (now text) ≡ false) × (utf8 (now text) ≡ true) × (length (now chunk) ≡ 240) ⌝ }
     ensures { λ r. ⌜ Drives settings (now (text .entry)) (now (out .entry)) r (now (chunk .exit)) (now (out .exit)) ⌝ }
 {
     let mut at: usize = 0;
@@ -223,7 +223,7 @@ fn drive(text: &[u8], settings: Settings, chunk: &mut [u8], out: &mut [u8]) -> S
 
 // Writes by a second walk what a first has counted.
 fn write_again(text: &[u8], settings: Settings, chunk: &mut [u8], out: &mut [u8]) -> bool
-    requires { ⌜ (has 0 (now text) ≡ false) × (utf8 (now text) ≡ true) × (length (now chunk) ≡ 272) ⌝ }
+    requires { ⌜ (has 0 (now text) ≡ false) × (utf8 (now text) ≡ true) × (length (now chunk) ≡ 240) ⌝ }
     ensures { λ r. ⌜ Rewrites settings (now (text .entry)) (now (out .entry)) r (now (out .exit)) ⌝ }
 {
     let driven = drive(text, settings, chunk, out);
@@ -240,7 +240,7 @@ pub(crate) fn read_quick(text: &[u8], settings: Settings, out: &mut [u8]) -> Qui
     requires { ⌜ (has 0 (now text) ≡ false) × (utf8 (now text) ≡ true) ⌝ }
     ensures { λ r. ⌜ QuickReads (read settings (now (text .entry))) (now (out .entry)) r (now (out .exit)) ⌝ }
 {
-    let mut chunk = [0u8; 272];
+    let mut chunk = [0u8; 240];
     let mut nowhere = [0u8; 1];
     let driven = drive(text, settings, &mut chunk, &mut nowhere);
     if !driven.read {

@@ -41,7 +41,7 @@ fn make_room(store: Store, chunk: &[u8], out: &mut [u8]) -> Store
 {
     let total = store.total;
     let n = store.n;
-    if n <= 240 {
+    if n <= 208 {
         return store;
     }
     put_behind(&chunk[..n], total, out);
@@ -53,7 +53,7 @@ fn make_room(store: Store, chunk: &[u8], out: &mut [u8]) -> Store
 
 // One turn more, into the chunk.
 fn fill(text: &[u8], family: Family, body: Body, chunk: &mut [u8], out: &mut [u8]) -> Body
-    requires { ⌜ (length (now chunk) ≡ 272) × (body .n ≤ 272) × (body .at ≤ length (now text)) × (body .total + body .n + length (now text) < 18446744073709551616 + body .at) ⌝ }
+    requires { ⌜ (length (now chunk) ≡ 240) × (body .n ≤ 240) × (body .at ≤ length (now text)) × (body .total + body .n + length (now text) < 18446744073709551616 + body .at) ⌝ }
     ensures { λ r. ⌜ Fills family (now (text .entry)) body (now (chunk .entry)) (now (out .entry)) r (now (chunk .exit)) (now (out .exit)) ⌝ }
 {
     let from = body.at;
@@ -83,7 +83,7 @@ pub(crate) fn read_body(
     chunk: &mut [u8],
     out: &mut [u8],
 ) -> Body
-    requires { ⌜ (length (now chunk) ≡ 272) × (store .n ≤ 272) × (store .total + store .n + length (now text) < 18446744073709551616) ⌝ }
+    requires { ⌜ (length (now chunk) ≡ 240) × (store .n ≤ 240) × (store .total + store .n + length (now text) < 18446744073709551616) ⌝ }
     ensures { λ r. ⌜ Reads-body family (now (text .entry)) store (now (chunk .entry)) (now (out .entry)) r (now (chunk .exit)) (now (out .exit)) ⌝ }
 {
     let mut body = Body {

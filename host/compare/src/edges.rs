@@ -41,9 +41,9 @@ const FAMILIES: [Family; 5] = [
     },
 ];
 
-/// Lengths of the first run: around blocks of 8 and 16 bytes, and around chunks of 256 bytes with their rest.
+/// Lengths of the first run: around blocks of 8 and 16 bytes, and around chunks, which are emptied at 224 bytes of a run, with their rest.
 fn lengths() -> impl Iterator<Item = usize> {
-    (0..=36).chain(222..=306).chain(462..=546)
+    (0..=36).chain(190..=274).chain(414..=498)
 }
 
 const BEHIND: [&str; 7] = [
