@@ -20,7 +20,7 @@ static ucontext_t here, there;
 static int idle;
 
 static const char *text;
-static uint32_t len, kind, how, year, month, day, number;
+static uint32_t len, kind, how, year, month, day, number, items[4], answers[4];
 static size_t first, second, place;
 static volatile uint32_t told;
 
@@ -51,6 +51,18 @@ static void as_date(void)
     CALL(valdrabus_as_date, kind, 0, 0, len, bytes(text), len, &year, &month, &day, &number, &first, &second);
 }
 
+static void as_temporal_text(void)
+{
+    CALL(valdrabus_as_temporal_text, kind, 0, 0, len, bytes(text), len, out, sizeof out, &how, &first, &second, &place);
+}
+
+static void read_block(void)
+{
+    items[0] = kind;
+    items[3] = len;
+    CALL(valdrabus_read_block, items, 4, bytes(text), len, answers, 4, out, sizeof out);
+}
+
 static void write_literal(void)
 {
     CALL(valdrabus_write_literal, bytes(text), len, 0, out, sizeof out, &first);
@@ -66,7 +78,9 @@ static void embeds_nul(void)
     CALL(valdrabus_string_literal_embeds_nul, bytes(text), len);
 }
 
-/* Texts that go deep: joined ones that are refused, so that they are read by units, of which one has eight digits; no ASCII; numbers that are printed. */
+/* Texts that go deep: joined ones that are read quickly, by digits and behind a space that is not ASCII, and that are refused, so that they are read by units, of
+   which one has eight digits; no ASCII; numbers that are printed. */
+#define QUICK "E'\\303\\251'\xE3\x80\x80'a'"
 #define REFUSED "E'\\U0001F600' 'a' E'\\400'"
 #define MIXED "\xC3\xA9'\x01\\\xF0\x9F\x98\x80"
 static const struct row {
@@ -75,7 +89,11 @@ static const struct row {
     uint32_t kind;
     const char *text;
 } rows[] = {
+    {"as_str_in", as_str_in, VALDRABUS_KIND_STRING, QUICK},
     {"as_str_in", as_str_in, VALDRABUS_KIND_STRING, REFUSED},
+    {"read_block", read_block, VALDRABUS_KIND_STRING, QUICK},
+    {"as_temporal_text", as_temporal_text, VALDRABUS_KIND_DATE, "DATE " QUICK},
+    {"as_date", as_date, VALDRABUS_KIND_DATE, "DATE " QUICK},
     {"as_date", as_date, VALDRABUS_KIND_DATE, "DATE " REFUSED},
     {"as_decimal_text", as_decimal_text, VALDRABUS_KIND_DECIMAL, "0x-80000000000000000000000000000000"},
     {"as_decimal_text", as_decimal_text, VALDRABUS_KIND_DECIMAL, "-0b101_0"},
