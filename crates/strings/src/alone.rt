@@ -58,7 +58,7 @@ pub(crate) fn read_body(text: &[u8], body: Body, out: &mut [u8]) -> Read
 
 // How a text that is read as one is spelled; not at all, where it holds a raw NUL. Both callers ask this before they read what it tells, so that it has left the
 // stack by then.
-// Rules out: a raw NUL kept; the setting lost (must-fail: nul_kept, spelled_with_the_setting_on).
+// Rules out: a text with a raw NUL read as an empty one; the setting lost (must-fail: nul_read_as_empty, spelled_with_the_setting_on).
 pub(crate) fn spell_alone(text: &[u8], settings: Settings) -> Spelled
     ensures { λ r. ⌜ SpellsAlone settings (now (text .entry)) r ⌝ }
 {
