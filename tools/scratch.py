@@ -4,13 +4,15 @@
     tools/scratch.py
 
 Walks from `print_halves` to every function, type and constant that it comes to, in all crates. None may have an array, a byte string or a slice of anything but
-what is lent; a name that cannot be followed is a fault too. The same of all that the decimal question comes to, from its export on. Of the printer's stores:
-each goes to a place that has just fallen by one, but for the minus, which goes to place 0 behind all others; a place that is handed on only falls; and the test
-of room stands before the first. Wrong printers, made by edits in memory, must each be found. Exits 1 where one of this does not hold.
+what is lent; what cannot be followed or read is a fault too. The same of all that the decimal question comes to, from its export on. No function of the printer
+may call itself, and what it says of the lent buffer and of places in it has to stand in STORES, statement by statement; no other function of it may take
+anything that can be stored to. Numbers in locals and structs are no scratch (docs/DECISIONS 95), and what stands before `print_halves` may store as it likes.
+Wrong printers, made by edits in memory, must each be found, and right ones must not. Exits 1 where one of this does not hold.
 """
 import collections
 import functools
 import glob
+import itertools
 import os
 import re
 import sys
@@ -19,12 +21,73 @@ import typing
 os.chdir(os.path.join(os.path.dirname(os.path.abspath(__file__)), '..'))
 PRINTER = 'decimals::printing::print_halves'
 QUESTION = 'valdrabus::texts::valdrabus_as_decimal_text'
-# What std::num has, and what a primitive type has, takes numbers and gives one.
-NUMBERS = 'std::num::'
+PRINTING, HALVES, READING = ('crates/decimals/src/printing.rt', 'crates/decimals/src/halves.rt', 'crates/decimals/src/decimal.rt')
+# All that the printer says of the lent buffer and its places; `..` is what names neither, and so are the statements between. One that keeps the promise of
+# falling places, each stored to once, may be written here with the reason why it does.
+STORES = {PRINTING: '''
+// The loop goes down from `until` to `from`, and each place is stored to just when it is come to.
+fn fill_low(.., from: usize, until: usize, out: &mut [u8]) {
+    let mut i = until;
+    while from < i {
+        i -= 1;
+        out[i] = ..;
+    }
+}
+
+// Each group ends where the one behind it begins, and so does the front.
+fn fill_digits(.., from: usize, until: usize, out: &mut [u8]) {
+    let mut i = until;
+    while .. {
+        let end = i;
+        i -= 9;
+        fill_low(.., i, end, out);
+    }
+    fill_low(.., from, i, out);
+}
+
+// All places, behind the test of room.
+fn print_plus(.., out: &mut [u8]) -> Read {
+    let needed = ..;
+    if out.len() < needed {
+        return Read::NoRoom { needed: needed };
+    }
+    fill_digits(.., 0, needed, out);
+    Read::Written { len: needed }
+}
+
+// All places but the first, behind the test of room, and then the first.
+fn print_minus(.., out: &mut [u8]) -> Read {
+    let needed = ..;
+    if out.len() < needed {
+        return Read::NoRoom { needed: needed };
+    }
+    fill_digits(.., 1, needed, out);
+    out[0] = ..;
+    Read::Written { len: needed }
+}
+
+// One of the two.
+fn print_halves(.., out: &mut [u8]) -> Read {
+    if .. {
+        return print_plus(.., out);
+    }
+    print_minus(.., out)
+}
+'''}
+# What takes numbers and gives one.
+NUMBERS = r'std::num::wrapping_\w+'
 PRIMITIVE = {'u8', 'u16', 'u32', 'u64', 'usize', 'i8', 'i16', 'i32', 'i64', 'isize', 'f32', 'f64', 'bool'}
 KEYWORDS = {'as', 'break', 'const', 'continue', 'else', 'enum', 'extern', 'false', 'fn', 'for', 'if', 'in', 'let', 'loop', 'match', 'mut', 'pub', 'return',
             'struct', 'true', 'type', 'while', '_'}
-TOKEN = re.compile(r'''//[^\n]*|\s+|(b?"(?:\\.|[^"\\])*"|b'(?:\\.|[^'\\])'|'[a-z]\w*|\w+|::|->|=>|\.\.=?|<<=|>>=|<<|>>|&&|\|\||[-+*/%&|^=!<>]=|.)''')
+BEFORE_ITEMS = {'pub', '(', 'crate', ')', 'extern', '"C"', '#', '[', 'no_mangle', ']'}
+TOKEN = re.compile(r'''//[^\n]*|/\*|\s+|(b?r#*"|b?"(?:\\.|[^"\\])*"|b?'(?:\\.|[^'\\])'|'[a-z]\w*|\w+'''
+                   r'''|::|->|=>|\.\.=?|<<=|>>=|<<|>>|&&|\|\||[-+*/%&|^=!<>]=|.)''', re.S)
+IN_COMMENT = re.compile(r'/\*|\*/|.', re.S)
+CONTRACT = re.compile(r'\{ (λ \w+ \. )?⌜ [^⌜⌝]* ⌝ \}')
+
+
+class Unknown(Exception):
+    """what cannot be read"""
 
 
 class Token(typing.NamedTuple):
@@ -50,24 +113,37 @@ def sources():
     return found
 
 
-def blank(found):
-    """so that lines stay where they are"""
-    return re.sub(r'[^\n]', ' ', found[0])
+def uncommented(text):
+    """the tokens of a text; block comments nest"""
+    at, line, depth = 0, 1, 0
+    while at < len(text):
+        found = (IN_COMMENT if depth else TOKEN).match(text, at)
+        if depth or found[0] == '/*':
+            depth += (found[0] == '/*') - (found[0] == '*/')
+        elif found[1]:
+            yield Token(found[1], line)
+        at, line = found.end(), line + found[0].count('\n')
 
 
 @functools.cache
-def tokens_of(text):
-    """without comments, and without what is said to the prover alone"""
-    text = re.sub(r'^ghost use [^;]*;', blank, text, flags=re.M)
-    text = re.sub(r'^\s*(?:requires|ensures) \{.*?⌝ \}$', blank, text, flags=re.M | re.S)
-    line, tokens = 1, []
-    for found in TOKEN.finditer(text):
-        if found[1]:
-            if not found[1].isascii():
-                sys.exit(f'what is said to the prover is not told from code: {text[found.start():].split(chr(10))[0]}')
-            tokens.append(Token(found[1], line))
-        line += found[0].count('\n')
-    return tokens
+def tokens_of(file, text):
+    """without what is said to the prover alone"""
+    tokens, kept, at = list(uncommented(text)), [], 0
+    texts = [token.text for token in tokens]
+    while at < len(tokens):
+        end = at
+        if texts[at:at + 2] == ['ghost', 'use'] and tokens[texts.index(';', at)].line == tokens[at].line:
+            end = texts.index(';', at) + 1
+        elif texts[at] in ('requires', 'ensures'):
+            end = closing(texts, at + 1) + 1
+            if not CONTRACT.fullmatch(' '.join(texts[at + 1:end])):
+                raise Unknown(f'{file}:{tokens[at].line}: what is said to the prover cannot be told from code')
+        elif not texts[at].isascii() or re.fullmatch('b?r#*"', texts[at]):
+            raise Unknown(f'{file}:{tokens[at].line}: {texts[at]} cannot be told from code')
+        else:
+            kept.append(tokens[at])
+        at = max(end, at + 1)
+    return kept
 
 
 def closing(texts, at):
@@ -77,7 +153,7 @@ def closing(texts, at):
         depth += (texts[i] in '([{') - (texts[i] in ')]}')
         if depth == 0:
             return i
-    sys.exit(f'{texts[at]} is not closed')
+    raise Unknown(f'{texts[at]} is not closed')
 
 
 def end_of(texts, at, last):
@@ -93,34 +169,39 @@ class Code:
     def __init__(self, files):
         self.items, self.uses = {}, collections.defaultdict(dict)
         self.crates = {name.split('/')[1] for name in files}
+        self.lines = {name: text.split('\n') for name, text in files.items()}
         for name, text in files.items():
             _, crate, _, file = name.split('/')
             part = file.removesuffix('.rt')
             module = crate if part in ('lib', 'main') else f'{crate}::{part}'
-            self.take(module, module, name, tokens_of(text))
+            self.take(module, module, name, tokens_of(name, text))
 
     def take(self, module, owner, file, tokens):
         texts, at = [token.text for token in tokens], 0
         while at < len(texts):
             kind, end = texts[at], at + 1
-            if kind == '#':
-                end = closing(texts, at + 1) + 1
-            elif kind in ('use', 'mod'):
+            if kind in ('use', 'mod'):
                 end = texts.index(';', at) + 1
                 self.use(module, texts[at + 1:end - 1], kind)
-            elif kind == 'impl':
+            elif kind == 'impl' and texts[at + 2] == '{':
                 body = texts.index('{', at)
                 end = end_of(texts, at, '{')
                 self.take(module, f'{owner}::{texts[at + 1]}', file, tokens[body + 1:end - 1])
             elif kind in ('fn', 'struct', 'enum', 'const', 'type'):
                 end = end_of(texts, at, '{' if kind == 'fn' else ';' if kind in ('const', 'type') else '{;')
-                path = f'{owner}::{texts[at + 1]}'
-                self.items[path] = Item(kind, path, module, file, tokens[at + 2:end])
+                self.add(Item(kind, f'{owner}::{texts[at + 1]}', module, file, tokens[at + 2:end]))
+            elif kind not in BEFORE_ITEMS:
+                raise Unknown(f'{file}:{tokens[at].line}: {kind}: this form of item is not known')
             at = end
+
+    def add(self, item):
+        if item.path in self.items:
+            raise Unknown(f'{item.file}: {item.path} stands there twice')
+        self.items[item.path] = item
 
     def use(self, module, words, kind):
         if not all(re.fullmatch(r'\w+|::', word) for word in words) or 'as' in words:
-            sys.exit(f'{module}: this form of {kind} is not known: {" ".join(words)}')
+            raise Unknown(f'{module}: this form of {kind} is not known: {" ".join(words)}')
         if kind == 'use':
             self.uses[module][words[-1]] = ''.join(words)
 
@@ -139,8 +220,11 @@ class Code:
         return None
 
     def methods(self, name):
-        """all that have a name, of whatever type"""
-        return [item for item in self.items.values() if re.fullmatch(f'{item.module}::\\w+::{name}', item.path)]
+        """all functions that have a name, of whatever type"""
+        return [item for item in self.items.values() if item.kind == 'fn' and item.path.endswith(f'::{name}')]
+
+    def told(self, item, line, what):
+        return f'{item.file}:{line}: {item.path}: {self.lines[item.file][line - 1].strip()}: {what}'
 
 
 # What an item comes to
@@ -155,7 +239,7 @@ def paths_in(item):
         if re.fullmatch(r'[A-Za-z_]\w*', texts[at]) and texts[at] not in KEYWORDS and not is_variant:
             while texts[end:end + 1] == ['::']:
                 end += 2
-            yield at, ''.join(texts[at:end]), texts[end:end + 1] == ['(']
+            yield at, ''.join(texts[at:end]), texts[end:end + 1] in (['('], ['!'])
         at = end
 
 
@@ -169,8 +253,8 @@ def reached_from(item, code):
 def named(path, called, behind_dot, item, code):
     """what a path stands for. A small letter without a call may be a local, a field or a parameter."""
     if behind_dot:
-        return code.methods(path) or [path] if called and path != 'len' else []
-    if path.split('::')[0] in PRIMITIVE or path.startswith(NUMBERS):
+        return code.methods(path) or ([] if path == 'len' else [path]) if called else []
+    if path in PRIMITIVE or re.fullmatch(NUMBERS, path):
         return []
     if path.split('::')[0] == 'Self':
         path = path.replace('Self', item.path.split('::')[-2], 1)
@@ -189,7 +273,7 @@ def walk(start, code):
         item = todo.pop()
         for at, found in reached_from(item, code):
             if isinstance(found, str):
-                faults.append(f'{item.file}:{item.tokens[at].line}: {item.path}: {found} cannot be followed')
+                faults.append(code.told(item, item.tokens[at].line, f'{found} cannot be followed'))
             elif found.path not in known:
                 known[found.path] = found
                 todo.append(found)
@@ -237,194 +321,195 @@ def arrays_in(item):
             yield line, 'an array'
 
 
-def arrays(known):
-    return [f'{item.file}:{line}: {item.path} has {what}' for item in known.values() for line, what in arrays_in(item)]
+def arrays(known, code):
+    return [code.told(item, line, f'{item.path} has {what}') for item in known.values() for line, what in arrays_in(item)]
 
 
 # Stores
 
-def level(texts, at):
-    """how many braces are open at a place"""
-    return texts[:at].count('{') - texts[:at].count('}')
+def pieces_of(item):
+    """its tokens, each piece up to a `;`, `{` or `}`; that a local may change says nothing of the buffer, any other `mut` may"""
+    piece = []
+    for token in item.tokens:
+        if token.text != 'mut' or not piece or piece[-1].text != 'let':
+            piece.append(token)
+        if token.text in ';{}':
+            yield piece
+            piece = []
 
 
-def is_test_of_room(texts, at):
-    """`if out.len() < needed { return Read::NoRoom`"""
-    return texts[at] == 'if' and texts[at + 2:at + 7] == ['.', 'len', '(', ')', '<'] and texts[at + 8:at + 13] == ['{', 'return', 'Read', '::', 'NoRoom']
+def names_of(form):
+    """what STORES names in a function: the buffer and the places"""
+    texts = [token.text for token in form.tokens]
+    named = {text for text, behind in zip(texts, texts[1:]) if re.fullmatch(r'[a-z]\w*', text) and behind != '('}
+    return named - KEYWORDS - PRIMITIVE | {'mut'}
 
 
-def stores_in(item):
-    """the place of each store through a reference: of the bracket behind the slice's name, or of the * before another's"""
-    texts = [token.text for token in item.tokens]
-    for at in range(body_of(item) + 1, len(texts)):
-        if texts[at] == '[' and re.fullmatch(r'[-+*/%&|^]?=|<<=|>>=', texts[closing(texts, at) + 1]):
-            yield at
-        if texts[at] == '*' and texts[at - 1] in ';{}':
-            yield at
+def is_of_form(piece, form, names):
+    other = rf'(?:(?!(?:{"|".join(names)}) )\S+ )*'
+    pattern = ''.join(other if token.text == '..' else re.escape(f'{token.text} ') for token in form)
+    return re.fullmatch(pattern, ''.join(f'{token.text} ' for token in piece))
 
 
-class Printer:
-    """the functions of the printing path, with what of them stores, itself or by a call"""
+def unforeseen(item, form, code):
+    """the first piece that says something of the buffer or of places and does not stand in STORES; without a form, each that can be stored through"""
+    names = names_of(form) if form else {'mut'}
+    told = [piece for piece in pieces_of(item)
+            if form and piece[-1].text != ';' or names & {token.text for token in piece}]
+    foreseen = [piece for piece in pieces_of(form) if piece[-1].text != ';' or len(piece) > 1] if form else []
+    for piece, expected in itertools.zip_longest(told, foreseen, fillvalue=[]):
+        if not is_of_form(piece, expected, names):
+            at = (piece or item.tokens)[0].line
+            instead = ' '.join(token.text for token in expected) or 'nothing more'
+            return [code.told(item, at, f'is not foreseen, but there {instead}. If it keeps the promise, say so in STORES')]
+    return []
 
-    def __init__(self, known, code):
-        self.functions = {path: item for path, item in known.items() if item.kind == 'fn'}
-        self.texts = {path: [token.text for token in item.tokens] for path, item in self.functions.items()}
-        self.stores = {path: list(stores_in(item)) for path, item in self.functions.items()}
-        calls = {path: [(at, found.path) for at, found in reached_from(item, code) if isinstance(found, Item) and found.kind == 'fn']
-                 for path, item in self.functions.items()}
-        storing = {path for path, stores in self.stores.items() if stores}
-        while more := {path for path in calls if path not in storing and any(to in storing for _, to in calls[path])}:
-            storing |= more
-        self.calls = {path: [(at, to) for at, to in calls[path] if to in storing] for path in storing}
 
-    def told(self, path, at, what):
-        item = self.functions[path]
-        return f'{item.file}:{item.tokens[at].line}: {path} {what}'
+def calling_themselves(known, code):
+    """functions that come to themselves: what each call keeps is scratch too"""
+    reached = {path: {found.path for _, found in reached_from(item, code) if isinstance(found, Item)} for path, item in known.items()}
+    for path, item in known.items():
+        behind, todo = set(), [path]
+        while todo:
+            new = reached[todo.pop()] - behind
+            behind |= new
+            todo += new
+        if item.kind == 'fn' and path in behind:
+            yield code.told(item, item.tokens[0].line, 'calls itself, or is called by what it calls')
 
-    def falls(self, path, name):
-        """whether a local is made once, outside of loops, and from then on only made less"""
-        texts = self.texts[path]
-        made = [at for at in range(2, len(texts)) if texts[at - 2:at + 1] == ['let', 'mut', name]]
-        moved = [texts[at + 1] for at in range(1, len(texts) - 1) if texts[at] == name and texts[at - 1] in ';{}']
-        return len(made) == 1 and level(texts, made[0]) == 1 and all(by == '-=' for by in moved if by.endswith('='))
 
-    def is_next_below(self, path, at):
-        """`out[i] = ..` straight behind `i -= 1;`"""
-        texts = self.texts[path]
-        return texts[at + 2] == ']' and texts[at - 5:at - 1] == [texts[at + 1], '-=', '1', ';'] and self.falls(path, texts[at + 1])
-
-    def is_minus(self, path, at):
-        """`out[0] = ..`, not in a loop or a branch, behind all else that stores in its function, of which there is some"""
-        texts = self.texts[path]
-        others = [place for place in self.stores[path] if place != at] + [place for place, _ in self.calls[path]]
-        return texts[at + 1:at + 3] == ['0', ']'] and level(texts, at) == 1 and bool(others) and max(others) < at
-
-    def misplaced(self):
-        """stores that are of neither form; and, since the minus has to be stored, none or several of it"""
-        minus = [(path, at) for path, stores in self.stores.items() for at in stores if self.is_minus(path, at)]
-        for path, stores in self.stores.items():
-            for at in stores:
-                if (path, at) not in minus and not self.is_next_below(path, at):
-                    yield self.told(path, at, 'stores to another place than the next one below')
-        if len(minus) != 1:
-            yield f'{PRINTER} stores a minus last in {len(minus)} places'
-
-    def places_handed(self, path, at, to):
-        """the names in the arguments of a call that say places"""
-        item = self.functions[to]
-        takes = re.findall(r'(\w+) : ([^,()]*)', ' '.join(token.text for token in item.tokens[:body_of(item)]).split(' -> ')[0])
-        texts = self.texts[path]
-        start = texts.index('(', at)
-        given, depth = [[]], 0
-        for text in texts[start + 1:closing(texts, start)]:
-            depth += (text in '([{') - (text in ')]}')
-            if text == ',' and depth == 0:
-                given.append([])
-            else:
-                given[-1].append(text)
-        return {text for (_, kind), words in zip(takes, given) if kind.strip() == 'usize' for text in words}
-
-    def rising(self):
-        """places that are handed on and do not only fall"""
-        for path, calls in self.calls.items():
-            texts = self.texts[path]
-            if 'for' in texts:
-                yield self.told(path, texts.index('for'), 'counts up by a for')
-            for at, to in calls:
-                changed = {name for name in self.places_handed(path, at, to) if f' let mut {name} ' in ' '.join(texts)}
-                for name in changed:
-                    if not self.falls(path, name):
-                        yield self.told(path, at, f'hands on {name}, which does not only fall')
-
-    def untested(self, path, seen=()):
-        """what stores, from a function on, without a test of room before it that stands in no loop or branch"""
-        texts = self.texts[path]
-        tested = min((at for at in range(len(texts)) if is_test_of_room(texts, at) and level(texts, at) == 1), default=len(texts))
-        for at, to in sorted([(at, None) for at in self.stores[path]] + self.calls.get(path, []), key=lambda event: event[0]):
-            if at < tested and to is None:
-                yield self.told(path, at, 'stores before a test of room')
-            elif at < tested and tested < len(texts):
-                yield self.told(path, at, 'calls what stores before its test of room')
-            elif at < tested and to not in seen:
-                yield from self.untested(to, (*seen, path))
-
-    def faults(self):
-        return [*self.misplaced(), *self.rising(), *self.untested(PRINTER)]
+def printer_faults(known, code):
+    forms = Code(STORES).items
+    faults = [f'{path} stands in STORES and is not on the printing path' for path in forms if path not in known]
+    for path, item in known.items():
+        faults += unforeseen(item, forms.get(path), code)
+    return faults + list(calling_themselves(known, code))
 
 
 # The control
 
-PRINTING, HALVES, READING = ('crates/decimals/src/printing.rt', 'crates/decimals/src/halves.rt', 'crates/decimals/src/decimal.rt')
-PASSED = '    let mut left = value;\n    while from < i {\n'
+COUNTED = '    let mut n = 0;\n    let mut left = value;\n'
+LEFT = '    let mut left = value;\n    while from < i {\n'
 STORED = 'out[i] = 48 + (left % 10) as u8;'
-LAST = '    fill_digits(hi, lo, 1, needed, out);\n    out[0] = 45;\n'
+GROUPS = '    let mut i = until;\n    let mut h = hi;\n    let mut l = lo;\n'
+GROUP = 'fill_low(t.rest, i, end, out);'
+FRONT = '    fill_low(l, from, i, out);\n'
+PLUS = '    fill_digits(hi, lo, 0, needed, out);\n'
+MINUS = '    fill_digits(hi, lo, 1, needed, out);\n'
 FULL = '    if out.len() < needed {\n        return Read::NoRoom { needed: needed };\n    }\n'
 FIRST_PLUS = '    let needed = count_digits(hi, lo);\n' + FULL
 FIRST_MINUS = '    let needed = 1 + count_digits(hi, lo);\n' + FULL
-# what is wrong; a word of what is found; file, text and what stands for it, once or more
+COUNTS = 'ensures { λ r. ⌜ r ≡ length (digitsOf value) ⌝ }\n{\n' + COUNTED
+NEXT = 'fn by_billion('     # new items are put before it
+NINE = 'let nine = [0u8; 9];'
+
+
+def helper(text):
+    return PRINTING, NEXT, f'{text}\n\n{NEXT}'
+
+
+# what is wrong; words of what is found; file, text and what stands for it, once or more
 WRONG = [
-    ('an array as a local', 'an array', PRINTING, PASSED, '    let mut nine = [0u8; 9];\n' + PASSED),
-    ('an array of two values', 'an array', PRINTING, PASSED, '    let pair = [from, until];\n' + PASSED),
-    ('a slice of an array handed on', 'an array', PRINTING, 'fill_digits(hi, lo, 0, needed, out);', 'fill_digits(hi, lo, 0, needed, &mut [0u8; 40]);'),
-    ('a slice of one value handed on', 'an array', PRINTING, 'fill_digits(hi, lo, 0, needed, out);', 'fill_digits(hi, lo, 0, needed, &mut [lo]);'),
+    ('an array as a local', 'fill_low has an array', PRINTING, LEFT, f'    {NINE}\n{LEFT}'),
+    ('an array of two values', 'fill_low has an array', PRINTING, LEFT, '    let pair = [from, until];\n' + LEFT),
+    ('an array behind a comment', 'count_low has an array', PRINTING, COUNTED, f'    /* // */ {NINE}\n{COUNTED}'),
+    ('an array behind comments in one another', 'count_low has an array', PRINTING, COUNTED, f'    /* /* */ // */ {NINE}\n{COUNTED}'),
+    ('an array in a body on its contract\'s line', 'count_low has an array', PRINTING, COUNTS, COUNTS.replace('⌝ }\n{', '⌝ } {\n    ' + NINE)),
+    ('a use for the prover that runs on over code', 'this form of item is not known', PRINTING, 'use meaning::Read;', 'use meaning::Read;\nghost use x\nfn y() {}\n;'),
+    ('a contract of no known form', 'cannot be told from code', PRINTING, COUNTS, COUNTS.replace(' ⌝ }\n{', ' { ⌝ } {\n    ' + NINE + ' }')),
+    ('a slice of an array handed on', 'print_plus has an array', PRINTING, PLUS, PLUS.replace('out', '&mut [0u8; 40]')),
+    ('a slice of one value handed on', 'print_plus has an array', PRINTING, PLUS, PLUS.replace('out', '&mut [lo]')),
     ('digits from a byte string', 'a byte string', PRINTING, STORED, 'out[i] = b"0123456789"[left % 10];'),
-    ('digits from a table', 'printing::TABLE has an array', PRINTING, STORED, 'out[i] = TABLE[left % 10];',
-     PRINTING, 'fn by_billion(', 'const TABLE: [u8; 2] = [48, 49];\n\nfn by_billion('),
+    ('digits from a table', 'printing::TABLE has an array', PRINTING, STORED, 'out[i] = TABLE[left % 10];', *helper('const TABLE: [u8; 2] = [48, 49];')),
     ('a table of another crate', 'spaces::LOWS has an array', PRINTING, STORED, 'out[i] = spaces::LOWS[left % 10];'),
     ('an array in a struct', 'printing::Parted has an array', PRINTING, '    pub rest: u64,\n}', '    pub rest: u64,\n    pub nine: [u8; 9],\n}'),
     ('an array in what a struct holds', 'printing::Nine has an array', PRINTING, '    pub rest: u64,\n}', '    pub rest: Nine,\n}\n\nstruct Nine([u8; 9]);'),
-    ('an array by another name', 'printing::Nine has an array', PRINTING, PASSED, '    let nine: Nine = nines();\n' + PASSED,
-     PRINTING, 'fn by_billion(', 'type Nine = [u8; 9];\n\nfn nines() -> Nine {\n    nines()\n}\n\nfn by_billion('),
+    ('an array by another name', 'printing::Nine has an array', PRINTING, LEFT, '    let nine: Nine = nines();\n' + LEFT,
+     *helper('type Nine = [u8; 9];\n\nfn nines() -> Nine {\n    nines()\n}')),
     ('an array two calls deep', 'halves::deep has an array', HALVES, '    std::num::wrapping_sub_u64(0, lo)\n', '    deeper(lo)\n',
      HALVES, 'fn signed_halves(', 'fn deep(lo: u64) -> u64 {\n    let both = [lo; 2];\n    both[0]\n}\n\nfn deeper(lo: u64) -> u64 {\n    deep(lo)\n}\n\nfn signed_halves('),
     ('an array in another crate, by use', 'runs::block_of has an array', PRINTING, 'use meaning::Read;', 'use meaning::Read;\nuse strings::runs::block_of;',
      PRINTING, FIRST_PLUS, FIRST_PLUS + '    block_of(out);\n'),
+    ('an array in a method named len', 'Parted::len has an array', PRINTING, 'let end = i;', 't.len();\n        let end = i;',
+     *helper(f'impl Parted {{\n    fn len(self) -> usize {{\n        {NINE}\n        0\n    }}\n}}')),
+    ('an array of a number\'s bytes', 'cannot be followed', PRINTING, LEFT, '    let eight = u64::to_le_bytes(value);\n' + LEFT),
     ('a call that is not in the sources', 'cannot be followed', PRINTING, STORED, 'put(out, i, left % 10);'),
-    ('a method that is not in the sources', 'cannot be followed', PRINTING, PASSED, '    out.fill(48);\n' + PASSED),
+    ('a method that is not in the sources', 'cannot be followed', PRINTING, LEFT, '    out.fill(48);\n' + LEFT),
+    ('a macro', 'cannot be followed', PRINTING, LEFT, '    nines!();\n' + LEFT),
+    ('a function that is another in some builds', 'this form of item is not known', *helper('#[cfg(small)]\nfn count_low(value: u64) -> usize {\n    1\n}')),
     ('an array that the question lends', 'read_radix_text has an array', READING, 'print_halves(hi, lo, out)', 'print_halves(hi, lo, &mut [0u8; 40])'),
-    ('the minus before the digits', 'minus last in 0 places', PRINTING, LAST, '    out[0] = 45;\n    fill_digits(hi, lo, 1, needed, out);\n'),
-    ('a store before the test of room', 'before a test of room', PRINTING, FIRST_MINUS, '    out[0] = 45;\n' + FIRST_MINUS),
-    ('digits before the test of room', 'before its test of room', PRINTING, FIRST_PLUS, '    fill_digits(hi, lo, 0, count_digits(hi, lo), out);\n' + FIRST_PLUS),
-    ('no test of room', 'before a test of room', PRINTING, FIRST_PLUS, '    let needed = count_digits(hi, lo);\n'),
-    ('digits from the first on', 'another place than the next one below', PRINTING, 'i -= 1;\n        ' + STORED, STORED + '\n        i += 1;'),
-    ('a place that is moved up', 'another place than the next one below', PRINTING, PASSED, '    i += 0;\n' + PASSED),
-    ('groups from the first on', 'does not only fall', PRINTING, 'i -= 9;\n        fill_low(t.rest, i, end, out);', 'i += 9;\n        fill_low(t.rest, end, i, out);'),
+    ('a function that calls itself', 'calls itself', PRINTING, '    n + 1\n', '    n + count_low(left)\n'),
+    ('digits kept by two that call each other', 'calls itself', PRINTING, FRONT, '    put_front(l, i, out);\n', *helper(
+        'fn put_front(value: u64, i: usize, out: &mut [u8]) {\n    put_next(value / 10, i, out);\n}\n\n'
+        'fn put_next(value: u64, i: usize, out: &mut [u8]) {\n    if value != 0 {\n        put_front(value, i - 1, out);\n    }\n}')),
+    ('the minus before the digits', 'out[0] = 45;: is not foreseen', PRINTING, MINUS + '    out[0] = 45;\n', '    out[0] = 45;\n' + MINUS),
+    ('a store before the test of room', 'out[0] = 45;: is not foreseen', PRINTING, FIRST_MINUS, '    out[0] = 45;\n' + FIRST_MINUS),
+    ('digits before the test of room', '0, count_digits(hi, lo), out);: is not foreseen', PRINTING, FIRST_PLUS,
+     '    fill_digits(hi, lo, 0, count_digits(hi, lo), out);\n' + FIRST_PLUS),
+    ('a store where there is no room', 'stored(out) };: is not foreseen', PRINTING, FIRST_PLUS, FIRST_PLUS.replace('needed: needed', 'needed: stored(out)'),
+     *helper('fn stored(out: &mut [u8]) -> usize {\n    out[0] = 48;\n    1\n}')),
+    ('no test of room', 'fill_digits(hi, lo, 0, needed, out);: is not foreseen', PRINTING, FIRST_PLUS, '    let needed = count_digits(hi, lo);\n'),
+    ('digits from the first on', f'{STORED}: is not foreseen', PRINTING, 'i -= 1;\n        ' + STORED, STORED + '\n        i += 1;'),
+    ('a place that is moved up', 'i += 0;: is not foreseen', PRINTING, LEFT, '    i += 0;\n' + LEFT),
+    ('groups from the first on', 'i += 9;: is not foreseen', PRINTING, 'i -= 9;\n        ' + GROUP, 'i += 9;\n        fill_low(t.rest, end, i, out);'),
+    ('all places stored to twice', 'fill_low(0, from, until, out);: is not foreseen', PRINTING, GROUPS, '    fill_low(0, from, until, out);\n' + GROUPS),
+    ('each group stored twice', f'{GROUP}: is not foreseen', PRINTING, GROUP, f'{GROUP}\n        {GROUP}'),
+    ('place 0 stored to first', 'fill_low(5, 0, 1, out);: is not foreseen', PRINTING, MINUS, '    fill_low(5, 0, 1, out);\n' + MINUS),
+    ('the front before the groups', 'fill_low(l, from, i, out);: is not foreseen', PRINTING, GROUPS, GROUPS + FRONT),
+    ('parts of the buffer from the first on', 'put_first(value: u64, out: &mut [u8]) {: is not foreseen', PRINTING, LEFT,
+     '    let mut k = 0;\n    while k < 9 {\n        put_first(value, &mut out[k..]);\n        k += 1;\n    }\n' + LEFT,
+     *helper('fn put_first(value: u64, out: &mut [u8]) {\n    out[0] = 48;\n}')),
+    ('places from the first on, by a sum', 'put_below(value, from + 1 + until - k, out);: is not foreseen', PRINTING, STORED,
+     'put_below(value, from + 1 + until - k, out);\n        k -= 1;',
+     *helper('fn put_below(value: u64, place: usize, out: &mut [u8]) {\n    let mut i = place;\n    i -= 1;\n    out[i] = 48;\n}')),
+]
+# the same, of what must be no alarm
+RIGHT = [
+    ('an array in comments alone', '', PRINTING, COUNTED, f'    /* {NINE} /* */ {NINE} */ // {NINE}\n{COUNTED}'),
+    ('a body on its contract\'s line', '', PRINTING, COUNTS, COUNTS.replace('⌝ }\n{', '× record { a = 0 } ⌝ } {')),
+    ('digits by a local', '', PRINTING, STORED, 'let mut digit = left % 10;\n        out[i] = 48 + digit as u8;'),
 ]
 
 
-def edited(files, edits):
+def edited(files, why, edits):
     files = dict(files)
     for file, old, new in zip(edits[::3], edits[1::3], edits[2::3]):
         if files[file].count(old) != 1:
-            sys.exit(f'{file}: the control does not fit, {files[file].count(old)} times: {old}')
+            sys.exit(f'{file}: the control "{why}" does not fit: what it cites stands there {files[file].count(old)} times. '
+                     f'Controls cite the text of the sources and have to follow it: {old}')
         files[file] = files[file].replace(old, new)
     return files
 
 
 def checked(files):
-    """the functions of the printer and of the question, the stores, the faults"""
-    code = Code(files)
-    known, faults = walk(PRINTER, code)
-    wider, more = walk(QUESTION, code)
-    printer = Printer(known, code)
-    faults += more + arrays(known) + arrays(wider) + printer.faults()
+    """how many functions the printer and the question have, and the faults"""
+    try:
+        code = Code(files)
+        known, faults = walk(PRINTER, code)
+        wider, more = walk(QUESTION, code)
+        faults += more + arrays(known, code) + arrays(wider, code) + printer_faults(known, code)
+    except Unknown as why:
+        return 0, 0, [str(why)]
     if PRINTER not in wider:
         faults.append(f'{QUESTION} does not come to {PRINTER}')
     counts = [sum(item.kind == 'fn' for item in items.values()) for items in (known, wider)]
-    return *counts, sum(map(len, printer.stores.values())), list(dict.fromkeys(faults))
+    return *counts, list(dict.fromkeys(faults))
 
 
 def main():
     files = sources()
-    printer, question, stores, faults = checked(files)
-    for why, word, *edits in WRONG:
-        found = checked(edited(files, edits))[-1]
-        if not any(word in fault for fault in found):
+    printer, question, faults = checked(files)
+    for why, words, *edits in WRONG:
+        found = checked(edited(files, why, edits))[-1]
+        if not any(words in fault for fault in found):
             faults.append(f'not found: {why}, by which {found}')
+    for why, _, *edits in RIGHT:
+        faults += [f'found, and not wrong: {why}: {fault}' for fault in checked(edited(files, why, edits))[-1]]
     for fault in faults:
         print(fault)
     print(f'printing: {printer} functions, and {question} of the whole decimal question: ' + ('see above' if faults else
-          f'no array; {stores} stores, from the last place back, behind the test of room; each of {len(WRONG)} wrong printers is found'))
+          f'no array; {len(Code(STORES).items)} that store, from the last place back, behind the test of room; '
+          f'each of {len(WRONG)} wrong printers is found, and none of {len(RIGHT)} right ones'))
     return 1 if faults else 0
 
 
