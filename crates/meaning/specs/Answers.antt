@@ -46,6 +46,10 @@ use Rattle.meaning.specs.declared.Day.{Day}
 use Rattle.meaning.specs.declared.Day.the-variants as Day′
 use Rattle.meaning.specs.declared.Dated.{Dated}
 use Rattle.meaning.specs.declared.Dated.the-variants as Dated′
+use Rattle.meaning.specs.declared.PackedBits.{PackedBits}
+use Rattle.meaning.specs.declared.PackedBits.the-variants as Packed′
+use Rattle.meaning.specs.declared.BitWriting.{BitWriting}
+use Rattle.meaning.specs.declared.BitWriting.the-variants as BitWriting′
 use Rattle.meaning.specs.Bytes.{if_then_else_, part}
 
 -- VALUES. A literal's kind by the record program's code, and what it holds besides
@@ -265,6 +269,27 @@ datedNumber (Dated′.Refused r) = refusalNumber r
 abbrev pub datedValues : Dated → List ℕ
 datedValues (Dated′.On d) = dayValues d
 datedValues (Dated′.Refused r) = refusalValues r
+
+-- [02 T-07] "packed bytes and bit count"; on 9 there is no bit count. The reverse has no literal: 12 and 16 return the number alone
+abbrev pub packedNumber : PackedBits → ℕ
+packedNumber (Packed′.Written n b) = 0
+packedNumber (Packed′.Refused r) = refusalNumber r
+
+abbrev pub packedValues : PackedBits → List ℕ
+packedValues (Packed′.Written n b) = n ∷ b ∷ []
+packedValues (Packed′.Refused r) = refusalValues r
+
+abbrev pub bitWritingNumber : BitWriting → ℕ
+bitWritingNumber (BitWriting′.Written n) = 0
+bitWritingNumber BitWriting′.OverLimit = 12
+bitWritingNumber BitWriting′.BadBits = 16
+bitWritingNumber (BitWriting′.NoRoom n) = 9
+
+abbrev pub bitWritingValues : BitWriting → List ℕ
+bitWritingValues (BitWriting′.Written n) = n ∷ []
+bitWritingValues BitWriting′.OverLimit = []
+bitWritingValues BitWriting′.BadBits = []
+bitWritingValues (BitWriting′.NoRoom n) = n ∷ []
 
 -- THE VIEW. "a range that doesn't fit its slice, or a refusal, shows an empty part"
 unfoldable pub partShown : ℕ → ℕ → List ℕ → List ℕ

@@ -30,6 +30,10 @@ abbrev pub has : ℕ → List ℕ → Bool
 has b [] = false
 has b (c ∷ t) = eqb b c || has b t
 
+abbrev pub allZero : List ℕ → Bool
+allZero [] = true
+allZero (b ∷ t) = eqb b 0 && allZero t
+
 -- two texts are the same; the first begins the second
 abbrev pub same : List ℕ → List ℕ → Bool
 same [] [] = true

@@ -19,3 +19,4 @@ pub mod Codes
 pub mod Records
 pub mod Blocks
 pub mod Dates
+pub mod Packing

@@ -15,7 +15,7 @@ use Rattle.meaning.specs.declared.Charset.{Charset}
 use Rattle.meaning.specs.declared.Charset.the-variants as Charset′
 use Rattle.meaning.specs.declared.Integer.{Integer}
 use Rattle.meaning.specs.declared.Integer.the-variants as Integer′
-use Rattle.meaning.specs.Bytes.{if_then_else_, _!_, part, ascii, within}
+use Rattle.meaning.specs.Bytes.{if_then_else_, _!_, part, ascii, within, allZero}
 use Rattle.meaning.specs.Walk.{Step, give, walk, value}
 use Rattle.meaning.specs.Numbers.{digitsOf, printed}
 use Rattle.meaning.specs.Answers.{Outcome, refusalNumber, shown, rangeShown, charsetShown}
@@ -82,10 +82,6 @@ asked q l σ t =
     else charsetLine t (charsetQuestion l t)
 
 -- THE RECORD: question, kind, setting, text length, then 60 bytes, "zero past the text"
-abbrev pub allZero : List ℕ → Bool
-allZero [] = true
-allZero (b ∷ t) = eqb b 0 && allZero t
-
 unfoldable pub goodRecord : List ℕ → Bool
 goodRecord r =
     eqb (length r) 64 && within 1 7 (r ! 0) && within 1 14 (r ! 1) && leb (r ! 2) 1 && leb (r ! 3) 60 && allZero (drop (4 + (r ! 3)) r)

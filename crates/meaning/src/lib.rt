@@ -232,3 +232,17 @@ pub enum Dated {
     On(CalendarDay),
     Refused(Refusal),
 }
+
+// [02 T-07] A bit string as packed bytes at the buffer's start, the first bit the top one of the first byte, and how many bits they hold.
+pub enum PackedBits {
+    Written { len: usize, bits: u64 },
+    Refused(Refusal),
+}
+
+// What the writing of a bit string did: 12, 16 and 9 are what refuses it.
+pub enum BitWriting {
+    Written { len: usize },
+    OverLimit,
+    BadBits,
+    NoRoom { needed: usize },
+}

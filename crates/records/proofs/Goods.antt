@@ -16,11 +16,11 @@ use Rattle.meaning.specs.declared.Text.{Text}
 use Rattle.meaning.specs.declared.Range.{Range}
 use Rattle.meaning.specs.declared.Charset.{Charset}
 use Rattle.meaning.specs.declared.Integer.{Integer}
-use Rattle.meaning.specs.Bytes.{_!_, within}
+use Rattle.meaning.specs.Bytes.{_!_, within, allZero}
 use Rattle.meaning.specs.Answers.{Outcome, Meets}
 use Rattle.meaning.specs.Questions.{stringQuestion, i64Question, decimalQuestion, bitsQuestion, moneyQuestion, temporalQuestion, charsetQuestion}
 use Rattle.meaning.specs.Codes.{kindOf}
-use Rattle.meaning.specs.Records.{room, line, textLine, textLineAs, rangeLine, charsetLine, integerLine, asked, allZero, goodRecord, textIn, recordLine}
+use Rattle.meaning.specs.Records.{room, line, textLine, textLineAs, rangeLine, charsetLine, integerLine, asked, goodRecord, textIn, recordLine}
 use Rattle.laws.proofs.basics.Lists.{part-tail}
 use Rattle.laws.proofs.basics.Tests.{and-left, and-right, within-bounds}
 use Rattle.leaves.specs.Puts.{Puts}

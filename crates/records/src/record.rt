@@ -21,7 +21,8 @@ ghost use Prim.Native.Nat.{_≤_};
 ghost use lib.ListN.{length};
 ghost use Rattle.leaves.specs.Puts.{Puts};
 ghost use Rattle.meaning.specs.Questions.{stringQuestion, decimalQuestion, bitsQuestion, temporalQuestion};
-ghost use Rattle.meaning.specs.Records.{room, textLine, asked, allZero, goodRecord, recordLine};
+ghost use Rattle.meaning.specs.Bytes.{allZero};
+ghost use Rattle.meaning.specs.Records.{room, textLine, asked, goodRecord, recordLine};
 ghost use Rattle.records.specs.Adding.{Adds};
 ghost use Rattle.records.specs.Goods.{Good};
 
