@@ -7,6 +7,7 @@ pub mod cutting
 pub mod joining
 pub mod places
 pub mod dates
+pub mod packing
 pub mod writing
 pub mod questions
 pub mod tables

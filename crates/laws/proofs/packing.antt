@@ -1,0 +1,2 @@
+-- [02 T-07] Bit strings as packed bytes, and back: bits as numbers and numbers as bits, once over the width.
+pub mod Gathered
