@@ -10,11 +10,12 @@ use lib.Seq.{getD-drop, getD-take}
 use borrow.Author.Tests.{eqb-true}
 use Rattle.meaning.specs.declared.Settings.{Settings}
 use Rattle.meaning.specs.Bytes.{if_then_else_, _!_, part, ascii, has, quote, isMark, allDigits}
-use Rattle.meaning.specs.Walk.{Step, keep, give, stop, after, walk, stops, value}
+use Rattle.meaning.specs.Walk.{Step, keep, give, stop, Trace, ended, stopped, kept, gave, after, walk, stops, value}
 use Rattle.meaning.specs.Cutting.{opening, segment, segmentBy, segmentStep}
 use Rattle.meaning.specs.Reading.{means, fails, each}
 use Rattle.meaning.specs.Kinds.{bitBody, firstBits, laterBits}
-use Rattle.laws.proofs.basics.Tests.{if-suc}
+use Rattle.laws.proofs.basics.Tests.{if-suc, and-right}
+use Rattle.laws.proofs.basics.Digits.{DigitsTo, allDigits-at}
 use Rattle.laws.proofs.cutting.Gaps.{gap-fits}
 use Rattle.laws.proofs.cutting.Openings.{segment-fits}
 use Rattle.laws.proofs.joining.Joining.{fails≢means, both-means}
@@ -80,6 +81,32 @@ each-bodies σ β zero (b ∷ t) w h = go (segmentStep σ (b ∷ t)) h (λ k v. 
         let m = both-means (laterBits β s) (each (laterBits β) (walk (segmentStep σ) n t)) (suc n) w q in
         let r = ih n (m .1) (m .3) in
         (r .0, ap (_++ value (walk (bodyStep σ) n t)) (later-body β s (m .0) (m .2)) ∙ ap (m .0 ++_) (r .1) ∙ sym (m .4))
+
+-- and all of it is digits
+later-digits : (β : ℕ) (s v : List ℕ) → laterBits β s ≡ means v → allDigits β v ≡ true
+unfolding bitBody
+later-digits β s v h = go (eqb (s ! 0) quote && allDigits β (part 1 (length s - 1) s)) refl h
+  where
+    go : (y : Bool) → (eqb (s ! 0) quote && allDigits β (part 1 (length s - 1) s)) ≡ y
+        → (if y then means (part 1 (length s - 1) s) else fails 0) ≡ means v → allDigits β v ≡ true
+    go true e q =
+        let w : part 1 (length s - 1) s ≡ v = cc in
+        rw w at (and-right (eqb (s ! 0) quote) (allDigits β (part 1 (length s - 1) s)) e)
+    go false e q = absurd (fails≢means 0 v q)
+
+pub digits-append : (β : ℕ) (v w : List ℕ) → DigitsTo β (length v) v → DigitsTo β (length w) w → DigitsTo β (length (v ++ w)) (v ++ w)
+digits-append β [] w a b i h = b i h
+digits-append β (x ∷ v) w a b zero h = a 0 (omega arith)
+digits-append β (x ∷ v) w a b (suc i) h = digits-append β v w (λ j k. a (suc j) (omega arith)) b i (omega arith)
+
+pub each-digits : (β : ℕ) (r : Trace) (w : List ℕ) → each (laterBits β) r ≡ means w → DigitsTo β (length w) w
+each-digits β ended w h = let e : [] ≡ w = cc in rw (← e) (λ i k. absurd (omega arith))
+each-digits β stopped w h = absurd (fails≢means 0 w h)
+each-digits β (kept b r) w h = absurd (fails≢means 0 w h)
+each-digits β (gave n s r) w h =
+    let m = both-means (laterBits β s) (each (laterBits β) r) (suc n) w h in
+    rw (m .4)
+    (digits-append β (m .0) (m .1) (allDigits-at β (m .0) (later-digits β s (m .0) (m .2))) (each-digits β r (m .1) (m .3)))
 
 -- a body is there, and is no longer than what its segment takes
 pub body-steady : (σ : Settings) → Steady (bodyStep σ)

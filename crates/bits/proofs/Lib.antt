@@ -3,4 +3,8 @@ pub mod Asking
 pub mod Bodies
 pub mod Turns
 pub mod Wholes
+pub mod Radix
+pub mod Inking
+pub mod Runs
+pub mod Packings
 pub mod Inside

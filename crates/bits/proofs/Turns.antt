@@ -29,7 +29,7 @@ use Rattle.bits.proofs.Bodies.{body-steady, own-body, body-length, late
 
 -- A SEGMENT AT A CURSOR: its bounds
 module _ (σ : Settings) (t : List ℕ) (i : ℕ) (r : Next) (e : r ≡ nextOf σ t i) (s o u : ℕ) (c : Cursor) (q : r ≡ Next′.Segment s o u c) where
-  here : Unit-at σ t i s o u (c .at)
+  pub here : Unit-at σ t i s o u (c .at)
   here = at-segment σ t i r e s o u c q
 
   pub body-opens : s + o ≤ length t
@@ -46,6 +46,14 @@ module _ (σ : Settings) (t : List ℕ) (i : ℕ) (r : Next) (e : r ≡ nextOf �
 
   pub cursor-less : length t - c .at < length t - i
   cursor-less = omega (arith, here .next, here .inside)
+
+  -- its body is what it stands for
+  pub body-step : bodyStep σ (drop i t) ≡ give (here .more) (take (u - 1 - (s + o)) (drop (s + o) t))
+  unfolding bodyStep
+  body-step =
+      ap bodyBy (here .step)
+      ∙ ap (λ (k : ℕ). give (here .more) (part k (length (take (u - s) (drop s t)) - 1) (take (u - s) (drop s t)))) (here .opens)
+      ∙ ap (give (here .more)) (own-body here)
 
 -- MEASURING: the segments before i have n digits
 pub record LaterAt (σ : Settings) (β : ℕ) (t : List ℕ) (i n : ℕ) : Type 0 where
@@ -137,11 +145,8 @@ module _ {σ : Settings} {t d out : List ℕ} {i n : ℕ} (w : Writing (bodyStep
     inside = omega (arith, at .start, at .some, at .ends, at .inside)
 
     step : bodyStep σ (drop i t) ≡ give (at .more) (take (u - 1 - (s + o)) (drop (s + o) t))
-    unfolding bodyStep
-    step =
-        ap bodyBy (at .step)
-        ∙ ap (λ (k : ℕ). give (at .more) (part k (length (take (u - s) (drop s t)) - 1) (take (u - s) (drop s t)))) (at .opens)
-        ∙ ap (give (at .more)) (own-body at)
+    unfolding at
+    step = body-step σ t i r e s o u c q
 
     lent : n + length (take (u - 1 - (s + o)) (drop (s + o) t)) ≤ length d
     lent = writing-room w roomy (body-steady σ) (give (at .more) (take (u - 1 - (s + o)) (drop (s + o) t))) inside step

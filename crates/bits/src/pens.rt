@@ -1,0 +1,127 @@
+// [02 T-07] Digits packed into bytes, one after the other: "the first bit is the top bit of the first byte". A pen goes from segment to segment, so that none
+// begins a byte of its own.
+use leaves::digits::hex_value;
+use meaning::BitStringRadix;
+ghost use mathlib.Core.Path.{_≡_};
+ghost use mathlib.Core.List.{List, [], _++_};
+ghost use Prim.Native.Nat.{ℕ, _+_, _*_, _/_, _^_, _≤_};
+ghost use lib.ListN.{length, drop};
+ghost use Rattle.meaning.specs.Bytes.{number};
+ghost use Rattle.meaning.specs.Packing.{radixBits};
+ghost use Rattle.bits.specs.Pens.{Packing, Packable, Closable, DigitsAt, Low};
+
+// The place of the byte at hand, its bits so far as a number, and how many are missing: 8 of a fresh one.
+pub(crate) struct Pen {
+    pub at: usize,
+    pub byte: u8,
+    pub missing: u8,
+}
+
+// "A binary digit is one bit, a hex digit four."
+// Rules out: four bits for a binary digit.
+pub(crate) fn bits_of(radix: BitStringRadix) -> u8
+    ensures { λ r. ⌜ r ≡ radixBits radix ⌝ }
+{
+    match radix {
+        BitStringRadix::Binary => 1,
+        BitStringRadix::Hex => 4,
+    }
+}
+
+pub(crate) fn base_of(radix: BitStringRadix) -> u8
+    ensures { λ r. ⌜ r ≡ 2 ^ radixBits radix ⌝ }
+{
+    match radix {
+        BitStringRadix::Binary => 2,
+        BitStringRadix::Hex => 16,
+    }
+}
+
+// Eight binary digits as a byte: the compiler makes straight code of the loop.
+// Rules out: the first bit at the bottom.
+fn eight_binary(digits: &[u8], at: usize) -> u8
+    requires { ⌜ DigitsAt 2 8 at (now digits) ⌝ }
+    ensures { λ r. ⌜ r ≡ number 2 8 0 (drop at (now (digits .entry))) ⌝ }
+{
+    let mut byte: u8 = 0;
+    let mut j: usize = 0;
+    while j < 8 {
+        byte = byte * 2 + digits[at + j] % 2;
+        j += 1;
+    }
+    byte
+}
+
+// As many digits as a byte has room for.
+fn whole_byte(digits: &[u8], at: usize, radix: BitStringRadix) -> u8
+    requires { ⌜ DigitsAt (2 ^ radixBits radix) (8 / radixBits radix) at (now digits) ⌝ }
+    ensures { λ r. ⌜ r ≡ number (2 ^ radixBits radix) (8 / radixBits radix) 0 (drop at (now (digits .entry))) ⌝ }
+{
+    match radix {
+        BitStringRadix::Binary => eight_binary(digits, at),
+        BitStringRadix::Hex => hex_value(digits[at]) * 16 + hex_value(digits[at + 1]),
+    }
+}
+
+// Packs digits from where the pen stands: whole bytes at once where one begins, single digits before and behind.
+// Rules out: a byte begun with each segment; the first bit at the bottom; a digit passed over.
+pub(crate) fn pack_run(digits: &[u8], radix: BitStringRadix, pen: Pen, out: &mut [u8]) -> Pen
+    requires { ⌜ Packable (radixBits radix) (now digits) pen (now out) ⌝ }
+    ensures { λ r. ⌜ ((whole d rest : List ℕ) → Packing (radixBits radix) whole d (now (out .entry)) pen (now (digits .entry) ++ rest)
+        → Packing (radixBits radix) whole d (now (out .exit)) r rest) ⌝ }
+{
+    let bits = bits_of(radix);
+    let base = base_of(radix);
+    let whole = (8 / bits) as usize;
+    let mut at = pen.at;
+    let mut byte = pen.byte;
+    let mut missing = pen.missing;
+    let mut i: usize = 0;
+    while i < digits.len() {
+        if (missing == 8) & (whole <= digits.len() - i) {
+            out[at] = whole_byte(digits, i, radix);
+            at += 1;
+            i += whole;
+        } else {
+            byte = byte * base + hex_value(digits[i]);
+            i += 1;
+            if missing == bits {
+                out[at] = byte;
+                at += 1;
+                byte = 0;
+                missing = 8;
+            } else {
+                missing -= bits;
+            }
+        }
+    }
+    Pen { at, byte, missing }
+}
+
+// A byte's bits so far, and zeros in place of those that are missing.
+// Rules out: a short last byte filled from the right.
+fn filled_up(byte: u8, missing: u8) -> u8
+    requires { ⌜ Low byte missing ⌝ }
+    ensures { λ r. ⌜ r ≡ byte * 2 ^ missing ⌝ }
+{
+    let mut filled = byte;
+    let mut left = missing;
+    while 0 < left {
+        filled = filled * 2;
+        left -= 1;
+    }
+    filled
+}
+
+// "unused low bits of the last byte are zero."
+// Rules out: the last byte left out; its unused bits left as the buffer had them.
+pub(crate) fn close(pen: Pen, radix: BitStringRadix, out: &mut [u8])
+    requires { ⌜ Closable (radixBits radix) pen (now out) ⌝ }
+    ensures { λ r. ⌜ ((whole d : List ℕ) → Packing (radixBits radix) whole d (now (out .entry)) pen []
+        → now (out .exit) ≡ whole ++ drop (length whole) d) ⌝ }
+{
+    if pen.missing < 8 {
+        let at = pen.at;
+        out[at] = filled_up(pen.byte, pen.missing);
+    }
+}
