@@ -6,4 +6,5 @@ pub mod Ranging
 pub mod Counting
 pub mod Viewing
 pub mod Dating
+pub mod Packed
 pub mod Quickly

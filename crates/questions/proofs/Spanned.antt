@@ -27,6 +27,9 @@ module _ {l : Literal} {S : List ℕ} {r : Tested} {x : Definition.Tested} (v : 
     pub span-start : s ≡ l .span .start
     span-start = range .0
 
+    pub span-end : e ≡ l .span .end
+    span-end = range .1
+
     pub span-ordered : s ≤ e
     span-ordered = range .2
 

@@ -1,2 +1,3 @@
 pub mod Told
 pub mod Quick
+pub mod Packed

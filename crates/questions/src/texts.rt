@@ -121,7 +121,7 @@ pub fn as_decimal_text(literal: Literal, source: &[u8], out: &mut [u8]) -> Text
 }
 
 // The base of a bit string's digits, by its kind's code; 0 for any other kind.
-fn bit_base(code: u32) -> u8
+pub(crate) fn bit_base(code: u32) -> u8
     ensures { λ r. ⌜ r ≡ bitBaseBy code ⌝ }
 {
     if code == 12 {
