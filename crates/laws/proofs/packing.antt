@@ -1,2 +1,7 @@
 -- [02 T-07] Bit strings as packed bytes, and back: bits as numbers and numbers as bits, once over the width.
 pub mod Gathered
+pub mod Digits
+pub mod Segment
+pub mod Asked
+pub mod Reverse
+pub mod RoundTrip

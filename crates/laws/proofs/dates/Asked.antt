@@ -177,7 +177,7 @@ date-temporal-shown l S out k n = go (l .synthetic) (badSpan (l .span) S) (utf8 
         let h : Spans l S t = record { real = e; fits = f; text = refl } in
         let q : o ≡ toldAs (InvalidString (l .span)) (l .span .start) out (temporal off t) = temporal-reads l S t out (date-temporal (l .kind) k) h g in
         date-value l S t k h g (shown S (o .buffer) (o .answer))
-        (rw q (told-shows (l .span) (l .span .start) (l .span .end) S out (span-range (l .span) S f) (temporal off t) (temporal-inside off t) (rw q at n)))
+        (rw q (told-shows (InvalidString (l .span)) (l .span .start) (l .span .end) S out (span-range (l .span) S f) (temporal off t) (temporal-inside off t) (rw q at n)))
 
 -- another kind is told that a date was expected
 pub date-wrong-kind : (l : Literal) (S : List ℕ) → isDateKind (l .kind) ≡ false → dateQuestion l S ≡ Dated′.Refused (WrongKind Expected.Date (l .kind))

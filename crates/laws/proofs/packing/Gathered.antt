@@ -236,7 +236,7 @@ abbrev pub units : ℕ → ℕ → ℕ
 units w l = l / w + (if eqb (l % w) 0 then 0 else 1)
 
 module _ (w : ℕ) (some : 0 < w) where
-  units-most : (l : ℕ) → (l ≤ w * units w l) × (w * units w l < l + w)
+  pub units-most : (l : ℕ) → (l ≤ w * units w l) × (w * units w l < l + w)
   units-most l = go (eqb (l % w) 0) refl
     where
       go : (x : Bool) → eqb (l % w) 0 ≡ x → (l ≤ w * (l / w + (if x then 0 else 1))) × (w * (l / w + (if x then 0 else 1)) < l + w)
