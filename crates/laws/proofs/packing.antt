@@ -5,3 +5,5 @@ pub mod Segment
 pub mod Asked
 pub mod Reverse
 pub mod RoundTrip
+pub mod Joined
+pub mod Called

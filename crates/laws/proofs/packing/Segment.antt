@@ -57,7 +57,7 @@ digit-apart b h = (go backslash refl (eqb b backslash) refl, go quote refl (eqb 
     go c n true e = absurd (let k = ap digit (eqb-true b c e) in omega arith)
     go c n false e = refl
 
-digits-exact : (h : Bool) (ds : List ℕ) → DigitsTo 16 (length ds) ds → Exact (closingStep h quote) ds
+pub digits-exact : (h : Bool) (ds : List ℕ) → DigitsTo 16 (length ds) ds → Exact (closingStep h quote) ds
 digits-exact h [] d = refl
 digits-exact h (b ∷ ds) d =
     let a = digit-apart b (d 0 (omega arith)) in
@@ -81,13 +81,13 @@ module _ (r : BitStringRadix) (σ : Settings) (β : ℕ) (low : β ≤ 16) (ds :
   body-is : part 2 (length t - 1) t ≡ ds
   body-is = part-behind (radixLetter r ∷ (quote ∷ [])) quote ds
 
-  first-is : firstBits β t ≡ means ds
+  pub bitText-first : firstBits β t ≡ means ds
   unfolding bitBody
-  first-is = rw (letter-right r, body-is, allDigits-of β ds d)
+  bitText-first = rw (letter-right r, body-is, allDigits-of β ds d)
 
   pub bitText-bits : bits σ β t ≡ borrowed 2 (length t - 1)
   bitText-bits =
-      alone-bits σ β t (omega arith) (bitText-segment r σ ds (λ i k. lt-of-lt-of-le (d i k) low)) ∙ ap (borrowedAs 2 (length t - 1)) first-is
+      alone-bits σ β t (omega arith) (bitText-segment r σ ds (λ i k. lt-of-lt-of-le (d i k) low)) ∙ ap (borrowedAs 2 (length t - 1)) bitText-first
 
   pub bitText-means : valueOf t (bits σ β t) ≡ means ds
   bitText-means = ap (valueOf t) bitText-bits ∙ ap means body-is
@@ -98,7 +98,7 @@ unfolding utf8
 low-utf8 [] h = refl
 low-utf8 (b ∷ t) h = ap (λ (d : Due). whole (pushes d t)) (low-lead b (h .0)) ∙ low-utf8 t (h .1)
 
-digits-low : (ds : List ℕ) → DigitsTo 16 (length ds) ds → Below 0x80 ds
+pub digits-low : (ds : List ℕ) → DigitsTo 16 (length ds) ds → Below 0x80 ds
 digits-low [] d = tt
 digits-low (b ∷ ds) d = (digit-low b (d 0 (omega arith)), digits-low ds (λ i k. d (suc i) (omega arith)))
 

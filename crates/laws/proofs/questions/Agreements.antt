@@ -10,11 +10,13 @@ use Rattle.meaning.specs.declared.Range.{Range}
 use Rattle.meaning.specs.declared.Charset.{Charset}
 use Rattle.meaning.specs.declared.Integer.{Integer}
 use Rattle.meaning.specs.declared.Dated.{Dated}
+use Rattle.meaning.specs.declared.PackedBits.{PackedBits}
 use Rattle.meaning.specs.Cutting.{off}
 use Rattle.meaning.specs.Answers.{Outcome, Meets}
 use Rattle.meaning.specs.Questions.{stringQuestion, plainQuestion, decimalQuestion, bitsQuestion, temporalQuestion, sourceQuestion, moneyQuestion}
 use Rattle.meaning.specs.Questions.{charsetQuestion, i64Question}
 use Rattle.meaning.specs.Dates.{dateQuestion}
+use Rattle.meaning.specs.Packing.{packedQuestion}
 use Rattle.laws.proofs.questions.Sources as Sources′
 use Rattle.laws.proofs.questions.Sources.{Agree}
 use Rattle.laws.proofs.questions.Determined.{Same, meets-unique}
@@ -63,3 +65,7 @@ module _ (l : Literal) (S S′ : List ℕ) (a : Agree l S S′) where
 
   pub date-agrees : (r r′ : Dated) → r ≡ dateQuestion l S → r′ ≡ dateQuestion l S′ → r ≡ r′
   date-agrees = agree-answered _ _ (Sources′.dateQuestion-same l S S′ a)
+
+  pub packed-agrees : (out : List ℕ) (r r′ : PackedBits) (d d′ : List ℕ)
+      → Meets (packedQuestion l S out) r d → Meets (packedQuestion l S′ out) r′ d′ → Same r r′ d d′
+  packed-agrees out = agree-told _ _ (Sources′.packedQuestion-same l S S′ a out)

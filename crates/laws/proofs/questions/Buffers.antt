@@ -1,6 +1,6 @@
 -- [01 Numbers an answer can carry; What is carried over] "No refusal changes the buffer." "A borrowed answer changes no byte." "Written text
 -- fills the buffer's start; the remainder is unchanged." Once for every question that answers a text, once for identifiers, once for the
--- writers. Assumes nothing.
+-- writers, and [02 T-07] once each for packing and its reverse. Assumes nothing.
 use mathlib.Core.Path.{_≡_, refl, sym, subst}
 use mathlib.Core.Bool.{Bool, true, false}
 use mathlib.Core.List.{List, _++_}
@@ -24,10 +24,15 @@ use Rattle.meaning.specs.declared.Identifier.{Identifier}
 use Rattle.meaning.specs.declared.Identifier.the-variants as Identifier′
 use Rattle.meaning.specs.declared.Writing.{Writing}
 use Rattle.meaning.specs.declared.Writing.the-variants as Writing′
+use Rattle.meaning.specs.declared.BitStringRadix.{BitStringRadix}
+use Rattle.meaning.specs.declared.PackedBits.{PackedBits}
+use Rattle.meaning.specs.declared.PackedBits.the-variants as Packed′
+use Rattle.meaning.specs.declared.BitWriting.{BitWriting}
+use Rattle.meaning.specs.declared.BitWriting.the-variants as BitWriting′
 use Rattle.meaning.specs.Bytes.{if_then_else_, has}
 use Rattle.meaning.specs.Chars.{utf8}
 use Rattle.meaning.specs.Cutting.{off}
-use Rattle.meaning.specs.Reading.{Answer, borrowed, written, refused, read}
+use Rattle.meaning.specs.Reading.{Answer, borrowed, written, refused, Value, means, fails, valueOf, read}
 use Rattle.meaning.specs.Numbers.{decimalOf}
 use Rattle.meaning.specs.Kinds.{bits, temporal}
 use Rattle.meaning.specs.Answers.{filled}
@@ -36,6 +41,7 @@ use Rattle.meaning.specs.Questions.{bitsQuestion, temporalQuestion, identifierA
 use Rattle.meaning.specs.Helpers.{ident}
 use Rattle.meaning.specs.Writer.{overLimit, unwritableNul, writtenText, writeQuestion}
 use Rattle.meaning.specs.Forms.{formText, formQuestion}
+use Rattle.meaning.specs.Packing.{bitsPer, bitsIn, packBits, packsAs, packedBy, packedQuestion, bitLiteral, badBits, bitWrites, bitWriteQuestion}
 use Rattle.laws.proofs.basics.Tests.{true→T}
 use Rattle.laws.proofs.writing.Writers.{tried}
 
@@ -76,6 +82,16 @@ WritingLeaves out Writing′.OverLimit after = after ≡ out
 WritingLeaves out Writing′.NotUtf8 after = after ≡ out
 WritingLeaves out Writing′.HoldsNul after = after ≡ out
 WritingLeaves out (Writing′.NoRoom n) after = after ≡ out
+
+abbrev pub PackedLeaves : List ℕ → PackedBits → List ℕ → Type 0
+PackedLeaves out (Packed′.Written n b) after = Filled n out after
+PackedLeaves out (Packed′.Refused r) after = after ≡ out
+
+abbrev pub BitWritingLeaves : List ℕ → BitWriting → List ℕ → Type 0
+BitWritingLeaves out (BitWriting′.Written n) after = Filled n out after
+BitWritingLeaves out BitWriting′.OverLimit after = after ≡ out
+BitWritingLeaves out BitWriting′.BadBits after = after ≡ out
+BitWritingLeaves out (BitWriting′.NoRoom n) after = after ≡ out
 
 -- a value that is put where there is room for it, and one that is not
 module _ (v out : List ℕ) where
@@ -157,3 +173,35 @@ writing-leaves σ size v out = tried-leaves (overLimit size v) (utf8 v) (unwrita
 pub form-leaves : (f : Form) (v out : List ℕ) → WritingLeaves out (formQuestion f v out .answer) (formQuestion f v out .buffer)
 unfolding formQuestion
 form-leaves f v out = tried-leaves (overLimit Whole v) (utf8 v) (has 0 v) (formText f v) out
+
+-- packed bytes, and their reverse
+packsAs-leaves : (s : Span) (k : ℕ) (out : List ℕ) (x : Value) → PackedLeaves out (packsAs s k out x .answer) (packsAs s k out x .buffer)
+packsAs-leaves s k out (means v) =
+    leaves-by (packBits (bitsIn k v)) out (λ (r : PackedBits). PackedLeaves out r) (Packed′.Written _ _) (Packed′.Refused (NoRoom _)) (λ d h. h) refl
+    (leb (length (packBits (bitsIn k v))) (length out)) refl
+packsAs-leaves s k out (fails p) = refl
+
+pub packed-leaves : (l : Literal) (S out : List ℕ) → PackedLeaves out (packedQuestion l S out .answer) (packedQuestion l S out .buffer)
+unfolding packedQuestion
+packed-leaves l S out = go (tested (ltb 0 (bitBase (l .kind))) Expected.BitString l S)
+  where
+    go : (x : Tested)
+        → PackedLeaves out (packedBy (l .span) (bitBase (l .kind)) out x .answer) (packedBy (l .span) (bitBase (l .kind)) out x .buffer)
+    go (passes t) = packsAs-leaves (l .span) (bitsPer (bitBase (l .kind))) out (valueOf t (bits off (bitBase (l .kind)) t))
+    go (barred r) = refl
+
+pub bit-writing-leaves : (r : BitStringRadix) (bytes : List ℕ) (n : ℕ) (out : List ℕ)
+    → BitWritingLeaves out (bitWriteQuestion r bytes n out .answer) (bitWriteQuestion r bytes n out .buffer)
+unfolding bitWriteQuestion
+bit-writing-leaves r bytes n out = go (overLimit Whole bytes) (badBits r bytes n) (bitLiteral r bytes n)
+  where
+    go : (x y : Bool) (t : List ℕ)
+        → BitWritingLeaves out ((if x then record { answer = BitWriting′.OverLimit; buffer = out }
+        else if y then record { answer = BitWriting′.BadBits; buffer = out } else bitWrites t out) .answer)
+        ((if x then record { answer = BitWriting′.OverLimit; buffer = out }
+        else if y then record { answer = BitWriting′.BadBits; buffer = out } else bitWrites t out) .buffer)
+    go true y t = refl
+    go false true t = refl
+    go false false t =
+        leaves-by t out (λ (r : BitWriting). BitWritingLeaves out r) (BitWriting′.Written _) (BitWriting′.NoRoom _) (λ d h. h) refl
+        (leb (length t) (length out)) refl

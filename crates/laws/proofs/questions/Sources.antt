@@ -16,6 +16,7 @@ use Rattle.meaning.specs.Kinds.{bits, money, temporal}
 use Rattle.meaning.specs.Questions.{badSpan, sourceText, tested, told, ranged, charsetBy, integerBy, bitBase, stringQuestion, decimalQuestion, bitsQuestion}
 use Rattle.meaning.specs.Questions.{temporalQuestion, sourceQuestion, moneyQuestion, charsetQuestion, i64Question}
 use Rattle.meaning.specs.Dates.{datedBy, dateQuestion}
+use Rattle.meaning.specs.Packing.{packedBy, packedQuestion}
 
 -- neither gives 3, and inside the span they are the same
 pub record Agree (l : Literal) (S S′ : List ℕ) : Type 0 where
@@ -69,3 +70,7 @@ module _ (l : Literal) (S S′ : List ℕ) (a : Agree l S S′) where
   pub dateQuestion-same : dateQuestion l S ≡ dateQuestion l S′
   unfolding dateQuestion
   dateQuestion-same = ap (datedBy (l .span)) (tested-same _ _)
+
+  pub packedQuestion-same : (out : List ℕ) → packedQuestion l S out ≡ packedQuestion l S′ out
+  unfolding packedQuestion
+  packedQuestion-same out = ap (packedBy (l .span) (bitBase (l .kind)) out) (tested-same _ _)
