@@ -10,3 +10,6 @@ pub mod FormAnswers
 pub mod Parting
 pub mod PartWriting
 pub mod Answering
+pub mod BitTests
+pub mod BitDigits
+pub mod BitTexts

@@ -2,18 +2,18 @@
 use mathlib.Core.Path.{_≡_, refl, ap, sym, _∙_}
 use mathlib.Core.Bool.{Bool, true, false}
 use mathlib.Core.List.{List, [], _∷_, _++_, append-assoc}
-use Prim.Native.Nat.{ℕ, _+_, _/_, _%_, _^_, _≤_, _<_}
+use Prim.Native.Nat.{ℕ, _+_, _-_, _/_, _%_, _^_, _≤_, _<_}
 use native.Mathlib.Nat.{zero-add}
 use native.Mathlib.Omega.{arith}
 use lib.Dec.{leb}
 use borrow.Author.Tests.{le-leb, lt-leb}
-use lib.ListN.{length, take, drop, set, length-append, length-drop}
+use lib.ListN.{length, take, drop, set, length-append, length-drop, length-set}
 use lib.Seq.{sets, sets-eq, take-at, drop-at, take-append-seam, drop-append-seam, drop-drop, length-take-le}
-use Rattle.meaning.specs.Bytes.{if_then_else_}
+use Rattle.meaning.specs.Bytes.{if_then_else_, quote}
 use Rattle.meaning.specs.Answers.{filled}
 use Rattle.meaning.specs.Forms.{figure, figures, unicodeFigures}
 use Rattle.laws.proofs.writing.Figures.{figures-length}
-use Rattle.laws.proofs.basics.Laying.{Laid}
+use Rattle.laws.proofs.basics.Laying.{Laid, laid-same, laid-all, laid-lent, laid-rest, laid-more, laid-inside, laid-byte}
 use Rattle.leaves.specs.Puts.{Puts}
 use Rattle.writer.specs.declared.manners.Manner.{Manner}
 use Rattle.writer.specs.Manners.{openingBy}
@@ -23,8 +23,11 @@ use Rattle.writer.specs.Texts.{PutBytes}
 stored : (p out : List ℕ) → length p ≤ length out → sets out 0 p ≡ p ++ drop (length p) out
 stored p out h = sets-eq p out 0 (rw zero-add h) ∙ rw zero-add
 
+pub put-stored-all : (p out : List ℕ) → length p ≤ length out → PutBytes p out (length p) (sets out 0 p)
+put-stored-all p out h = record { answer = refl; buffer = stored p out h }
+
 pub put-stored : (a b : ℕ) (out : List ℕ) → 2 ≤ length out → PutBytes (a ∷ b ∷ []) out 2 (set (set out 0 a) 1 b)
-put-stored a b out h = record { answer = refl; buffer = stored (a ∷ b ∷ []) out h }
+put-stored a b out h = put-stored-all (a ∷ b ∷ []) out h
 
 -- BY `put_bytes`, where there is room
 pub put-all : {t out : List ℕ} {r : ℕ} {after : List ℕ} → Puts t out r after → length t ≤ length out → PutBytes t out r after
@@ -48,6 +51,48 @@ laid-first b s t d e h {r} {after} q = (
   },
   ap (λ (k : ℕ). drop k t) (q .answer) ∙ ap (drop (length b)) e ∙ drop-append-seam b s,
 )
+
+-- BETWEEN MARKS: the opening o is put into all of the buffer, u behind it by a callee that is lent the rest, and the mark is stored
+module _ (o u t d : List ℕ) (e : t ≡ o ++ (u ++ (quote ∷ []))) (h : length t ≤ length d) {n : ℕ} {out : List ℕ} (p : PutBytes o d n out) where
+  begun : Laid t d out n × (drop n t ≡ u ++ (quote ∷ []))
+  begun = laid-first o (u ++ (quote ∷ [])) t d e h p
+
+  opened : Laid t d out n
+  opened = begun .0
+
+  behind : drop n t ≡ u ++ (quote ∷ [])
+  behind = begun .1
+
+  pub opened-within : n ≤ length out
+  opened-within = omega (arith, opened .part, opened .room, laid-same opened)
+
+  pub opened-room : length u ≤ length (take (length out - n) (drop n out))
+  opened-room = laid-lent opened u (quote ∷ []) behind
+
+  module _ {a : ℕ} {last : List ℕ} (q : PutBytes u (take (length out - n) (drop n out)) a last) where
+    abbrev back : List ℕ
+    back = take n out ++ (last ++ drop (length out - n) (drop n out))
+
+    filled-in : Laid t d back (n + a)
+    filled-in = laid-more opened u (quote ∷ []) behind a last (q .answer) (q .buffer)
+
+    only : drop (n + a) t ≡ quote ∷ []
+    only = laid-rest opened u (quote ∷ []) behind (n + a) (ap (n +_) (q .answer))
+
+    pub mark-inside : n + a < length back
+    mark-inside = laid-inside filled-in quote [] only
+
+    pub mark-fits : n + a + 1 ≤ length d
+    mark-fits = omega (arith, mark-inside, laid-same filled-in)
+
+    pub text-put : PutBytes t d (n + a + 1) (set back (n + a) quote)
+    text-put =
+        let w = laid-byte filled-in quote [] only in
+        let z = laid-all w (laid-rest filled-in (quote ∷ []) [] only (n + a + 1) refl) in
+        record { answer = z .0; buffer = z .1 }
+
+    pub text-same : length (set back (n + a) quote) ≡ length d
+    text-same = length-set back (n + a) quote ∙ laid-same filled-in
 
 -- by another name
 pub put-same : {t s out : List ℕ} {r : ℕ} {after : List ℕ} → t ≡ s → PutBytes s out r after → PutBytes t out r after

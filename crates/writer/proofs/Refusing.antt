@@ -4,12 +4,11 @@ use mathlib.Core.Bool.{Bool, true, false, not}
 use mathlib.Core.List.{List}
 use Prim.Native.Nat.{ℕ}
 use borrow.Author.Tests.{not-true, not-false}
-use Rattle.meaning.specs.declared.Writing.{Writing}
 use Rattle.meaning.specs.declared.Writing.the-variants.{OverLimit, NotUtf8, HoldsNul}
 use Rattle.meaning.specs.Answers.{Outcome, Meets}
 use Rattle.laws.proofs.writing.Writers.{tried, tried-limit, tried-utf8, tried-nul, Passed}
 
-pub met : (o : Outcome Writing) (r : Writing) (out : List ℕ) → o ≡ record { answer = r; buffer = out } → Meets o r out
+pub met : {A : Type 0} (o : Outcome A) (r : A) (out : List ℕ) → o ≡ record { answer = r; buffer = out } → Meets o r out
 met o r out e = rw e (record { answer = refl; buffer = refl })
 
 module _ (limit valid nul : Bool) (t out : List ℕ) (x : Bool) (ex : x ≡ limit) where

@@ -5,7 +5,7 @@ use mathlib.Core.List.{List, [], _∷_, _++_}
 use Prim.Native.Nat.{ℕ, zero, suc, _+_, _-_, _≤_, _<_}
 use native.Mathlib.Omega.{arith}
 use lib.Dec.{eqb, leb}
-use lib.ListN.{length, take, drop, set, length-append, length-drop, length-set, drop-of-length-le}
+use lib.ListN.{length, take, drop, set, length-append, length-drop, drop-of-length-le}
 use lib.Seq.{drop-cons, drop-drop}
 use borrow.Author.Tests.{leb-true}
 use Rattle.meaning.specs.Bytes.{if_then_else_, within, span, quote, backslash, _!_}
@@ -19,14 +19,15 @@ use Rattle.laws.proofs.basics.Tests.{and-left, and-right}
 use Rattle.laws.proofs.utf8.Utf8.{pushes-broken, low-lead}
 use Rattle.laws.proofs.walking.Walks.{walk-drop}
 use Rattle.laws.proofs.writing.WriterParts.{first-fits}
-use Rattle.laws.proofs.basics.Laying.{Laid, laid-none, laid-same, laid-all, laid-lent, laid-rest, laid-more, laid-inside, laid-byte}
+use Rattle.laws.proofs.basics.Laying.{Laid, laid-none, laid-same, laid-all, laid-lent, laid-rest, laid-more}
 use Rattle.writer.specs.declared.manners.Manner.{Manner}
 use Rattle.writer.specs.declared.manners.Manner.the-variants.{Plain, Escape, Unicode}
 use Rattle.writer.specs.declared.manners.Kept.{Kept}
 use Rattle.writer.specs.Manners.{keptBy, keeps, stepBy, unitBy, unitWidth, openingBy, unitsBy, textBy}
 use Rattle.writer.specs.Texts.{Fits, UnitAt, PutBytes}
 use Rattle.writer.proofs.Steps.{changed-step}
-use Rattle.writer.proofs.Putting.{put-all, laid-first}
+use Rattle.writer.proofs.Putting as putting
+use Rattle.writer.proofs.Putting.{put-all}
 use Rattle.writer.proofs.Measuring.{kept-front, kept-units}
 
 -- UTF-8. Behind the bytes that are due, and so behind the first character, a UTF-8 text is UTF-8
@@ -235,44 +236,33 @@ module _ {m : Manner} {x : Bool} {v : List ℕ} (d : List ℕ) (f : Fits m x v (
   unfolding textBy
   opening-room = omega (arith, f .room, length-append (openingBy m) (unitsBy m v ++ (quote ∷ [])))
 
+  text-is : textBy m v ≡ openingBy m ++ (unitsBy m v ++ (quote ∷ []))
+  unfolding textBy
+  text-is = refl
+
   module _ {n : ℕ} {out : List ℕ} (o : PutBytes (openingBy m) d n out) where
-    begun : Laid (textBy m v) d out n × (drop n (textBy m v) ≡ unitsBy m v ++ (quote ∷ []))
-    unfolding textBy
-    begun = laid-first (openingBy m) (unitsBy m v ++ (quote ∷ [])) (textBy m v) d refl (f .room) o
-
-    opened : Laid (textBy m v) d out n
-    opened = begun .0
-
-    behind : drop n (textBy m v) ≡ unitsBy m v ++ (quote ∷ [])
-    behind = begun .1
-
     pub opened-within : n ≤ length out
-    opened-within = omega (arith, opened .part, opened .room, laid-same opened)
+    opened-within = putting.opened-within (openingBy m) (unitsBy m v) (textBy m v) d text-is (f .room) o
 
     pub value-fits : Fits m x v (unitsBy m v) (length (take (length out - n) (drop n out)))
-    value-fits = record { valid = f .valid; copied = f .copied; room = laid-lent opened (unitsBy m v) (quote ∷ []) behind }
+    value-fits = record {
+      valid = f .valid;
+      copied = f .copied;
+      room = putting.opened-room (openingBy m) (unitsBy m v) (textBy m v) d text-is (f .room) o;
+    }
 
     module _ {a : ℕ} {last : List ℕ} (q : PutBytes (unitsBy m v) (take (length out - n) (drop n out)) a last) where
       abbrev back : List ℕ
       back = take n out ++ (last ++ drop (length out - n) (drop n out))
 
-      spelled-out : Laid (textBy m v) d back (n + a)
-      spelled-out = laid-more opened (unitsBy m v) (quote ∷ []) behind a last (q .answer) (q .buffer)
-
-      only : drop (n + a) (textBy m v) ≡ quote ∷ []
-      only = laid-rest opened (unitsBy m v) (quote ∷ []) behind (n + a) (ap (n +_) (q .answer))
-
       pub mark-inside : n + a < length back
-      mark-inside = laid-inside spelled-out quote [] only
+      mark-inside = putting.mark-inside (openingBy m) (unitsBy m v) (textBy m v) d text-is (f .room) o q
 
       pub mark-fits : n + a + 1 ≤ length d
-      mark-fits = omega (arith, mark-inside, laid-same spelled-out)
+      mark-fits = putting.mark-fits (openingBy m) (unitsBy m v) (textBy m v) d text-is (f .room) o q
 
       pub text-put : PutBytes (textBy m v) d (n + a + 1) (set back (n + a) quote)
-      text-put =
-          let w = laid-byte spelled-out quote [] only in
-          let z = laid-all w (laid-rest spelled-out (quote ∷ []) [] only (n + a + 1) refl) in
-          record { answer = z .0; buffer = z .1 }
+      text-put = putting.text-put (openingBy m) (unitsBy m v) (textBy m v) d text-is (f .room) o q
 
       pub text-same : length (set back (n + a) quote) ≡ length d
-      text-same = length-set back (n + a) quote ∙ laid-same spelled-out
+      text-same = putting.text-same (openingBy m) (unitsBy m v) (textBy m v) d text-is (f .room) o q

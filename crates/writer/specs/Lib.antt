@@ -1,3 +1,4 @@
 pub mod Manners
 pub mod Texts
 pub mod Parts
+pub mod Bits

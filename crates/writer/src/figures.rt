@@ -6,7 +6,7 @@ ghost use Rattle.meaning.specs.Forms as forms;
 
 // The byte of a digit below 16.
 // Rules out: lower-case letters.
-fn figure(digit: u32) -> u8
+pub(crate) fn figure(digit: u32) -> u8
     requires { ⌜ digit < 16 ⌝ }
     ensures { λ r. ⌜ r ≡ forms.figure digit ⌝ }
 {

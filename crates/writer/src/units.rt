@@ -28,7 +28,7 @@ fn escape_letter(byte: u8) -> u8
     }
 }
 
-fn put_two(first: u8, second: u8, out: &mut [u8]) -> usize
+pub(crate) fn put_two(first: u8, second: u8, out: &mut [u8]) -> usize
     requires { ⌜ 2 ≤ length (now out) ⌝ }
     ensures { λ r. ⌜ PutBytes (first ∷ second ∷ []) (now (out .entry)) r (now (out .exit)) ⌝ }
 {

@@ -12,7 +12,7 @@ use borrow.Author.Tests.{le-leb, lt-leb}
 use Rattle.meaning.specs.declared.Writing.{Writing}
 use Rattle.meaning.specs.declared.Writing.the-variants.{Written, OverLimit, NotUtf8, HoldsNul, NoRoom}
 use Rattle.meaning.specs.Bytes.{if_then_else_}
-use Rattle.meaning.specs.Answers.{Outcome, writingNumber, filled}
+use Rattle.meaning.specs.Answers.{Outcome, writingNumber, byRoom, filled}
 use Rattle.meaning.specs.Writer.{writes}
 
 -- x: over the limit; y: UTF-8; z: a NUL that may not be written; and the text t
@@ -38,14 +38,24 @@ module _ (x y z : Bool) (t out : List ℕ) where
   tried-writes ex ey ez = rw (ex, ey, ez)
 
 -- put where there is room; where there is none, its length is asked for
+module _ {A : Type 0} (written short : ℕ → A) (t out : List ℕ) where
+  abbrev pub placed : Outcome A
+  placed = record { answer = byRoom written short (length t) (length out); buffer = filled t out }
+
+  pub placed-all : length t ≤ length out → placed ≡ record { answer = written (length t); buffer = t ++ drop (length t) out }
+  unfolding filled
+  placed-all h = rw (le-leb (length t) (length out) h)
+
+  pub placed-none : length out < length t → placed ≡ record { answer = short (length t); buffer = out }
+  unfolding filled
+  placed-none h = rw (lt-leb (length t) (length out) h)
+
 module _ (t out : List ℕ) where
   pub writes-all : length t ≤ length out → writes t out ≡ record { answer = Written (length t); buffer = t ++ drop (length t) out }
-  unfolding filled
-  writes-all h = rw (le-leb (length t) (length out) h)
+  writes-all h = placed-all Written NoRoom t out h
 
   pub writes-none : length out < length t → writes t out ≡ record { answer = NoRoom (length t); buffer = out }
-  unfolding filled
-  writes-none h = rw (lt-leb (length t) (length out) h)
+  writes-none h = placed-none Written NoRoom t out h
 
 -- one that wrote has passed the tests
 pub record Passed (x y z : Bool) : Type 0 where
