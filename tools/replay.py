@@ -9,12 +9,14 @@ A row is a head of 48 bytes, then the text with its padding, the value and the n
     0       the question, see QUESTIONS; 0 ends a stratum, which the name names; 255 fills a block of 65,536 bytes, which holds whole rows
     1       the kind's code; of the writer 1 if a part size is given; of a form 1 for E, 2 for U&
     2, 3    the setting; 1 for a synthetic literal
-    4-11    start and end, four bytes each; of the writer the start is the part size, of a day its number
+    4-11    start and end, four bytes each; of the writer the start is the part size, of a day its number; of bytes that are written as a bit literal both are
+            the bit count
     12, 13  how many bytes of padding stand before the source; 1 if it is asked with its padding too
     14      how long the buffer is in the first asking
     15, 16  what is due: a letter for the case, the number
     18-27   places of the row, two bytes each: where the source begins and ends, the padding ends and the value begins, the value ends and the name begins, the row ends
-    28-47   what is due: four values, of eight bytes and three times of four; the third is the place of a 6; of a day they are year, month, day and number
+    28-47   what is due: four values, of eight bytes and three times of four; the third is the place of a 6; of a day they are year, month, day and number; of
+            packed bits the second is the bit count
 
 Of a block of literals in one call the value is the items, the answer slice as it is lent and the answer slice as it is due, all by numbers of four bytes, and the
 bytes that are written:
@@ -28,11 +30,13 @@ import struct
 import sys
 
 ROOT = pathlib.Path(__file__).resolve().parent.parent
-# the first eight lend a buffer
+# the first eight and the last two lend a buffer
 QUESTIONS = ('string plain decimal bits temporal ident writer form money source charset i64 bool null evalid uvalid uescape nul isident radix block '
-             'date day').split()
-LENDS = set(QUESTIONS[:8])
-SPANNED = set('string plain decimal bits temporal money source charset i64 date'.split())
+             'date day pack unpack').split()
+LENDS = set(QUESTIONS[:8] + QUESTIONS[-2:])
+SPANNED = set('string plain decimal bits temporal money source charset i64 date pack'.split())
+# of a bit string by its kind: the letter, bits per digit, and the digits' form
+RADIX = {12: ('B', 1, 'b'), 13: ('X', 4, 'X')}
 # how the texts of the two forms begin, in the order of their numbers
 OPENING = {'escape': "E'", 'unicode': "U&'"}
 LONG = 200  # the buffer of the first asking; no value is as long
@@ -62,6 +66,8 @@ class Row:
         self.question, self.synthetic = question.removesuffix('/synthetic'), question.endswith('/synthetic')
         if self.question == 'writer':
             self.kind, self.start, self.end = int(start != 'none'), 0 if start == 'none' else int(start), 0
+        elif self.question == 'unpack':
+            self.kind, (self.end, self.start) = int(kind), divmod(int(start), 2 ** 32)
         else:
             self.kind, self.start, self.end = int(kind), int(start), int(end)
         self.number, self.letter, self.values, self.value = due(self.source, answer)
@@ -151,7 +157,7 @@ def due(source, answer):
         return 0, 'b', (start, end, 0, 0), source[start:end]
     if case == 'w':
         value = unhex(values[0])
-        return 0, 'w', (len(value), 0, 0, 0), value
+        return 0, 'w', four([len(value), *values[1:]]), value
     if case == 'r':
         return int(values[0]), 'r', four(values[1:]), b''
     if case in ('yes', 'no'):
@@ -182,13 +188,15 @@ def lent_told(question, room, answer):
     """the same, the buffer as long as the row says: 9 is due where it is too short"""
     if room == '.':
         return LONG, answer
-    needed = len(unhex(answer[2:])) if answer.startswith('w ') else 0
+    if question == 'unpack':
+        return int(room), answer
+    needed = len(unhex(answer.split()[1])) if answer.startswith('w ') else 0
     own = needed + int(room)
     return own, answer if needed <= own else f'r 9 {needed}'
 
 
 def listed(name, lent=lent_long):
-    """(stratum, row) of oracle.tsv, clarified.tsv, parts.tsv, places.tsv, dates.tsv or printing.tsv; the records are no question's, and `litrec` answers them"""
+    """(stratum, row) of a file with these columns; the records are no question's, and `litrec` answers them"""
     for identity, question, kind, setting, start, end, source, room, answer, *_ in lines(name):
         if question == 'record':
             continue
@@ -332,6 +340,65 @@ def parts_asked():
     yield from listed('parts')
     for identity, setting, value, text in written_parts():
         yield 'parts, read back', Row(f'parts {identity}, read back', 'string', 4, setting, 0, len(text), text, read_back("'", value, text))
+
+
+def bits_rows():
+    """the rows of bits in the files of document 01"""
+    files = [*listed('oracle'), *listed('clarified'), *readable('manuals'), *readable('examples'), *listed('places')]
+    return [row for _, row in files if row.question == 'bits']
+
+
+def packed_bits(kind, digits):
+    """digits as packed bytes, in the words of docs/VECTORS.md"""
+    count = len(digits) * RADIX[kind][1]
+    number = int(digits or b'0', 16 if kind == 13 else 2) << -count % 8
+    return f'w {number.to_bytes(-(-count // 8), "big").hex() or "-"} {count}'
+
+
+def bit_literal(kind, data, count):
+    """the literal of bytes and a bit count, None if it has no such digits"""
+    letter, per, form = RADIX[kind]
+    number = int.from_bytes(data, 'big') >> -count % 8
+    return f"{letter}'{format(number, f'0{count // per}{form}') if count else ''}'".encode() if count % per == 0 else None
+
+
+def written_bits():
+    """(id, kind, bytes, count, text) of what packing.tsv says is written as a literal, each once"""
+    met = set()
+    for identity, question, kind, _, count, _, source, _, answer, _ in lines('packing'):
+        if question == 'unpack' and answer.startswith('w ') and answer not in met:
+            met.add(answer)
+            yield identity, int(kind), unhex(source), int(count), unhex(answer[2:])
+
+
+def bits_packed():
+    """(id, bytes, count) of what packing.tsv says is packed, each once"""
+    met = set()
+    for identity, question, *_, answer, _ in lines('packing'):
+        if question == 'pack' and answer.startswith('w ') and answer not in met:
+            met.add(answer)
+            yield identity, unhex(answer.split()[1]), int(answer.split()[2])
+
+
+def packed_back():
+    """(id, kind, bytes, count, text) of each packed answer written as either literal, as far as it can be"""
+    for identity, data, count in bits_packed():
+        for kind in RADIX:
+            text = bit_literal(kind, data, count)
+            if text and len(text) < LONG:
+                yield identity, kind, data, count, text
+
+
+def packing_asked():
+    """(stratum, row) of packing.tsv: each row; each literal that is written packed again, and what is packed written; the digits of all rows of bits packed"""
+    yield from sorted(listed('packing', lent_told), key=lambda r: QUESTIONS.index(r[1].question))
+    for identity, kind, data, count, text in written_bits():
+        yield 'packing, packed again', Row(f'packing {identity}, packed again', 'pack', kind, 0, 0, len(text), text, f'w {data.hex() or "-"} {count}')
+    for identity, kind, data, count, text in packed_back():
+        yield 'packing, written', Row(f'packing {identity}, written', 'unpack', kind, 0, count, 0, data, f'w {text.hex()}')
+    for row in bits_rows():
+        answer = packed_bits(row.kind, row.value) if row.letter in 'bw' else f'r {row.number} {row.values[0]} {row.values[1]}'
+        yield 'packing, bits of other files', Row(f'{row.name}, packed', 'pack' + '/synthetic' * row.synthetic, row.kind, 0, row.start, row.end, row.source, answer)
 
 
 def numbers(column):
