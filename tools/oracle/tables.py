@@ -1,10 +1,11 @@
 #!/usr/bin/env python3
-"""Turns vectors/oracle.tsv, clarified.tsv, forms.tsv, parts.tsv, places.tsv, blocks.tsv, dates.tsv and printing.tsv into tables of antt, proved by computation.
+"""Turns vectors/oracle.tsv, clarified.tsv, forms.tsv, parts.tsv, places.tsv, blocks.tsv, dates.tsv, printing.tsv and packing.tsv into tables of antt, proved by
+computation.
 
     tools/oracle/tables.py
 
 writes crates/meaning/proofs/Oracle1.antt and on, Clarified.antt, FormRows.antt, PartRows.antt, PlaceRows.antt, BlockRows.antt, DateRows.antt, PrintRows.antt,
-Tables.antt that proves them, and Lib.antt with their names and those of the tables written by hand. The forms of the rows are those of
+PackRows.antt, Tables.antt that proves them, and Lib.antt with their names and those of the tables written by hand. The forms of the rows are those of
 crates/meaning/proofs/Rows.antt.
 """
 import glob
@@ -27,11 +28,12 @@ BY_HAND = ['BlockLimits', 'CalendarFacts', 'Further', 'Unseen']
 UNREACHED = {'Halves': {'negatedLow', 'negatedHigh'}, 'Cutting': {'complete'}, 'Dates': {'spelledDay'}}
 
 QUESTION = {'plain': 'plain', 'decimal': 'decimal-text', 'bits': 'bit-text', 'temporal': 'temporal-text', 'money': 'money-text', 'source': 'source-text',
-            'charset': 'charset', 'i64': 'i64', 'bool': 'bool', 'null': 'null', 'date': 'date'}
+            'charset': 'charset', 'i64': 'i64', 'bool': 'bool', 'null': 'null', 'date': 'date', 'pack': 'packed-bits'}
 # the words that rows are made of
-WORDS = ('asks spans detached helps names prefixed spells forms prints block numbered halves wrote needs refused tells declines string plain decimal-text '
-         'bit-text temporal-text money-text source-text charset i64 bool null date uescape-legal escape-valid unicode-valid embeds-nul is-ident '
-         'borrows writes cramped plus minus unnamed says refuses breaks unfit dated lending').split()
+WORDS = ('asks spans detached helps names prefixed spells forms prints block numbered halves unpacks wrote needs refused tells declines string plain '
+         'decimal-text bit-text temporal-text money-text source-text charset i64 bool null date packed-bits uescape-legal escape-valid unicode-valid '
+         'embeds-nul is-ident borrows writes cramped plus minus unnamed says refuses breaks unfit dated packed lending').split()
+RADIX = {12: 'Binary', 13: 'Hex'}
 HELPER = {'uescape': 'uescape-legal', 'evalid': 'escape-valid', 'uvalid': 'unicode-valid', 'nul': 'embeds-nul', 'isident': 'is-ident'}
 
 
@@ -67,7 +69,9 @@ def told(source, room, answer):
         return in_room(room, f'(borrows {start} {end} {quoted(source[start:end])})')
     if word == 'w':
         short, text = -int(room), quoted(replay.unhex(values[0]))
-        return f'(cramped {short} {text})' if short > 0 else f'(writes {room} {text})'
+        if short > 0:
+            return f'(cramped {short} {text})'
+        return f'(packed {room} {text} {values[1]})' if values[1:] else f'(writes {room} {text})'
     if word == 'i':
         value = int(values[0])
         return f'(minus {-value})' if value < 0 else f'(plus {value})'
@@ -119,6 +123,8 @@ def row(question, kind, setting, start, end, source, room, answer):
         return printed([data], [answer])
     if question == 'day':
         return f'numbered {start} {listing(found(answer))}'
+    if question == 'unpack':
+        return f'unpacks {RADIX[int(kind)]} {quoted(data)} {start} {room} {made(answer)}'
     synthetic = question.endswith('/synthetic')
     question, start, end = question.removesuffix('/synthetic'), int(start), int(end)
     asked = f'(string {flag(setting)})' if question == 'string' else QUESTION[question]
@@ -179,6 +185,16 @@ def print_rows():
     for number in sorted(numbers):
         high, low = divmod(number % 2 ** 128, 2 ** 64)
         yield f'halves {high} {low} {quoted(str(number).encode())}'
+
+
+def pack_rows():
+    """the rows of packing.tsv; then each literal that is written packed again, and what is packed written"""
+    for _, *columns, _ in read('packing.tsv'):
+        yield row(*columns)
+    for _, kind, data, count, text in replay.written_bits():
+        yield row('pack', kind, 0, 0, len(text), text.hex(), 0, f'w {data.hex() or "-"} {count}')
+    for _, kind, data, count, text in replay.packed_back():
+        yield row('unpack', kind, 0, count, 0, data.hex() or '-', len(text), f'w {text.hex()}')
 
 
 def read(name):
@@ -274,7 +290,9 @@ def main():
     table('BlockRows', 'blocks of string literals read in one call.', 'blocks.tsv', list(block_rows()))
     table('DateRows', 'the day of a date literal, and of a number.', 'dates.tsv', [row(*r[1:9]) for r in read('dates.tsv')])
     table('PrintRows', 'radix numbers as decimal text, and the texts of their halves.', 'printing.tsv', list(print_rows()))
-    modules += ['Clarified', 'FormRows', 'PartRows', 'PlaceRows', 'BlockRows', 'DateRows', 'PrintRows']
+    table('PackRows', 'bit strings as packed bytes and back, each way of what the other gives.', 'packing.tsv', list(pack_rows()),
+          ['use Rattle.meaning.specs.declared.BitStringRadix.the-variants.{Binary, Hex}'])
+    modules += ['Clarified', 'FormRows', 'PartRows', 'PlaceRows', 'BlockRows', 'DateRows', 'PrintRows', 'PackRows']
     proof_of(modules[1:])
     modules += ['Tables'] + BY_HAND
     with open(os.path.join(PROOFS, 'Lib.antt'), 'w') as f:

@@ -11,6 +11,7 @@ pub mod PlaceRows
 pub mod BlockRows
 pub mod DateRows
 pub mod PrintRows
+pub mod PackRows
 pub mod Tables
 pub mod BlockLimits
 pub mod CalendarFacts

@@ -7,6 +7,7 @@ use Prim.Native.String.{String}
 use lib.Dec.{eqb}
 use lib.ListN.{length, replicate}
 use lib.IntN.{ℤ, pos, negsuc}
+use Rattle.meaning.specs.declared.BitStringRadix.{BitStringRadix}
 use Rattle.meaning.specs.declared.PartSize.{PartSize}
 use Rattle.meaning.specs.declared.Form.{Form}
 use Rattle.meaning.specs.declared.RadixPrefix.{RadixPrefix}
@@ -25,11 +26,15 @@ use Rattle.meaning.specs.declared.Writing.{Writing}
 use Rattle.meaning.specs.declared.Writing.the-variants as Writing′
 use Rattle.meaning.specs.declared.Day.{Day}
 use Rattle.meaning.specs.declared.Dated.{Dated}
+use Rattle.meaning.specs.declared.PackedBits.{PackedBits}
+use Rattle.meaning.specs.declared.PackedBits.the-variants as Packed′
+use Rattle.meaning.specs.declared.BitWriting.{BitWriting}
+use Rattle.meaning.specs.declared.BitWriting.the-variants as BitWriting′
 use Rattle.meaning.specs.Bytes.{ascii, same}
 use Rattle.meaning.specs.Answers.{Outcome, kindCode, payload, refusalValues, textNumber, textValues, rangeNumber, rangeValues, charsetNumber}
 use Rattle.meaning.specs.Answers.{charsetValues, integerNumber, integerValues, truthNumber, truthValues, nullnessNumber, nullnessValues, identifierNumber}
 use Rattle.meaning.specs.Answers.{identifierValues, writingNumber, writingValues, foundNumber, foundValues, datedNumber, datedValues, partShown, shown}
-use Rattle.meaning.specs.Answers.{rangeShown, charsetShown}
+use Rattle.meaning.specs.Answers.{rangeShown, charsetShown, packedNumber, packedValues, bitWritingNumber, bitWritingValues}
 use Rattle.meaning.specs.Numbers.{radixPrefix}
 use Rattle.meaning.specs.Halves.{joinedHalves, textOf}
 use Rattle.meaning.specs.Helpers.{uescapeLegal, escapeValid, unicodeValid, embedsNul, isUnicodeIdent}
@@ -41,13 +46,14 @@ use Rattle.meaning.specs.Codes.{kindOf}
 use Rattle.meaning.specs.Records.{output}
 use Rattle.meaning.specs.Blocks.{BlockOutcome, blockCall}
 use Rattle.meaning.specs.Dates.{dateQuestion, dayQuestion}
+use Rattle.meaning.specs.Packing.{packedQuestion, bitWriteQuestion}
 
 -- Texts stand in quotes, one character for each byte: `ascii` turns a character into the byte of its code, also from 80 to FF
 
 -- WHAT IS ASKED of a literal; the Bool is the backslash setting
 pub data Question : Type 0 where
   string : Bool → Question
-  plain decimal-text bit-text temporal-text money-text source-text charset i64 bool null date : Question
+  plain decimal-text bit-text temporal-text money-text source-text charset i64 bool null date packed-bits : Question
 
 -- of a bare text
 pub data Helper : Type 0 where
@@ -56,8 +62,8 @@ pub data Helper : Type 0 where
 -- WHAT IS ANSWERED. A part of the source, from .. to .., and its bytes; bytes that are written, with some bytes of room left over;
 -- the same bytes, where the room is some bytes short; an integer, and its negative; no charset name; yes or no; a refusal by its number,
 -- which gives back the span; refusal 6 with some bytes of room, which gives back the span and a place of the text; a wrong kind, where
--- the question expects another family; a year, a month, a day and the day's number; one of these that writes nothing, with some bytes of
--- room
+-- the question expects another family; a year, a month, a day and the day's number; bytes that are packed, with some bytes of room left
+-- over, and how many bits they hold; one of these that writes nothing, with some bytes of room
 pub data Told : Type 0 where
   borrows : ℕ → ℕ → String → Told
   writes : ℕ → String → Told
@@ -69,6 +75,7 @@ pub data Told : Type 0 where
   breaks : ℕ → ℕ → Told
   unfit : ℕ → Told
   dated : ℕ → ℕ → ℕ → ℕ → Told
+  packed : ℕ → String → ℕ → Told
   lending : ℕ → Told → Told
 
 -- what a row compares: the number and the values, the bytes shown, and the buffer behind the call
@@ -94,6 +101,7 @@ lent (refuses n) = fill 3
 lent (breaks n p) = fill n
 lent (unfit e) = fill 3
 lent (dated y m d n) = fill 3
+lent (packed n t b) = fill (length (ascii t) + n)
 lent (lending n w) = fill n
 
 abbrev pub yes-no : Bool → ℕ
@@ -113,6 +121,7 @@ due l (refuses n) = record { values = n ∷ l .span .start ∷ l .span .end ∷ 
 due l (breaks n p) = record { values = 6 ∷ l .span .start ∷ l .span .end ∷ p ∷ []; bytes = []; buffer = fill n }
 due l (unfit e) = record { values = 1 ∷ e ∷ kindCode (l .kind) ∷ payload (l .kind); bytes = []; buffer = fill 3 }
 due l (dated y m d n) = record { values = 0 ∷ y ∷ m ∷ d ∷ n ∷ []; bytes = []; buffer = fill 3 }
+due l (packed n t b) = record { values = 0 ∷ length (ascii t) ∷ b ∷ []; bytes = ascii t; buffer = ascii t ++ fill n }
 due l (lending n w) = record { values = due l w .values; bytes = due l w .bytes; buffer = fill n }
 
 -- what is seen of each kind of answer
@@ -151,6 +160,15 @@ datedTold a = datedNumber a ∷ datedValues a
 abbrev pub foundTold : Day → List ℕ
 foundTold a = foundNumber a ∷ foundValues a
 
+-- packed bits are shown where they are written
+abbrev pub packedShown : List ℕ → PackedBits → List ℕ
+packedShown out (Packed′.Written n b) = partShown 0 n out
+packedShown out (Packed′.Refused r) = []
+
+abbrev pub packedSeen : Outcome PackedBits → Seen
+packedSeen o =
+    record { values = packedNumber (o .answer) ∷ packedValues (o .answer); bytes = packedShown (o .buffer) (o .answer); buffer = o .buffer }
+
 abbrev pub valuesSeen : List ℕ → List ℕ → Seen
 valuesSeen out vs = record { values = vs; bytes = []; buffer = out }
 
@@ -168,6 +186,7 @@ seen i64 l t out = valuesSeen out (integerTold (i64Question l t))
 seen bool l t out = valuesSeen out (truthTold (boolQuestion (l .kind)))
 seen null l t out = valuesSeen out (nullnessTold (nullQuestion (l .kind)))
 seen date l t out = valuesSeen out (datedTold (dateQuestion l t))
+seen packed-bits l t out = packedSeen (packedQuestion l t out)
 
 abbrev pub helperSays : Helper → List ℕ → Bool
 helperSays uescape-legal t = uescapeLegal t
@@ -189,6 +208,7 @@ identifierDue (refuses n) = record { values = n ∷ []; bytes = []; buffer = fil
 identifierDue (breaks n p) = valuesSeen [] []
 identifierDue (unfit e) = valuesSeen [] []
 identifierDue (dated y m d n) = valuesSeen [] []
+identifierDue (packed n t b) = valuesSeen [] []
 identifierDue (lending n w) = valuesSeen [] []
 
 abbrev pub identifierShown : List ℕ → List ℕ → Identifier → List ℕ
@@ -223,6 +243,20 @@ abbrev pub wroteSeen : Outcome Writing → Seen
 wroteSeen o =
     record { values = writingNumber (o .answer) ∷ writingValues (o .answer); bytes = wroteShown (o .buffer) (o .answer); buffer = o .buffer }
 
+abbrev pub bitsWroteShown : List ℕ → BitWriting → List ℕ
+bitsWroteShown out (BitWriting′.Written n) = partShown 0 n out
+bitsWroteShown out BitWriting′.OverLimit = []
+bitsWroteShown out BitWriting′.BadBits = []
+bitsWroteShown out (BitWriting′.NoRoom n) = []
+
+abbrev pub bitsWroteSeen : Outcome BitWriting → Seen
+bitsWroteSeen o =
+    record {
+      values = bitWritingNumber (o .answer) ∷ bitWritingValues (o .answer);
+      bytes = bitsWroteShown (o .buffer) (o .answer);
+      buffer = o .buffer;
+    }
+
 -- A BLOCK'S CALL: four numbers for each item, and the bytes that are written, from the buffer's start on; or 15
 pub data Called : Type 0 where
   tells : List ℕ → String → Called
@@ -246,7 +280,8 @@ sameCall a b = eqb (a .number) (b .number) && same (a .answers) (b .answers) && 
 -- of a source; one without a source; a helper; an identifier; a radix prefix; a value that the writer is given, with a setting, a part
 -- size and a buffer's length; one that it is given with a form, and a buffer's length; what the record program is given, with zero
 -- bytes between a head and a tail, and the lines it prints; a block's items and source, and the lengths of the answer slice and the buffer;
--- the number of a day, and what is told of it; the two halves of a number, and its text
+-- the number of a day, and what is told of it; the two halves of a number, and its text; bytes and a bit count that are written with a
+-- radix, and a buffer's length
 pub data Row : Type 0 where
   asks : Question → ℕ → String → String → String → Told → Row
   spans : Question → ℕ → ℕ → ℕ → String → Told → Row
@@ -260,6 +295,7 @@ pub data Row : Type 0 where
   block : List ℕ → String → ℕ → ℕ → Called → Row
   numbered : ℕ → List ℕ → Row
   halves : ℕ → ℕ → String → Row
+  unpacks : BitStringRadix → String → ℕ → ℕ → Wrote → Row
 
 abbrev pub sameSeen : Seen → Seen → Bool
 sameSeen a b = same (a .values) (b .values) && same (a .bytes) (b .bytes) && same (a .buffer) (b .buffer)
@@ -291,6 +327,7 @@ right (prints head n tail lines) = same (output (ascii head ++ (replicate n 0 ++
 right (block is t n m w) = sameCall (blockCall is (ascii t) (others 0 n) (fill m)) (callDue n m w)
 right (numbered n vs) = same (foundTold (dayQuestion n)) vs
 right (halves hi lo t) = same (textOf (joinedHalves hi lo)) (ascii t)
+right (unpacks x v b n w) = sameSeen (bitsWroteSeen (bitWriteQuestion x (ascii v) b (fill n))) (wroteDue n w)
 
 abbrev pub all : List Row → Bool
 all [] = true

@@ -19,6 +19,7 @@ use Rattle.meaning.specs.Records.{line, goodRecord, recordLine, output}
 use Rattle.meaning.specs.Blocks.{itemAsked, badBlock, blockCall}
 use Rattle.meaning.specs.Dates.{isLeap, monthLength, yearLength, dayNumber, isDay, calendarDay, dateOf, dayQuestion, isTenBytes, isDate, dayIn}
 use Rattle.meaning.specs.Dates.{dateQuestion}
+use Rattle.meaning.specs.Packing.{bitsIn, packBits, packedQuestion, bitDigits, bitLiteral, badBits, bitWriteQuestion}
 use Rattle.meaning.proofs.Rows.{all}
 use Rattle.meaning.proofs.Oracle1 as Oracle1
 use Rattle.meaning.proofs.Oracle2 as Oracle2
@@ -32,6 +33,7 @@ use Rattle.meaning.proofs.PlaceRows as PlaceRows
 use Rattle.meaning.proofs.BlockRows as BlockRows
 use Rattle.meaning.proofs.DateRows as DateRows
 use Rattle.meaning.proofs.PrintRows as PrintRows
+use Rattle.meaning.proofs.PackRows as PackRows
 
 oracle1-right : T (all Oracle1.rows)
 unfolding within isMark isLetter isDecimal inName startsTag inTag digit allDigits lead utf8 more encode isScalar width isSpace doubled oneByte mayEscape
@@ -40,7 +42,8 @@ unfolding within isMark isLetter isDecimal inName startsTag inTag digit allDigit
     quoteToken temporalToken temporal charsetEnd uescapeLegal escapeValid unicodeValid ident partShown filled cutsCharacter badSpan sourceText tested
     stringQuestion decimalQuestion bitsQuestion temporalQuestion sourceQuestion moneyQuestion charsetQuestion i64Question identifierQuestion spell
     writtenText overLimit unwritableNul writeQuestion figure isDoubled escapeForm unicodeFigures formText formQuestion line goodRecord recordLine output
-    itemAsked badBlock blockCall isLeap monthLength yearLength dayNumber isDay calendarDay dateOf dayQuestion isTenBytes isDate dayIn dateQuestion
+    itemAsked badBlock blockCall isLeap monthLength yearLength dayNumber isDay calendarDay dateOf dayQuestion isTenBytes isDate dayIn dateQuestion bitsIn
+    packBits packedQuestion bitDigits bitLiteral badBits bitWriteQuestion
 oracle1-right = tt
 
 oracle2-right : T (all Oracle2.rows)
@@ -50,7 +53,8 @@ unfolding within isMark isLetter isDecimal inName startsTag inTag digit allDigit
     quoteToken temporalToken temporal charsetEnd uescapeLegal escapeValid unicodeValid ident partShown filled cutsCharacter badSpan sourceText tested
     stringQuestion decimalQuestion bitsQuestion temporalQuestion sourceQuestion moneyQuestion charsetQuestion i64Question identifierQuestion spell
     writtenText overLimit unwritableNul writeQuestion figure isDoubled escapeForm unicodeFigures formText formQuestion line goodRecord recordLine output
-    itemAsked badBlock blockCall isLeap monthLength yearLength dayNumber isDay calendarDay dateOf dayQuestion isTenBytes isDate dayIn dateQuestion
+    itemAsked badBlock blockCall isLeap monthLength yearLength dayNumber isDay calendarDay dateOf dayQuestion isTenBytes isDate dayIn dateQuestion bitsIn
+    packBits packedQuestion bitDigits bitLiteral badBits bitWriteQuestion
 oracle2-right = tt
 
 oracle3-right : T (all Oracle3.rows)
@@ -60,7 +64,8 @@ unfolding within isMark isLetter isDecimal inName startsTag inTag digit allDigit
     quoteToken temporalToken temporal charsetEnd uescapeLegal escapeValid unicodeValid ident partShown filled cutsCharacter badSpan sourceText tested
     stringQuestion decimalQuestion bitsQuestion temporalQuestion sourceQuestion moneyQuestion charsetQuestion i64Question identifierQuestion spell
     writtenText overLimit unwritableNul writeQuestion figure isDoubled escapeForm unicodeFigures formText formQuestion line goodRecord recordLine output
-    itemAsked badBlock blockCall isLeap monthLength yearLength dayNumber isDay calendarDay dateOf dayQuestion isTenBytes isDate dayIn dateQuestion
+    itemAsked badBlock blockCall isLeap monthLength yearLength dayNumber isDay calendarDay dateOf dayQuestion isTenBytes isDate dayIn dateQuestion bitsIn
+    packBits packedQuestion bitDigits bitLiteral badBits bitWriteQuestion
 oracle3-right = tt
 
 oracle4-right : T (all Oracle4.rows)
@@ -70,7 +75,8 @@ unfolding within isMark isLetter isDecimal inName startsTag inTag digit allDigit
     quoteToken temporalToken temporal charsetEnd uescapeLegal escapeValid unicodeValid ident partShown filled cutsCharacter badSpan sourceText tested
     stringQuestion decimalQuestion bitsQuestion temporalQuestion sourceQuestion moneyQuestion charsetQuestion i64Question identifierQuestion spell
     writtenText overLimit unwritableNul writeQuestion figure isDoubled escapeForm unicodeFigures formText formQuestion line goodRecord recordLine output
-    itemAsked badBlock blockCall isLeap monthLength yearLength dayNumber isDay calendarDay dateOf dayQuestion isTenBytes isDate dayIn dateQuestion
+    itemAsked badBlock blockCall isLeap monthLength yearLength dayNumber isDay calendarDay dateOf dayQuestion isTenBytes isDate dayIn dateQuestion bitsIn
+    packBits packedQuestion bitDigits bitLiteral badBits bitWriteQuestion
 oracle4-right = tt
 
 oracle5-right : T (all Oracle5.rows)
@@ -80,7 +86,8 @@ unfolding within isMark isLetter isDecimal inName startsTag inTag digit allDigit
     quoteToken temporalToken temporal charsetEnd uescapeLegal escapeValid unicodeValid ident partShown filled cutsCharacter badSpan sourceText tested
     stringQuestion decimalQuestion bitsQuestion temporalQuestion sourceQuestion moneyQuestion charsetQuestion i64Question identifierQuestion spell
     writtenText overLimit unwritableNul writeQuestion figure isDoubled escapeForm unicodeFigures formText formQuestion line goodRecord recordLine output
-    itemAsked badBlock blockCall isLeap monthLength yearLength dayNumber isDay calendarDay dateOf dayQuestion isTenBytes isDate dayIn dateQuestion
+    itemAsked badBlock blockCall isLeap monthLength yearLength dayNumber isDay calendarDay dateOf dayQuestion isTenBytes isDate dayIn dateQuestion bitsIn
+    packBits packedQuestion bitDigits bitLiteral badBits bitWriteQuestion
 oracle5-right = tt
 
 clarified-right : T (all Clarified.rows)
@@ -90,7 +97,8 @@ unfolding within isMark isLetter isDecimal inName startsTag inTag digit allDigit
     quoteToken temporalToken temporal charsetEnd uescapeLegal escapeValid unicodeValid ident partShown filled cutsCharacter badSpan sourceText tested
     stringQuestion decimalQuestion bitsQuestion temporalQuestion sourceQuestion moneyQuestion charsetQuestion i64Question identifierQuestion spell
     writtenText overLimit unwritableNul writeQuestion figure isDoubled escapeForm unicodeFigures formText formQuestion line goodRecord recordLine output
-    itemAsked badBlock blockCall isLeap monthLength yearLength dayNumber isDay calendarDay dateOf dayQuestion isTenBytes isDate dayIn dateQuestion
+    itemAsked badBlock blockCall isLeap monthLength yearLength dayNumber isDay calendarDay dateOf dayQuestion isTenBytes isDate dayIn dateQuestion bitsIn
+    packBits packedQuestion bitDigits bitLiteral badBits bitWriteQuestion
 clarified-right = tt
 
 formrows-right : T (all FormRows.rows)
@@ -100,7 +108,8 @@ unfolding within isMark isLetter isDecimal inName startsTag inTag digit allDigit
     quoteToken temporalToken temporal charsetEnd uescapeLegal escapeValid unicodeValid ident partShown filled cutsCharacter badSpan sourceText tested
     stringQuestion decimalQuestion bitsQuestion temporalQuestion sourceQuestion moneyQuestion charsetQuestion i64Question identifierQuestion spell
     writtenText overLimit unwritableNul writeQuestion figure isDoubled escapeForm unicodeFigures formText formQuestion line goodRecord recordLine output
-    itemAsked badBlock blockCall isLeap monthLength yearLength dayNumber isDay calendarDay dateOf dayQuestion isTenBytes isDate dayIn dateQuestion
+    itemAsked badBlock blockCall isLeap monthLength yearLength dayNumber isDay calendarDay dateOf dayQuestion isTenBytes isDate dayIn dateQuestion bitsIn
+    packBits packedQuestion bitDigits bitLiteral badBits bitWriteQuestion
 formrows-right = tt
 
 partrows-right : T (all PartRows.rows)
@@ -110,7 +119,8 @@ unfolding within isMark isLetter isDecimal inName startsTag inTag digit allDigit
     quoteToken temporalToken temporal charsetEnd uescapeLegal escapeValid unicodeValid ident partShown filled cutsCharacter badSpan sourceText tested
     stringQuestion decimalQuestion bitsQuestion temporalQuestion sourceQuestion moneyQuestion charsetQuestion i64Question identifierQuestion spell
     writtenText overLimit unwritableNul writeQuestion figure isDoubled escapeForm unicodeFigures formText formQuestion line goodRecord recordLine output
-    itemAsked badBlock blockCall isLeap monthLength yearLength dayNumber isDay calendarDay dateOf dayQuestion isTenBytes isDate dayIn dateQuestion
+    itemAsked badBlock blockCall isLeap monthLength yearLength dayNumber isDay calendarDay dateOf dayQuestion isTenBytes isDate dayIn dateQuestion bitsIn
+    packBits packedQuestion bitDigits bitLiteral badBits bitWriteQuestion
 partrows-right = tt
 
 placerows-right : T (all PlaceRows.rows)
@@ -120,7 +130,8 @@ unfolding within isMark isLetter isDecimal inName startsTag inTag digit allDigit
     quoteToken temporalToken temporal charsetEnd uescapeLegal escapeValid unicodeValid ident partShown filled cutsCharacter badSpan sourceText tested
     stringQuestion decimalQuestion bitsQuestion temporalQuestion sourceQuestion moneyQuestion charsetQuestion i64Question identifierQuestion spell
     writtenText overLimit unwritableNul writeQuestion figure isDoubled escapeForm unicodeFigures formText formQuestion line goodRecord recordLine output
-    itemAsked badBlock blockCall isLeap monthLength yearLength dayNumber isDay calendarDay dateOf dayQuestion isTenBytes isDate dayIn dateQuestion
+    itemAsked badBlock blockCall isLeap monthLength yearLength dayNumber isDay calendarDay dateOf dayQuestion isTenBytes isDate dayIn dateQuestion bitsIn
+    packBits packedQuestion bitDigits bitLiteral badBits bitWriteQuestion
 placerows-right = tt
 
 blockrows-right : T (all BlockRows.rows)
@@ -130,7 +141,8 @@ unfolding within isMark isLetter isDecimal inName startsTag inTag digit allDigit
     quoteToken temporalToken temporal charsetEnd uescapeLegal escapeValid unicodeValid ident partShown filled cutsCharacter badSpan sourceText tested
     stringQuestion decimalQuestion bitsQuestion temporalQuestion sourceQuestion moneyQuestion charsetQuestion i64Question identifierQuestion spell
     writtenText overLimit unwritableNul writeQuestion figure isDoubled escapeForm unicodeFigures formText formQuestion line goodRecord recordLine output
-    itemAsked badBlock blockCall isLeap monthLength yearLength dayNumber isDay calendarDay dateOf dayQuestion isTenBytes isDate dayIn dateQuestion
+    itemAsked badBlock blockCall isLeap monthLength yearLength dayNumber isDay calendarDay dateOf dayQuestion isTenBytes isDate dayIn dateQuestion bitsIn
+    packBits packedQuestion bitDigits bitLiteral badBits bitWriteQuestion
 blockrows-right = tt
 
 daterows-right : T (all DateRows.rows)
@@ -140,7 +152,8 @@ unfolding within isMark isLetter isDecimal inName startsTag inTag digit allDigit
     quoteToken temporalToken temporal charsetEnd uescapeLegal escapeValid unicodeValid ident partShown filled cutsCharacter badSpan sourceText tested
     stringQuestion decimalQuestion bitsQuestion temporalQuestion sourceQuestion moneyQuestion charsetQuestion i64Question identifierQuestion spell
     writtenText overLimit unwritableNul writeQuestion figure isDoubled escapeForm unicodeFigures formText formQuestion line goodRecord recordLine output
-    itemAsked badBlock blockCall isLeap monthLength yearLength dayNumber isDay calendarDay dateOf dayQuestion isTenBytes isDate dayIn dateQuestion
+    itemAsked badBlock blockCall isLeap monthLength yearLength dayNumber isDay calendarDay dateOf dayQuestion isTenBytes isDate dayIn dateQuestion bitsIn
+    packBits packedQuestion bitDigits bitLiteral badBits bitWriteQuestion
 daterows-right = tt
 
 printrows-right : T (all PrintRows.rows)
@@ -150,12 +163,24 @@ unfolding within isMark isLetter isDecimal inName startsTag inTag digit allDigit
     quoteToken temporalToken temporal charsetEnd uescapeLegal escapeValid unicodeValid ident partShown filled cutsCharacter badSpan sourceText tested
     stringQuestion decimalQuestion bitsQuestion temporalQuestion sourceQuestion moneyQuestion charsetQuestion i64Question identifierQuestion spell
     writtenText overLimit unwritableNul writeQuestion figure isDoubled escapeForm unicodeFigures formText formQuestion line goodRecord recordLine output
-    itemAsked badBlock blockCall isLeap monthLength yearLength dayNumber isDay calendarDay dateOf dayQuestion isTenBytes isDate dayIn dateQuestion
+    itemAsked badBlock blockCall isLeap monthLength yearLength dayNumber isDay calendarDay dateOf dayQuestion isTenBytes isDate dayIn dateQuestion bitsIn
+    packBits packedQuestion bitDigits bitLiteral badBits bitWriteQuestion
 printrows-right = tt
+
+packrows-right : T (all PackRows.rows)
+unfolding within isMark isLetter isDecimal inName startsTag inTag digit allDigits lead utf8 more encode isScalar width isSpace doubled oneByte mayEscape
+    scalarBy pair lowHalf uescaped named segment segmentStep cut continues encloses argument upper isUnicode unicodeSpelling delimiter spelling answer one
+    read signLength isMinus baseBy radixPrefix parsed separated radixValue i64Of digitsBy digitsOf decimalOf textOf bitBody bits money tokenStart
+    quoteToken temporalToken temporal charsetEnd uescapeLegal escapeValid unicodeValid ident partShown filled cutsCharacter badSpan sourceText tested
+    stringQuestion decimalQuestion bitsQuestion temporalQuestion sourceQuestion moneyQuestion charsetQuestion i64Question identifierQuestion spell
+    writtenText overLimit unwritableNul writeQuestion figure isDoubled escapeForm unicodeFigures formText formQuestion line goodRecord recordLine output
+    itemAsked badBlock blockCall isLeap monthLength yearLength dayNumber isDay calendarDay dateOf dayQuestion isTenBytes isDate dayIn dateQuestion bitsIn
+    packBits packedQuestion bitDigits bitLiteral badBits bitWriteQuestion
+packrows-right = tt
 
 pub rows-right : T (all Oracle1.rows) × T (all Oracle2.rows) × T (all Oracle3.rows) × T (all Oracle4.rows) × T (all Oracle5.rows) × T (all Clarified.rows)
     × T (all FormRows.rows) × T (all PartRows.rows) × T (all PlaceRows.rows) × T (all BlockRows.rows) × T (all DateRows.rows)
-    × T (all PrintRows.rows)
+    × T (all PrintRows.rows) × T (all PackRows.rows)
 rows-right = (
   oracle1-right,
   oracle2-right,
@@ -169,4 +194,5 @@ rows-right = (
   blockrows-right,
   daterows-right,
   printrows-right,
+  packrows-right,
 )
