@@ -443,6 +443,7 @@ def all_rows():
     yield from blocks_asked()
     yield from sorted(listed('dates'), key=lambda r: QUESTIONS.index(r[1].question))
     yield from listed('printing', lent_told)
+    yield from packing_asked()
 
 
 def in_blocks(rows):

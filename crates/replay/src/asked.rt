@@ -1,9 +1,11 @@
 // The question that a row asks, of a source and with a buffer. The literal's span is moved by so many bytes.
 use crate::rows::QUESTION;
+use crate::rows::bit_count_of;
 use crate::rows::day_number_of;
 use crate::rows::due_in;
 use crate::rows::form_of;
 use crate::rows::literal_of;
+use crate::rows::radix_of;
 use crate::rows::settings_of;
 use crate::rows::size_of;
 use crate::told::PREFIX;
@@ -11,6 +13,7 @@ use crate::told::TRUTH;
 use crate::told::Told;
 use crate::told::agreed;
 use crate::told::answered;
+use crate::told::bit_writing_told;
 use crate::told::bool_told;
 use crate::told::charset_told;
 use crate::told::dated_told;
@@ -18,6 +21,7 @@ use crate::told::found_told;
 use crate::told::identifier_told;
 use crate::told::integer_told;
 use crate::told::null_told;
+use crate::told::packed_told;
 use crate::told::range_told;
 use crate::told::text_told;
 use crate::told::writing_told;
@@ -34,6 +38,7 @@ use meaning::Literal;
 use meaning::Text;
 use numbers::prefix::split_radix_prefix;
 use questions::dates::as_date;
+use questions::packing::as_packed_bits;
 use questions::parts::as_money_text;
 use questions::parts::charset_introducer;
 use questions::parts::charset_range;
@@ -51,6 +56,7 @@ use questions::values::as_bool;
 use questions::values::as_i64;
 use questions::values::as_null;
 use questions::values::is_null;
+use writer::bits::write_bit_literal;
 use writer::forms::write_form;
 use writer::literal::write_literal;
 
@@ -75,12 +81,24 @@ fn ask_form(row: &[u8], source: &[u8], out: &mut [u8]) -> Told {
     writing_told(write_form(source, form_of(row), out))
 }
 
-// 1 to 8: the questions that are lent a buffer.
+// 24: a bit string's packed bytes.
+fn ask_packed(row: &[u8], by: u8, source: &[u8], out: &mut [u8]) -> Told {
+    packed_told(as_packed_bits(literal_of(row, by), source, out))
+}
+
+// 25: bytes and a bit count as a bit literal.
+fn ask_bit_literal(row: &[u8], source: &[u8], out: &mut [u8]) -> Told {
+    bit_writing_told(write_bit_literal(source, bit_count_of(row), radix_of(row), out))
+}
+
+// 1 to 8, 24 and 25: the questions that are lent a buffer.
 fn ask_lent(row: &[u8], by: u8, source: &[u8], out: &mut [u8]) -> Told {
     match byte_at(row, QUESTION) {
         6 => identifier_told(materialize_unicode_ident(source, out)),
         7 => ask_writer(row, source, out),
         8 => ask_form(row, source, out),
+        24 => ask_packed(row, by, source, out),
+        25 => ask_bit_literal(row, source, out),
         _ => text_told(ask_text(row, literal_of(row, by), source, out)),
     }
 }
@@ -165,9 +183,10 @@ fn ask_day(row: &[u8], by: u8, source: &[u8]) -> Told {
     dated_told(as_date(literal_of(row, by), source))
 }
 
-// The questions from 9 on are lent no buffer.
+// The questions from 9 to 23 are lent no buffer.
 pub(crate) fn lends(row: &[u8]) -> bool {
-    byte_at(row, QUESTION) <= 8
+    let question = byte_at(row, QUESTION);
+    (question <= 8) | (24 <= question)
 }
 
 pub(crate) fn ask(row: &[u8], by: u8, source: &[u8], out: &mut [u8]) -> Told {

@@ -170,6 +170,18 @@ pub(crate) fn day_number_of(row: &[u8]) -> u32 {
     four(part_of(row, 4, 8))
 }
 
+// The bit count of bytes, where start and end stand in other rows; and the radix of their literal, where the kind does.
+pub(crate) fn bit_count_of(row: &[u8]) -> u64 {
+    eight(part_of(row, 4, 12))
+}
+
+pub(crate) fn radix_of(row: &[u8]) -> BitStringRadix {
+    if byte_at(row, 1) == 12 {
+        return BitStringRadix::Binary;
+    }
+    BitStringRadix::Hex
+}
+
 // What is due: a letter, a number and four values.
 pub(crate) fn due_in(row: &[u8]) -> Told {
     Told {

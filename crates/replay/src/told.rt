@@ -1,6 +1,7 @@
 // What any answer tells: its number, a letter for its case, and up to four values, 0 where there is none. The third is the place of a 6; of a date they are
-// the year, the month, the day and the number.
+// the year, the month, the day and the number; of packed bits the second is the bit count.
 use admitting::kinds::kind_code;
+use meaning::BitWriting;
 use meaning::CalendarDay;
 use meaning::Charset;
 use meaning::Dated;
@@ -9,6 +10,7 @@ use meaning::Identifier;
 use meaning::Integer;
 use meaning::LiteralExpected;
 use meaning::Nullness;
+use meaning::PackedBits;
 use meaning::Range;
 use meaning::Refusal;
 use meaning::Span;
@@ -227,6 +229,22 @@ pub(crate) fn writing_told(answer: Writing) -> Told {
         Writing::NotUtf8 => refused(4, 0, 0),
         Writing::HoldsNul => refused(11, 0, 0),
         Writing::NoRoom { needed } => refused(9, needed, 0),
+    }
+}
+
+pub(crate) fn packed_told(answer: PackedBits) -> Told {
+    match answer {
+        PackedBits::Written { len, bits } => answered(WRITTEN, len, bits as usize),
+        PackedBits::Refused(refusal) => refusal_told(refusal),
+    }
+}
+
+pub(crate) fn bit_writing_told(answer: BitWriting) -> Told {
+    match answer {
+        BitWriting::Written { len } => answered(WRITTEN, len, 0),
+        BitWriting::OverLimit => refused(12, 0, 0),
+        BitWriting::BadBits => refused(16, 0, 0),
+        BitWriting::NoRoom { needed } => refused(9, needed, 0),
     }
 }
 
