@@ -45,8 +45,18 @@ impl Comparing {
         Comparing { tally: Tally::default(), rng: Rng::new(seed), lent: Lent::new(), gathered: Gathered::default() }
     }
 
-    /// Asks ours with each buffer that tells something, and compares with what is due; a string once more in a block.
+    /// Asks, and asks what is answered back: a day's number for its day, packed bits for their literal.
     pub fn ask(&mut self, asked: &Asked, source: &[u8]) -> Outcome {
+        let said = self.answered(asked, source)?;
+        match asked.question {
+            Question::Date => self.date(asked, source, &said),
+            Question::Packed => self.packed(&said),
+            _ => Ok(()),
+        }
+    }
+
+    /// The answer that is due, once ours is asked with each buffer that tells something and gives it; a string is asked once more in a block.
+    pub fn answered(&mut self, asked: &Asked, source: &[u8]) -> Result<Said, Box<Difference>> {
         let (said, judge) = expected(asked, source)
             .map_err(|what| self.difference(what, asked, source, 0, String::new(), String::new()))?;
         match judge {
@@ -57,13 +67,14 @@ impl Comparing {
         }
         if !asked.question.lends() {
             self.ask_with(asked, source, &said, 0, 0)?;
-            return if asked.question == Question::Date { self.date(asked, source, &said) } else { Ok(()) };
+            return Ok(said);
         }
         let place = self.place(asked, source, &said)?;
         let long = self.rng.within(1, 40);
         let (rooms, count) = rooms(&said, long);
         rooms[..count].iter().try_for_each(|&room| self.ask_with(asked, source, &said, place, room))?;
-        self.gather(asked, source, &said, place)
+        self.gather(asked, source, &said, place)?;
+        Ok(said)
     }
 
     /// The place that is due with an answer: 0, or of a 6 what ours says, once it is held. Every buffer and the block have to give the same.
@@ -100,10 +111,7 @@ impl Comparing {
                 format!("{told:?}"),
             ));
         }
-        let written: &[u8] = match said {
-            Said::Written(text) if told.how == WRITTEN => text,
-            _ => &[],
-        };
+        let written = said.written().filter(|_| told.how == WRITTEN).unwrap_or_default();
         if !self.lent.holds_only(written, room) {
             return Err(self.difference(
                 "the buffer".into(),
@@ -230,13 +238,10 @@ fn place_within(asked: &Asked, text: &str, (before, behind): (&str, &str)) -> us
 
 /// Buffers empty, one short, exact and long where there is something to write; elsewhere empty and long.
 fn rooms(said: &Said, long: usize) -> ([usize; 4], usize) {
-    match said {
-        Said::Written(text) => match text.len() {
-            0 => ([0, long, 0, 0], 2),
-            1 => ([0, 1, 1 + long, 0], 3),
-            all => ([0, all - 1, all, all + long], 4),
-        },
-        _ => ([0, long, 0, 0], 2),
+    match said.written().map_or(0, <[u8]>::len) {
+        0 => ([0, long, 0, 0], 2),
+        1 => ([0, 1, 1 + long, 0], 3),
+        all => ([0, all - 1, all, all + long], 4),
     }
 }
 

@@ -30,6 +30,7 @@ const fn frame(
 
 const STRINGS: Set = &[(Str, 4), (EscapeValid, 0), (UnicodeValid, 0)];
 const STRINGS_ALONE: Set = &[(Str, 4)];
+const BITS: Set = &[(Bits, 12), (Bits, 13), (Packed, 12), (Packed, 13)];
 const EVERYTHING: Set = &[
     (Str, 4),
     (Plain, 4),
@@ -45,7 +46,7 @@ const EVERYTHING: Set = &[
     (Nul, 0),
 ];
 
-const FRAMES: [Frame; 20] = [
+const FRAMES: [Frame; 21] = [
     frame("any text", "", &["'", "\"", "\\", "E", "U", "&", "N", "_", "x", "$", " ", "0", "é"], "", 0, EVERYTHING),
     frame("'..'", "'", &["'", "\"", "\\", "0", "n", "Z", "%", "_", "é", "a", "\0"], "'", 0, STRINGS_ALONE),
     frame("\"..\"", "\"", &["'", "\"", "\\", "0", "b", "%", "é", "\0"], "\"", 0, STRINGS_ALONE),
@@ -142,7 +143,8 @@ const FRAMES: [Frame; 20] = [
         0,
         &[(I64, 1), (Decimal, 3)],
     ),
-    frame("bits", "", &["B", "x", "'", "0", "1", "f", " ", "\u{2028}", "\""], "", 1, &[(Bits, 12), (Bits, 13)]),
+    frame("bits", "", &["B", "x", "'", "0", "1", "f", " ", "\u{2028}", "\""], "", 1, BITS),
+    frame("packed bits", "X'", &["0", "1", "10110", "0000000", "f", "8C", "' '", "'\n'"], "'", 0, BITS),
     frame(
         "temporal",
         "",

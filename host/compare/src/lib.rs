@@ -8,6 +8,7 @@ mod edges;
 mod frames;
 mod lent;
 mod ours;
+mod packing;
 mod places;
 mod question;
 mod random;

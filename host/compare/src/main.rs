@@ -10,8 +10,9 @@
 //! beside it. Strings are asked of ours in blocks too, each item a comparison more, which --count does not count. The place of a string or temporal text that
 //! cannot be read, of which the original knows nothing, is held to what the original makes of the text cut there (`places.rs`); it has to be the same alone,
 //! with other bytes around, with every buffer and in a block. A date literal is due the day that its text, which the original reads, spells by a count of our
-//! own (`dates.rs`), and the day's number has to give it back. The original is literal.rs, compiled unchanged from the folder that VALDRABUS_RUST_SRC names (by
-//! default ../shared/docs/src beside the repository).
+//! own (`dates.rs`), and the day's number has to give it back. A bit string is due its digits, which the original reads, as bytes that are put together bit by
+//! bit (`packing.rs`), and what is written of these has to be read back by the original. The original is literal.rs, compiled unchanged from the folder that
+//! VALDRABUS_RUST_SRC names (by default ../shared/docs/src beside the repository).
 
 #[cfg(at_hand)]
 fn main() -> std::process::ExitCode {

@@ -1,5 +1,6 @@
 //! Our answers, through the C interface as it is.
 
+use crate::packing::BitWriting;
 use crate::question::{Asked, Question, Told};
 use crate::writer::Spelling;
 use valdrabus::sys;
@@ -14,12 +15,13 @@ struct Numbers {
     place: usize,
     value: i64,
     day: [u32; 4],
+    bits: u64,
 }
 
 impl Numbers {
     fn stale() -> Numbers {
         let (how, value, day) = (STALE as u32, STALE as i64, [STALE as u32; 4]);
-        Numbers { how, first: STALE, second: STALE, place: STALE, value, day }
+        Numbers { how, first: STALE, second: STALE, place: STALE, value, day, bits: STALE as u64 }
     }
 }
 
@@ -28,6 +30,7 @@ pub fn told(asked: &Asked, source: &[u8], out: &mut [u8]) -> Told {
         Question::Str | Question::Plain | Question::Decimal | Question::Bits | Question::Temporal | Question::Ident => {
             text(asked, source, out)
         }
+        Question::Packed => packed(asked, source, out),
         Question::Date => date(asked, source),
         Question::Source | Question::Money | Question::Charset => part(asked, source),
         Question::I64 | Question::Bool | Question::Null => value(asked, source),
@@ -64,6 +67,18 @@ fn text(asked: &Asked, source: &[u8], out: &mut [u8]) -> Told {
     };
     let place = if asked.question.is_placed() { lent.place } else { 0 };
     Told { returned, how: lent.how, first: lent.first, second: lent.second, place, ..Told::default() }
+}
+
+fn packed(asked: &Asked, source: &[u8], out: &mut [u8]) -> Told {
+    let mut lent = Numbers::stale();
+    let Asked { kind, synthetic, start, end, .. } = *asked;
+    let (from, long, to, room) = (source.as_ptr(), source.len(), out.as_mut_ptr(), out.len());
+    let (bits, how, first, second) = (&raw mut lent.bits, &raw mut lent.how, &raw mut lent.first, &raw mut lent.second);
+    // SAFETY: as above.
+    let returned = unsafe {
+        sys::valdrabus_as_packed_bits(kind, synthetic, start, end, from, long, to, room, bits, how, first, second)
+    };
+    Told { returned, how: lent.how, first: lent.first, second: lent.second, bits: lent.bits, ..Told::default() }
 }
 
 fn date(asked: &Asked, source: &[u8]) -> Told {
@@ -198,5 +213,15 @@ pub fn written(value: &[u8], spelling: Spelling, out: &mut [u8]) -> (u32, usize)
             Spelling::Unicode => sys::valdrabus_write_unicode(from, long, to, room, &raw mut len),
         }
     };
+    (returned, len)
+}
+
+/// What the writer of bit literals returns, and the length that it tells.
+pub fn bit_literal(writing: &BitWriting<'_>, out: &mut [u8]) -> (u32, usize) {
+    let mut len = STALE;
+    let BitWriting { bytes, bits, kind } = *writing;
+    let (from, long, to, room) = (bytes.as_ptr(), bytes.len(), out.as_mut_ptr(), out.len());
+    // SAFETY: as above.
+    let returned = unsafe { sys::valdrabus_write_bit_literal(from, long, bits, kind, to, room, &raw mut len) };
     (returned, len)
 }

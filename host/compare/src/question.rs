@@ -1,13 +1,14 @@
 //! What can be asked, and what an answer looks like.
 
 /// A question of the C interface that the Rust has too. `Plain` is the Rust's `as_str`, ours with the setting 0; of `Date` the Rust has the text alone, by
-/// `as_temporal_text`.
+/// `as_temporal_text`, of `Packed` the digits, by `as_bit_text`.
 #[derive(Clone, Copy, PartialEq, Eq, Debug)]
 pub enum Question {
     Str,
     Plain,
     Decimal,
     Bits,
+    Packed,
     Temporal,
     Date,
     Source,
@@ -28,11 +29,12 @@ pub enum Question {
 
 use Question::*;
 
-pub const ALL: [Question; 20] = [
+pub const ALL: [Question; 21] = [
     Str,
     Plain,
     Decimal,
     Bits,
+    Packed,
     Temporal,
     Date,
     Source,
@@ -54,7 +56,7 @@ pub const ALL: [Question; 20] = [
 impl Question {
     /// Whether it reads the text of a literal.
     pub fn reads(self) -> bool {
-        matches!(self, Str | Plain | Decimal | Bits | Temporal | Date | Source | Money | Charset | I64)
+        matches!(self, Str | Plain | Decimal | Bits | Packed | Temporal | Date | Source | Money | Charset | I64)
     }
 
     /// Whether it asks a bare text, without a literal.
@@ -64,7 +66,7 @@ impl Question {
 
     /// Whether a buffer is lent.
     pub fn lends(self) -> bool {
-        matches!(self, Str | Plain | Decimal | Bits | Temporal | Ident)
+        matches!(self, Str | Plain | Decimal | Bits | Packed | Temporal | Ident)
     }
 
     /// Whether a 6 has a place.
@@ -83,6 +85,7 @@ impl Question {
             Plain => "as_str",
             Decimal => "as_decimal_text",
             Bits => "as_bit_text",
+            Packed => "as_packed_bits",
             Temporal => "as_temporal_text",
             Date => "as_date",
             Source => "source_text",
@@ -127,6 +130,8 @@ impl Asked {
 pub enum Said {
     Borrowed(usize, usize),
     Written(Vec<u8>),
+    /// Packed bytes, which are written too, and how many bits they hold.
+    Packed(Vec<u8>, u64),
     Integer(i64),
     /// Year, month, day and the day's number.
     Day([u32; 4]),
@@ -146,6 +151,14 @@ impl Said {
             other => other,
         }
     }
+
+    /// The bytes that are written where there is room.
+    pub fn written(&self) -> Option<&[u8]> {
+        match self {
+            Said::Written(bytes) | Said::Packed(bytes, _) => Some(bytes),
+            _ => None,
+        }
+    }
 }
 
 /// What a call of the C interface gives: what it returns and what it writes into the lent numbers, with 0 for those it does not take.
@@ -158,6 +171,7 @@ pub struct Told {
     pub place: usize,
     pub value: i64,
     pub day: [u32; 4],
+    pub bits: u64,
 }
 
 pub const BORROWED: u32 = 1;
@@ -171,7 +185,10 @@ pub fn due(question: Question, said: &Said, room: usize) -> Told {
     match *said {
         Said::Borrowed(first, second) => Told { how: BORROWED, first, second, ..none },
         Said::Written(ref text) if text.len() <= room => Told { how: WRITTEN, second: text.len(), ..none },
-        Said::Written(ref text) => Told { returned: NO_ROOM, second: text.len(), ..none },
+        Said::Packed(ref bytes, bits) if bytes.len() <= room => {
+            Told { how: WRITTEN, second: bytes.len(), bits, ..none }
+        }
+        Said::Written(ref long) | Said::Packed(ref long, _) => Told { returned: NO_ROOM, second: long.len(), ..none },
         Said::Integer(value) => Told { value, ..none },
         Said::Day(day) => Told { day, ..none },
         Said::Truth(yes) if question == Bool => Told { value: yes.into(), ..none },

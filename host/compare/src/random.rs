@@ -1,6 +1,7 @@
 //! Random texts by their grammar, damaged copies of them and of their bytes, with padding and odd spans.
 
 use crate::comparing::{Comparing, Outcome};
+use crate::packing::{BINARY, BitWriting, HEX};
 use crate::question::{ALL, Asked, Question};
 use crate::texts::Texts;
 use crate::writer::{Spelling, Writing};
@@ -24,6 +25,8 @@ pub fn run(comparing: &mut Comparing, texts: &mut Texts, until: u64) -> Outcome 
     while comparing.tally.one_by_one() < until {
         if texts.rng.odds(90) {
             write(comparing, texts)?;
+        } else if texts.rng.odds(15) {
+            write_bits(comparing, texts)?;
         } else {
             let Chosen { text, asked } = chosen(texts);
             let text = if texts.rng.odds(150) { texts.damaged(&text) } else { text };
@@ -34,7 +37,7 @@ pub fn run(comparing: &mut Comparing, texts: &mut Texts, until: u64) -> Outcome 
 }
 
 fn chosen(texts: &mut Texts) -> Chosen {
-    match texts.rng.below(106) {
+    match texts.rng.below(110) {
         0..44 => {
             let text = texts.string();
             let mut asked = vec![(Str, 4)];
@@ -54,12 +57,13 @@ fn chosen(texts: &mut Texts) -> Chosen {
             let kind = texts.rng.within(1, 3) as u32;
             Chosen { text: texts.decimal(), asked: vec![(Decimal, kind), (I64, 1)] }
         }
-        68..75 => Chosen { text: texts.bits(), asked: vec![(Bits, 12), (Bits, 13)] },
+        68..75 => Chosen { text: texts.bits(), asked: vec![(Bits, 12), (Bits, 13), (Packed, 12), (Packed, 13)] },
         75..77 => Chosen { text: texts.money(), asked: vec![(Money, 14)] },
         77..83 => Chosen { text: texts.unicode("\"", 4, 500), asked: vec![(Ident, 0), (IsIdent, 0)] },
         83..85 => Chosen { text: texts.prefix(), asked: vec![(Radix, 0)] },
         85..88 => Chosen { text: texts.argument(), asked: vec![(Uescape, 0)] },
         88..100 => Chosen { text: texts.date(), asked: vec![(Date, 8), (Temporal, 8)] },
+        100..104 => Chosen { text: texts.many_bits(), asked: vec![(Packed, 12), (Packed, 13)] },
         _ => {
             let (question, kind) = (texts.rng.one(&ALL), texts.rng.within(1, 14) as u32);
             Chosen { text: texts.any(), asked: vec![(question, kind)] }
@@ -156,6 +160,32 @@ fn write(comparing: &mut Comparing, texts: &mut Texts) -> Outcome {
     comparing.tally.texts += 1;
     let value: Box<[u8]> = value.into();
     comparing.write(&Writing { value: &value, spelling })
+}
+
+/// Bytes with a count that mostly goes with them.
+fn write_bits(comparing: &mut Comparing, texts: &mut Texts) -> Outcome {
+    let most = texts.rng.one(&[3, 9, 40, 300]);
+    let mut bytes: Box<[u8]> = (0..texts.rng.within(0, most)).map(|_| texts.rng.next() as u8).collect();
+    let all = 8 * bytes.len() as u64;
+    let bits = match texts.rng.below(20) {
+        0 => texts.rng.next(),
+        1 => texts.rng.next() >> 32,
+        2 => u64::MAX - texts.rng.below(9) as u64,
+        3 => all + texts.rng.within(1, 16) as u64,
+        4..8 => all,
+        8..14 => all.saturating_sub(4),
+        _ => all.saturating_sub(texts.rng.below(17) as u64),
+    };
+    let unused = all.saturating_sub(bits).min(7) as u32;
+    if let Some(last) = bytes.last_mut()
+        && texts.rng.odds(900)
+    {
+        *last = *last >> unused << unused;
+    }
+    comparing.tally.texts += 1;
+    let kind =
+        if texts.rng.odds(990) { texts.rng.one(&[BINARY, HEX]) } else { texts.rng.one(&[0, 4, 11, 14, 268, u32::MAX]) };
+    comparing.write_bits(&BitWriting { bytes: &bytes, bits, kind })
 }
 
 /// How a value of a length is to be written.

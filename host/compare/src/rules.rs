@@ -85,7 +85,7 @@ fn expected(question: Question) -> Option<(usize, &'static [u32])> {
         Question::Bool => Some((4, &[5, 6])),
         Question::Null => Some((5, &[7])),
         Question::Temporal => Some((6, &[8, 9, 10, 11])),
-        Question::Bits => Some((7, &[12, 13])),
+        Question::Bits | Question::Packed => Some((7, &[12, 13])),
         Question::Money => Some((8, &[14])),
         Question::Date => Some((9, &[8])),
         _ => None,

@@ -1,7 +1,7 @@
 //! The Rust original's answers.
 
-use crate::dates;
 use crate::question::{Asked, Question, Said};
+use crate::{dates, packing};
 use original::ast::literal::{
     Literal, LiteralValueError, is_unicode_ident, materialize_unicode_ident, postgres_escape_string_is_valid,
     split_radix_prefix, string_literal_embeds_nul, uescape_argument_is_legal, unicode_escape_string_is_valid,
@@ -29,6 +29,7 @@ fn of_literal(asked: &Asked, source: &str) -> Said {
         Question::Plain => text(literal.as_str(source)),
         Question::Decimal => text(literal.as_decimal_text(source)),
         Question::Bits => text(literal.as_bit_text(source)),
+        Question::Packed => packing::of_bits(asked, text(literal.as_bit_text(source)), source),
         Question::Temporal => text(literal.as_temporal_text(source)),
         Question::Date => dates::of_temporal(asked, text(literal.as_temporal_text(source)), source),
         Question::Money => text(literal.as_money_text(source)),

@@ -3,6 +3,7 @@
 use crate::comparing::{Comparing, Outcome};
 use crate::dates::NO_DATE;
 use crate::ours;
+use crate::packing::{BINARY, BitWriting, HEX};
 use crate::question::{ALL, Asked, BORROWED, Question, WRITTEN};
 use crate::tally::{Row, refusal};
 use crate::writer::{MOST, Spelling, Writing};
@@ -148,13 +149,17 @@ fn near_the_limit() -> impl Iterator<Item = String> {
     })
 }
 
-/// One byte more than the writers take, which is 12 before a byte of it is read; and just as many as they take, which is 11 since they are NUL.
+/// One byte more than the writers take, which is 12 before a byte of it is read, with any bit count too; and just as many as they take, which is 11 since they
+/// are NUL.
 fn too_long(comparing: &mut Comparing) -> Outcome {
     let value = vec![0; MOST + 1];
     let plain = |part| Spelling::Plain { part, setting: 0 };
     for spelling in [plain(None), plain(Some(4)), Spelling::Escape, Spelling::Unicode] {
         comparing.write(&Writing { value: &value, spelling })?;
         comparing.write(&Writing { value: &value[..MOST], spelling })?;
+    }
+    for (bits, kind) in [(0, BINARY), (8 * MOST as u64 + 8, BINARY), (8 * MOST as u64, HEX), (u64::MAX, HEX)] {
+        comparing.write_bits(&BitWriting { bytes: &value, bits, kind })?;
     }
     Ok(())
 }

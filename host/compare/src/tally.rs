@@ -6,20 +6,21 @@ use crate::question::{ALL, Question, Said};
 use crate::writer::Spelling;
 
 /// What can come out: the answers, then the refusals by their numbers.
-const OUTCOMES: [&str; 19] = [
+const OUTCOMES: [&str; 20] = [
     "borrowed", "written", "value", "yes", "no", "nothing", "1", "2", "3", "4", "5", "6", "7", "8", "9", "10", "11",
-    "12", "14",
+    "12", "14", "16",
 ];
 const WRITTEN: usize = 1;
 pub const VALUE: usize = 2;
 const REFUSALS: usize = 5;
 
 /// The writers, with what each can give.
-const WRITERS: [(&str, &str); 4] = [
+const WRITERS: [(&str, &str); 5] = [
     ("write_literal", "written 4 9 10 11 12"),
     ("write_parts", "written 4 9 10 11 12"),
     ("write_escape", "written 4 9 11 12"),
     ("write_unicode", "written 4 9 11 12"),
+    ("write_bit_literal", "written 9 10 12 16"),
 ];
 /// The items of blocks, which are never synthetic.
 const BLOCK: (&str, &str) = ("read_block", "borrowed written 1 3 4 6 9 10");
@@ -43,6 +44,8 @@ pub struct Tally {
 pub enum Row {
     Asked(Question),
     Written(Spelling),
+    /// Bytes and a bit count.
+    BitLiteral,
     /// A day's number.
     Day,
     /// An item of a block.
@@ -57,7 +60,8 @@ impl Row {
             Row::Written(Spelling::Plain { part: Some(_), .. }) => ALL.len() + 1,
             Row::Written(Spelling::Escape) => ALL.len() + 2,
             Row::Written(Spelling::Unicode) => ALL.len() + 3,
-            Row::Day => ALL.len() + 4,
+            Row::BitLiteral => ALL.len() + 4,
+            Row::Day => ALL.len() + 5,
             Row::Block => ROWS - 1,
         }
     }
@@ -67,8 +71,8 @@ impl Row {
 pub fn outcome(said: &Said, room: usize) -> usize {
     match said {
         Said::Borrowed(..) => 0,
-        Said::Written(text) if text.len() <= room => WRITTEN,
-        Said::Written(_) => refusal(9),
+        Said::Written(text) | Said::Packed(text, _) if text.len() <= room => WRITTEN,
+        Said::Written(_) | Said::Packed(..) => refusal(9),
         Said::Integer(_) | Said::Day(_) | Said::Prefix(..) => VALUE,
         Said::Truth(true) => 3,
         Said::Truth(false) => 4,
@@ -77,9 +81,14 @@ pub fn outcome(said: &Said, room: usize) -> usize {
     }
 }
 
-/// No refusal here has the number 13.
+/// No refusal here has the number 13 or 15.
 pub fn refusal(number: u32) -> usize {
-    REFUSALS + if number == NO_DATE { 13 } else { number as usize }
+    REFUSALS
+        + match number {
+            NO_DATE => 13,
+            16 => 14,
+            _ => number as usize,
+        }
 }
 
 /// What came of a writer's number.
@@ -137,6 +146,7 @@ fn possible() -> impl Iterator<Item = Vec<usize>> {
         Question::Date => "value 1 2 3 4 6 10 14",
         Question::Decimal => "borrowed written 1 2 3 4 5 9 10",
         Question::Bits => "borrowed written 1 2 3 4 7 9 10",
+        Question::Packed => "written 1 2 3 4 7 9 10",
         Question::Source => "borrowed 2 3 4 10",
         Question::Money => "borrowed 1 2 3 4 8 10",
         Question::Charset => "borrowed nothing 1 2 3 4 10",

@@ -32,6 +32,16 @@ impl Texts {
         text + &self.one(&["", "", " ", "\u{2028}", "x"])
     }
 
+    /// Digits of one base, up to some hundreds, in segments that end anywhere.
+    pub fn many_bits(&mut self) -> String {
+        let digits = self.rng.one(&["01", "01", "0123456789abcdefABCDEF"]);
+        let most = self.rng.one(&[20, 80, 400]);
+        let cuts = self.rng.one(&[0, 20, 200]);
+        let body =
+            self.many(0, most, |t| if t.odds(cuts) { format!("'{}'", t.one(&SPACES)) } else { t.letter(digits) });
+        format!("{}'{body}'{}", self.letter("BbXx"), self.one(&["", "", "", " ", "\u{3000}\n"]))
+    }
+
     fn digits(&mut self, base: usize, low: usize, high: usize) -> String {
         let mut text = String::new();
         for _ in 0..self.rng.within(low, high) {
