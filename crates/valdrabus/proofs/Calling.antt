@@ -14,6 +14,9 @@ use Rattle.meaning.specs.declared.Charset.{Charset}
 use Rattle.meaning.specs.declared.Integer.{Integer}
 use Rattle.meaning.specs.declared.CalendarDay.{CalendarDay}
 use Rattle.meaning.specs.declared.Dated.{Dated}
+use Rattle.meaning.specs.declared.PackedBits.{PackedBits}
+use Rattle.meaning.specs.declared.BitStringRadix.{BitStringRadix}
+use Rattle.meaning.specs.declared.BitWriting.{BitWriting}
 use Rattle.meaning.specs.declared.Truth.{Truth}
 use Rattle.meaning.specs.declared.Nullness.{Nullness}
 use Rattle.meaning.specs.declared.Writing.{Writing}
@@ -23,25 +26,28 @@ use Rattle.meaning.specs.Questions.{stringQuestion, decimalQuestion, bitsQuesti
 use Rattle.meaning.specs.Questions.{i64Question, boolQuestion, nullQuestion, isNull}
 use Rattle.meaning.specs.Writer.{writeQuestion}
 use Rattle.meaning.specs.Dates.{dateQuestion}
+use Rattle.meaning.specs.Packing.{packedQuestion, bitWriteQuestion}
 use Rattle.valdrabus.specs.declared.told.Told.{Told}
 use Rattle.valdrabus.specs.declared.counted.Counted.{Counted}
 use Rattle.valdrabus.specs.declared.dated.DayTold.{DayTold}
+use Rattle.valdrabus.specs.declared.packed.PackedTold.{PackedTold}
 use Rattle.meaning.specs.Codes.{kindOf, isKnown, literalOf, settingsOf}
-use Rattle.valdrabus.specs.Numbers.{numberTold, textTold, rangeTold, charsetTold, truthTold, nullnessTold, writingTold}
-use Rattle.valdrabus.specs.Calls.{outcomeTold, called, calledBare, calledCount, countedOf, stringCall, decimalCall, bitsCall, temporalCall, sourceCall}
+use Rattle.valdrabus.specs.Numbers.{numberTold, textTold, rangeTold, charsetTold, truthTold, nullnessTold, writingTold, bitWritingTold}
+use Rattle.valdrabus.specs.Calls.{outcomeTold, calledOr, calledBare, calledCount, countedOf, stringCall, decimalCall, bitsCall, temporalCall, sourceCall}
 use Rattle.valdrabus.specs.Calls.{moneyCall, charsetCall, i64Call, boolCall, nullCall, isNullCall, writeCall}
 use Rattle.valdrabus.specs.Calls.{noDay, dayTold, datedTold, calledDay, dateCall}
+use Rattle.valdrabus.specs.Calls.{noBits, packedTold, packedCall, isBitKind, radixOf, bitWriteCall}
 
 -- WITH A BUFFER
-unknown : (b known : Bool) → b ≡ known → not b ≡ true → (out : List ℕ) (o : Outcome Told) (t : Told) → t ≡ numberTold 10 → Meets (called known out o) t out
-unknown b true e h out o t p = absurd (false≢true (sym (ap not e) ∙ h))
-unknown b false e h out o t p = record { answer = p; buffer = refl }
+unknown : {B : Type 0} (ten : B) (b known : Bool) → b ≡ known → not b ≡ true → (out : List ℕ) (o : Outcome B) (t : B) → t ≡ ten
+    → Meets (calledOr ten known out o) t out
+unknown ten b true e h out o t p = absurd (false≢true (sym (ap not e) ∙ h))
+unknown ten b false e h out o t p = record { answer = p; buffer = refl }
 
-answered : {A : Type 0} (b known : Bool) → b ≡ known → not b ≡ false → (f : A → Told) (q : Outcome A) (out after : List ℕ) (a : A) → Meets q a after
-    → (t : Told)
-    → t ≡ f a → Meets (called known out (outcomeTold f q)) t after
-answered b true e h f q out after a m t p = record { answer = p ∙ ap f (m .answer); buffer = m .buffer }
-answered b false e h f q out after a m t p = absurd (false≢true (sym h ∙ ap not e))
+answered : {A B : Type 0} (ten : B) (b known : Bool) → b ≡ known → not b ≡ false → (f : A → B) (q : Outcome A) (out after : List ℕ) (a : A)
+    → Meets q a after → (t : B) → t ≡ f a → Meets (calledOr ten known out (outcomeTold f q)) t after
+answered ten b true e h f q out after a m t p = record { answer = p ∙ ap f (m .answer); buffer = m .buffer }
+answered ten b false e h f q out after a m t p = absurd (false≢true (sym h ∙ ap not e))
 
 -- WITHOUT
 unknown-bare : (b known : Bool) → b ≡ known → not b ≡ true → (t o : Told) → t ≡ numberTold 10 → t ≡ calledBare known o
@@ -74,46 +80,46 @@ answered-day b false e h n o p = absurd (false≢true (sym h ∙ ap not e))
 module _ (k y s e σ : ℕ) (S out : List ℕ) (b : Bool) (known : b ≡ isKnown k y σ) where
   pub string-unknown : not b ≡ true → (t : Told) → t ≡ numberTold 10 → Meets (stringCall k y s e S σ out) t out
   unfolding stringCall
-  string-unknown h t p = unknown b (isKnown k y σ) known h out (outcomeTold textTold (stringQuestion (literalOf k y s e) S (settingsOf σ) out)) t p
+  string-unknown h t p = unknown (numberTold 10) b (isKnown k y σ) known h out (outcomeTold textTold (stringQuestion (literalOf k y s e) S (settingsOf σ) out)) t p
 
   pub string-answered : not b ≡ false → (l : Literal) → l ≡ literalOf k y s e → (g : Settings) → g ≡ settingsOf σ → (a : Text) (after : List ℕ)
       → Meets (stringQuestion l S g out) a after → (t : Told) → t ≡ textTold a → Meets (stringCall k y s e S σ out) t after
   unfolding stringCall
   string-answered h l p g q a after m t w =
-      answered b (isKnown k y σ) known h textTold (stringQuestion (literalOf k y s e) S (settingsOf σ) out) out after a (rw (← p, ← q) m) t w
+      answered (numberTold 10) b (isKnown k y σ) known h textTold (stringQuestion (literalOf k y s e) S (settingsOf σ) out) out after a (rw (← p, ← q) m) t w
 
 module _ (k y s e : ℕ) (S : List ℕ) (b : Bool) (known : b ≡ isKnown k y 0) where
   pub decimal-unknown : not b ≡ true → (out : List ℕ) (t : Told) → t ≡ numberTold 10 → Meets (decimalCall k y s e S out) t out
   unfolding decimalCall
-  decimal-unknown h out t p = unknown b (isKnown k y 0) known h out (outcomeTold textTold (decimalQuestion (literalOf k y s e) S out)) t p
+  decimal-unknown h out t p = unknown (numberTold 10) b (isKnown k y 0) known h out (outcomeTold textTold (decimalQuestion (literalOf k y s e) S out)) t p
 
   pub decimal-answered : not b ≡ false → (l : Literal) → l ≡ literalOf k y s e → (out : List ℕ) (a : Text) (after : List ℕ)
       → Meets (decimalQuestion l S out) a after
       → (t : Told) → t ≡ textTold a → Meets (decimalCall k y s e S out) t after
   unfolding decimalCall
   decimal-answered h l p out a after m t w =
-      answered b (isKnown k y 0) known h textTold (decimalQuestion (literalOf k y s e) S out) out after a (rw (← p) m) t w
+      answered (numberTold 10) b (isKnown k y 0) known h textTold (decimalQuestion (literalOf k y s e) S out) out after a (rw (← p) m) t w
 
   pub bits-unknown : not b ≡ true → (out : List ℕ) (t : Told) → t ≡ numberTold 10 → Meets (bitsCall k y s e S out) t out
   unfolding bitsCall
-  bits-unknown h out t p = unknown b (isKnown k y 0) known h out (outcomeTold textTold (bitsQuestion (literalOf k y s e) S out)) t p
+  bits-unknown h out t p = unknown (numberTold 10) b (isKnown k y 0) known h out (outcomeTold textTold (bitsQuestion (literalOf k y s e) S out)) t p
 
   pub bits-answered : not b ≡ false → (l : Literal) → l ≡ literalOf k y s e → (out : List ℕ) (a : Text) (after : List ℕ)
       → Meets (bitsQuestion l S out) a after
       → (t : Told) → t ≡ textTold a → Meets (bitsCall k y s e S out) t after
   unfolding bitsCall
-  bits-answered h l p out a after m t w = answered b (isKnown k y 0) known h textTold (bitsQuestion (literalOf k y s e) S out) out after a (rw (← p) m) t w
+  bits-answered h l p out a after m t w = answered (numberTold 10) b (isKnown k y 0) known h textTold (bitsQuestion (literalOf k y s e) S out) out after a (rw (← p) m) t w
 
   pub temporal-unknown : not b ≡ true → (out : List ℕ) (t : Told) → t ≡ numberTold 10 → Meets (temporalCall k y s e S out) t out
   unfolding temporalCall
-  temporal-unknown h out t p = unknown b (isKnown k y 0) known h out (outcomeTold textTold (temporalQuestion (literalOf k y s e) S out)) t p
+  temporal-unknown h out t p = unknown (numberTold 10) b (isKnown k y 0) known h out (outcomeTold textTold (temporalQuestion (literalOf k y s e) S out)) t p
 
   pub temporal-answered : not b ≡ false → (l : Literal) → l ≡ literalOf k y s e → (out : List ℕ) (a : Text) (after : List ℕ)
       → Meets (temporalQuestion l S out) a after
       → (t : Told) → t ≡ textTold a → Meets (temporalCall k y s e S out) t after
   unfolding temporalCall
   temporal-answered h l p out a after m t w =
-      answered b (isKnown k y 0) known h textTold (temporalQuestion (literalOf k y s e) S out) out after a (rw (← p) m) t w
+      answered (numberTold 10) b (isKnown k y 0) known h textTold (temporalQuestion (literalOf k y s e) S out) out after a (rw (← p) m) t w
 
   pub source-unknown : not b ≡ true → (t : Told) → t ≡ numberTold 10 → t ≡ sourceCall k y s e S
   unfolding sourceCall
@@ -165,6 +171,17 @@ module _ (k y s e : ℕ) (S : List ℕ) (b : Bool) (known : b ≡ isKnown k y 0)
       answered-day b (isKnown k y 0) known h n (datedTold (dateQuestion (literalOf k y s e) S))
       (w ∙ ap datedTold q ∙ ap (λ (x : Literal). datedTold (dateQuestion x S)) p)
 
+  pub packed-unknown : not b ≡ true → (out : List ℕ) (t : Told) → t ≡ numberTold 10 → (n : PackedTold) → n ≡ noBits t → Meets (packedCall k y s e S out) n out
+  unfolding packedCall
+  packed-unknown h out t p n q =
+      unknown (noBits (numberTold 10)) b (isKnown k y 0) known h out (outcomeTold packedTold (packedQuestion (literalOf k y s e) S out)) n (q ∙ ap noBits p)
+
+  pub packed-answered : not b ≡ false → (l : Literal) → l ≡ literalOf k y s e → (out : List ℕ) (a : PackedBits) (after : List ℕ)
+      → Meets (packedQuestion l S out) a after → (n : PackedTold) → n ≡ packedTold a → Meets (packedCall k y s e S out) n after
+  unfolding packedCall
+  packed-answered h l p out a after m n w =
+      answered (noBits (numberTold 10)) b (isKnown k y 0) known h packedTold (packedQuestion (literalOf k y s e) S out) out after a (rw (← p) m) n w
+
 -- BY THE KIND ALONE
 module _ (k : ℕ) (b : Bool) (known : b ≡ isKnown k 0 0) where
   pub bool-unknown : not b ≡ true → (t : Told) → t ≡ numberTold 10 → t ≡ boolCall k
@@ -193,10 +210,23 @@ module _ (k : ℕ) (b : Bool) (known : b ≡ isKnown k 0 0) where
 module _ (p : PartSize) (v : List ℕ) (σ : ℕ) (out : List ℕ) where
   pub write-unknown : 1 < σ → (t : Told) → t ≡ numberTold 10 → Meets (writeCall p v σ out) t out
   unfolding writeCall
-  write-unknown h t q = unknown false (leb σ 1) (sym (lt-leb σ 1 h)) refl out (outcomeTold writingTold (writeQuestion (settingsOf σ) p v out)) t q
+  write-unknown h t q = unknown (numberTold 10) false (leb σ 1) (sym (lt-leb σ 1 h)) refl out (outcomeTold writingTold (writeQuestion (settingsOf σ) p v out)) t q
 
   pub write-answered : σ ≤ 1 → (g : Settings) → g ≡ settingsOf σ → (a : Writing) (after : List ℕ) → Meets (writeQuestion g p v out) a after → (t : Told)
       → t ≡ writingTold a → Meets (writeCall p v σ out) t after
   unfolding writeCall
   write-answered h g q a after m t w =
-      answered true (leb σ 1) (sym (le-leb σ 1 h)) refl writingTold (writeQuestion (settingsOf σ) p v out) out after a (rw (← q) m) t w
+      answered (numberTold 10) true (leb σ 1) (sym (le-leb σ 1 h)) refl writingTold (writeQuestion (settingsOf σ) p v out) out after a (rw (← q) m) t w
+
+-- [02 T-07] BITS BACK
+module _ (bytes : List ℕ) (n k : ℕ) (out : List ℕ) (b : Bool) (known : b ≡ isBitKind k) where
+  pub bit-write-unknown : not b ≡ true → (t : Told) → t ≡ numberTold 10 → Meets (bitWriteCall bytes n k out) t out
+  unfolding bitWriteCall
+  bit-write-unknown h t q =
+      unknown (numberTold 10) b (isBitKind k) known h out (outcomeTold bitWritingTold (bitWriteQuestion (radixOf k) bytes n out)) t q
+
+  pub bit-write-answered : not b ≡ false → (g : BitStringRadix) → g ≡ radixOf k → (a : BitWriting) (after : List ℕ)
+      → Meets (bitWriteQuestion g bytes n out) a after → (t : Told) → t ≡ bitWritingTold a → Meets (bitWriteCall bytes n k out) t after
+  unfolding bitWriteCall
+  bit-write-answered h g q a after m t w =
+      answered (numberTold 10) b (isBitKind k) known h bitWritingTold (bitWriteQuestion (radixOf k) bytes n out) out after a (rw (← q) m) t w

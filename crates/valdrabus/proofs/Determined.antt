@@ -8,9 +8,10 @@ use Rattle.meaning.specs.Answers.{Outcome}
 use Rattle.valdrabus.specs.declared.told.Told.{Told}
 use Rattle.valdrabus.specs.declared.counted.Counted.{Counted}
 use Rattle.valdrabus.specs.declared.dated.DayTold.{DayTold}
+use Rattle.valdrabus.specs.declared.packed.PackedTold.{PackedTold}
 use Rattle.valdrabus.specs.declared.views.View.{View}
 use Rattle.valdrabus.specs.Numbers.{Says, Tells, TellsPlace}
-use Rattle.valdrabus.specs.Calls.{Counts, Bare, Lengths, Splits, Dates, Finds}
+use Rattle.valdrabus.specs.Calls.{Counts, Bare, Lengths, Splits, Dates, Finds, Packs}
 use Rattle.valdrabus.specs.Views.{Shows}
 
 same : {A : Type 0} {x y z : A} → x ≡ z → y ≡ z → x ≡ y
@@ -59,3 +60,8 @@ module _ {t : DayTold} {r r′ y y′ m m′ d d′ : ℕ} where
 
   pub finds-unique : Finds t r y m d → Finds t r′ y′ m′ d′ → (r ≡ r′) × (y ≡ y′) × (m ≡ m′) × (d ≡ d′)
   finds-unique a b = (same (a .result) (b .result), same (a .years) (b .years), same (a .months) (b .months), same (a .days) (b .days))
+
+-- [02 T-07]
+pub packs-unique : {o : Outcome PackedTold} {r r′ b b′ h h′ f f′ s s′ : ℕ} {out out′ : List ℕ} → Packs o r b h f s out → Packs o r′ b′ h′ f′ s′ out′
+    → ((r ≡ r′) × (h ≡ h′) × (f ≡ f′) × (s ≡ s′)) × (b ≡ b′) × (out ≡ out′)
+packs-unique a b = (says-unique (a .says) (b .says), same (a .count) (b .count), same (a .buffer) (b .buffer))

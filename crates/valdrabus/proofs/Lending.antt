@@ -17,9 +17,10 @@ use Rattle.meaning.specs.Dates.{dayQuestion}
 use Rattle.valdrabus.specs.declared.told.Told.{Told}
 use Rattle.valdrabus.specs.declared.counted.Counted.{Counted}
 use Rattle.valdrabus.specs.declared.dated.DayTold.{DayTold}
+use Rattle.valdrabus.specs.declared.packed.PackedTold.{PackedTold}
 use Rattle.valdrabus.specs.declared.views.View.{View}
 use Rattle.valdrabus.specs.Numbers.{identifierTold, writingTold, Says, Tells, SaysPlace, TellsPlace}
-use Rattle.valdrabus.specs.Calls.{outcomeTold, identifierCall, formCall, Counts, Bare, Lengths, Splits, foundTold, dayCall, Dates, Finds}
+use Rattle.valdrabus.specs.Calls.{outcomeTold, identifierCall, formCall, Counts, Bare, Lengths, Splits, foundTold, dayCall, Dates, Finds, Packs}
 use Rattle.valdrabus.specs.Views.{Shows}
 
 module _ (t : Told) where
@@ -97,4 +98,14 @@ finds-of n a q t p =
       years = ap (λ (x : DayTold). x .on .year) e;
       months = ap (λ (x : DayTold). x .on .month) e;
       days = ap (λ (x : DayTold). x .on .day) e;
+    }
+
+-- [02 T-07] packed bits: the numbers, and how many bits
+pub packs-of : (n : PackedTold) (r how first second : ℕ) → Says (n .told) r how first second → (o : Outcome PackedTold) (after : List ℕ) → Meets o n after
+    → Packs o r (n .bits) how first second after
+packs-of n r how first second w o after m =
+    record {
+      says = says-of (n .told) r how first second w (o .answer .told) (ap (λ (x : PackedTold). x .told) (m .answer));
+      count = ap (λ (x : PackedTold). x .bits) (m .answer);
+      buffer = m .buffer;
     }

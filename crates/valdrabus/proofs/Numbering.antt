@@ -28,12 +28,18 @@ use Rattle.meaning.specs.declared.Day.{Day}
 use Rattle.meaning.specs.declared.Day.the-variants as Day′
 use Rattle.meaning.specs.declared.Dated.{Dated}
 use Rattle.meaning.specs.declared.Dated.the-variants as Dated′
+use Rattle.meaning.specs.declared.PackedBits.{PackedBits}
+use Rattle.meaning.specs.declared.PackedBits.the-variants as Packed′
+use Rattle.meaning.specs.declared.BitWriting.{BitWriting}
+use Rattle.meaning.specs.declared.BitWriting.the-variants as BitWriting′
 use Rattle.meaning.specs.Answers.{payload, refusalNumber, refusalValues, textNumber, textValues, rangeNumber, rangeValues, charsetNumber, charsetValues}
 use Rattle.meaning.specs.Answers.{integerNumber, integerValues, truthNumber, truthValues, nullnessNumber, identifierNumber, identifierValues, writingNumber}
-use Rattle.meaning.specs.Answers.{writingValues, foundNumber, foundValues, datedNumber, datedValues}
+use Rattle.meaning.specs.Answers.{writingValues, foundNumber, foundValues, datedNumber, datedValues, packedNumber, packedValues, bitWritingNumber}
+use Rattle.meaning.specs.Answers.{bitWritingValues}
 use Rattle.valdrabus.specs.declared.told.Told.{Told}
-use Rattle.valdrabus.specs.Numbers.{refusalTold, textTold, rangeTold, charsetTold, truthTold, nullnessTold, identifierTold, writingTold}
-use Rattle.valdrabus.specs.Calls.{integerTold, integerValue, datedTold, foundTold}
+use Rattle.valdrabus.specs.declared.packed.PackedTold.{PackedTold}
+use Rattle.valdrabus.specs.Numbers.{refusalTold, textTold, rangeTold, charsetTold, truthTold, nullnessTold, identifierTold, writingTold, bitWritingTold}
+use Rattle.valdrabus.specs.Calls.{integerTold, integerValue, datedTold, foundTold, packedTold}
 
 -- NUMBERS
 pub refusal-number : (r : Refusal) → refusalTold r .number ≡ refusalNumber r
@@ -97,6 +103,17 @@ dated-number (Dated′.Refused r) = refusal-number r
 pub found-number : (a : Day) → foundTold a .told .number ≡ foundNumber a
 found-number (Day′.On d) = refl
 found-number Day′.InvalidDate = refl
+
+-- [02 T-07]
+pub packed-number : (a : PackedBits) → packedTold a .told .number ≡ packedNumber a
+packed-number (Packed′.Written n b) = refl
+packed-number (Packed′.Refused r) = refusal-number r
+
+pub bit-writing-number : (a : BitWriting) → bitWritingTold a .number ≡ bitWritingNumber a
+bit-writing-number (BitWriting′.Written n) = refl
+bit-writing-number BitWriting′.OverLimit = refl
+bit-writing-number BitWriting′.BadBits = refl
+bit-writing-number (BitWriting′.NoRoom n) = refl
 
 -- VALUES: first and second, or second alone where one is given; and a 6's place. The actual kind's own data stay with the caller
 abbrev both : Told → List ℕ
@@ -193,3 +210,16 @@ dated-values d = refl
 
 pub day-values : (d : CalendarDay) → four (foundTold (Day′.On d) .on) ≡ foundValues (Day′.On d)
 day-values d = refl
+
+-- [02 T-07] the packed length second, and the bit count in a number of its own
+abbrev packed : PackedTold → List ℕ
+packed t = t .told .second ∷ t .bits ∷ []
+
+pub packed-values : (n b : ℕ) → packed (packedTold (Packed′.Written n b)) ≡ packedValues (Packed′.Written n b)
+packed-values n b = refl
+
+pub bit-writing-values : (n : ℕ) → last (bitWritingTold (BitWriting′.Written n)) ≡ bitWritingValues (BitWriting′.Written n)
+bit-writing-values n = refl
+
+pub bit-writing-room-values : (n : ℕ) → last (bitWritingTold (BitWriting′.NoRoom n)) ≡ bitWritingValues (BitWriting′.NoRoom n)
+bit-writing-room-values n = refl

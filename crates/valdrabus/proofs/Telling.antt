@@ -23,15 +23,19 @@ use Rattle.meaning.specs.declared.Day.{Day}
 use Rattle.meaning.specs.declared.Day.the-variants as Day′
 use Rattle.meaning.specs.declared.Dated.{Dated}
 use Rattle.meaning.specs.declared.Dated.the-variants as Dated′
+use Rattle.meaning.specs.declared.PackedBits.{PackedBits}
+use Rattle.meaning.specs.declared.PackedBits.the-variants as Packed′
+use Rattle.meaning.specs.declared.BitWriting.{BitWriting}
 use Rattle.meaning.specs.declared.Integer.{Integer}
 use Rattle.meaning.specs.declared.Integer.the-variants as Integer′
 use Rattle.meaning.specs.Answers.{expectedCode, kindCode}
 use Rattle.valdrabus.specs.declared.told.Told.{Told}
 use Rattle.valdrabus.specs.declared.counted.Counted.{Counted}
 use Rattle.valdrabus.specs.declared.dated.DayTold.{DayTold}
-use Rattle.valdrabus.specs.Numbers.{fourTold, numberTold, refusalTold, textTold, rangeTold, charsetTold}
-use Rattle.valdrabus.specs.Numbers.{truthTold, nullnessTold, identifierTold, writingTold}
-use Rattle.valdrabus.specs.Calls.{countedOf, noDay, dayTold, datedTold, foundTold}
+use Rattle.valdrabus.specs.declared.packed.PackedTold.{PackedTold}
+use Rattle.valdrabus.specs.Numbers.{fourTold, numberTold, writtenTold, refusalTold, textTold, rangeTold, charsetTold}
+use Rattle.valdrabus.specs.Numbers.{truthTold, nullnessTold, identifierTold, writingTold, bitWritingTold}
+use Rattle.valdrabus.specs.Calls.{countedOf, noDay, dayTold, datedTold, foundTold, noBits, packedTold}
 
 -- REFUSALS
 module _ (w : Refusal) where
@@ -70,6 +74,9 @@ identifier-by a a′ q t p = p ∙ ap identifierTold (sym q)
 pub writing-by : (a a′ : Writing) → a ≡ a′ → (t : Told) → t ≡ writingTold a′ → t ≡ writingTold a
 writing-by a a′ q t p = p ∙ ap writingTold (sym q)
 
+pub bit-writing-by : (a a′ : BitWriting) → a ≡ a′ → (t : Told) → t ≡ bitWritingTold a′ → t ≡ bitWritingTold a
+bit-writing-by a a′ q t p = p ∙ ap bitWritingTold (sym q)
+
 -- INTEGERS
 module _ (a : Integer) where
   pub integer-value : (z : ℤ) → SFits w64 z → a ≡ Integer′.Value z → (t : Told) → t ≡ numberTold 0
@@ -99,3 +106,11 @@ module _ (a : Day) (t : Told) where
   pub found-none : a ≡ Day′.InvalidDate → t ≡ numberTold 14 → (n : CalendarDay) → n ≡ noDay
       → _≡_ {A = DayTold} (record { told = t; on = n }) (foundTold a)
   found-none q p n z = ap (dayTold t) z ∙ ap (λ (x : Told). dayTold x noDay) p ∙ ap foundTold (sym q)
+
+-- [02 T-07] PACKED BITS
+module _ (a : PackedBits) (t : Told) where
+  pub packed-written : (n b : ℕ) → a ≡ Packed′.Written n b → t ≡ writtenTold n → _≡_ {A = PackedTold} (record { told = t; bits = b }) (packedTold a)
+  packed-written n b q p = ap (λ (x : Told). record { told = x; bits = b }) p ∙ ap packedTold (sym q)
+
+  pub packed-refused : (w : Refusal) → a ≡ Packed′.Refused w → t ≡ refusalTold w → (n : PackedTold) → n ≡ noBits t → n ≡ packedTold a
+  packed-refused w q p n z = z ∙ ap noBits p ∙ ap packedTold (sym q)

@@ -1,9 +1,9 @@
 -- What each exported call answers, in numbers: 10 where a number names nothing, else the question's own answer. Assumes nothing.
-use mathlib.Core.Bool.{Bool, true, false, _&&_}
+use mathlib.Core.Bool.{Bool, true, false, _&&_, _||_}
 use mathlib.Core.Path.{_≡_}
 use mathlib.Core.List.{List}
 use Prim.Native.Nat.{ℕ}
-use lib.Dec.{leb}
+use lib.Dec.{eqb, leb}
 use lib.IntN.{ℤ, pos}
 use Rattle.meaning.specs.declared.Integer.{Integer}
 use Rattle.meaning.specs.declared.Integer.the-variants as Integer′
@@ -12,29 +12,40 @@ use Rattle.meaning.specs.declared.Day.{Day}
 use Rattle.meaning.specs.declared.Day.the-variants as Day′
 use Rattle.meaning.specs.declared.Dated.{Dated}
 use Rattle.meaning.specs.declared.Dated.the-variants as Dated′
+use Rattle.meaning.specs.declared.PackedBits.{PackedBits}
+use Rattle.meaning.specs.declared.PackedBits.the-variants as Packed′
+use Rattle.meaning.specs.declared.BitStringRadix.{BitStringRadix}
+use Rattle.meaning.specs.declared.BitStringRadix.the-variants.{Binary, Hex}
 use Rattle.meaning.specs.declared.PartSize.{PartSize}
 use Rattle.meaning.specs.declared.Form.{Form}
 use Rattle.meaning.specs.declared.RadixPrefix.{RadixPrefix}
+use Rattle.meaning.specs.Bytes.{if_then_else_}
 use Rattle.meaning.specs.Answers.{Outcome}
 use Rattle.meaning.specs.Questions.{stringQuestion, decimalQuestion, bitsQuestion, temporalQuestion, sourceQuestion, moneyQuestion, charsetQuestion}
 use Rattle.meaning.specs.Questions.{i64Question, boolQuestion, nullQuestion, isNull, identifierQuestion}
 use Rattle.meaning.specs.Writer.{writeQuestion}
 use Rattle.meaning.specs.Forms.{formQuestion}
 use Rattle.meaning.specs.Dates.{dateQuestion, dayQuestion}
+use Rattle.meaning.specs.Packing.{packedQuestion, bitWriteQuestion}
 use Rattle.valdrabus.specs.declared.told.Told.{Told}
 use Rattle.valdrabus.specs.declared.counted.Counted.{Counted}
 use Rattle.valdrabus.specs.declared.dated.DayTold.{DayTold}
+use Rattle.valdrabus.specs.declared.packed.PackedTold.{PackedTold}
 use Rattle.meaning.specs.Codes.{kindOf, isKnown, literalOf, settingsOf}
-use Rattle.valdrabus.specs.Numbers.{numberTold, refusalTold, textTold, rangeTold, charsetTold, truthTold, nullnessTold, identifierTold, writingTold}
+use Rattle.valdrabus.specs.Numbers.{numberTold, writtenTold, refusalTold, textTold, rangeTold, charsetTold, truthTold, nullnessTold, identifierTold}
+use Rattle.valdrabus.specs.Numbers.{writingTold, bitWritingTold, Says}
 
 -- an answer and its buffer, told in numbers
-abbrev pub outcomeTold : {A : Type 0} → (A → Told) → Outcome A → Outcome Told
+abbrev pub outcomeTold : {A B : Type 0} → (A → B) → Outcome A → Outcome B
 outcomeTold f o = record { answer = f (o .answer); buffer = o .buffer }
 
--- a call whose numbers name something, or not: then the buffer is as lent
+-- a call whose numbers name something, or not: then it answers ten, and the buffer is as lent
+abbrev pub calledOr : {B : Type 0} → B → Bool → List ℕ → Outcome B → Outcome B
+calledOr ten true out o = o
+calledOr ten false out o = record { answer = ten; buffer = out }
+
 abbrev pub called : Bool → List ℕ → Outcome Told → Outcome Told
-called true out o = o
-called false out o = record { answer = numberTold 10; buffer = out }
+called known out o = calledOr (numberTold 10) known out o
 
 abbrev pub calledBare : Bool → Told → Told
 calledBare true t = t
@@ -117,6 +128,28 @@ dateCall k y s e source = calledDay (isKnown k y 0) (datedTold (dateQuestion (li
 unfoldable pub dayCall : ℕ → DayTold
 dayCall n = foundTold (dayQuestion n)
 
+-- [02 T-07] PACKED BITS, and how many: none on a refusal. On 9 the length counts packed bytes
+abbrev pub noBits : Told → PackedTold
+noBits t = record { told = t; bits = 0 }
+
+abbrev pub packedTold : PackedBits → PackedTold
+packedTold (Packed′.Written n b) = record { told = writtenTold n; bits = b }
+packedTold (Packed′.Refused r) = noBits (refusalTold r)
+
+unfoldable pub packedCall : ℕ → ℕ → ℕ → ℕ → List ℕ → List ℕ → Outcome PackedTold
+packedCall k y s e source out =
+    calledOr (noBits (numberTold 10)) (isKnown k y 0) out (outcomeTold packedTold (packedQuestion (literalOf k y s e) source out))
+
+-- the reverse is told the letter by a bit string's kind, 12 for B and 13 for X: bytes, bit count, kind, buffer
+abbrev pub isBitKind : ℕ → Bool
+isBitKind k = eqb k 12 || eqb k 13
+
+abbrev pub radixOf : ℕ → BitStringRadix
+radixOf k = if eqb k 12 then Binary else Hex
+
+unfoldable pub bitWriteCall : List ℕ → ℕ → ℕ → List ℕ → Outcome Told
+bitWriteCall bytes n k out = called (isBitKind k) out (outcomeTold bitWritingTold (bitWriteQuestion (radixOf k) bytes n out))
+
 -- THE WRITERS, and an identifier: no literal
 unfoldable pub writeCall : PartSize → List ℕ → ℕ → List ℕ → Outcome Told
 writeCall p v σ out = called (leb σ 1) out (outcomeTold writingTold (writeQuestion (settingsOf σ) p v out))
@@ -164,3 +197,9 @@ pub record Finds (t : DayTold) (r year month day : ℕ) : Type 0 where
   pub years : year ≡ t .on .year
   pub months : month ≡ t .on .month
   pub days : day ≡ t .on .day
+
+-- [02 T-07] of packed bits: the numbers, how many bits, and the whole buffer
+pub record Packs (o : Outcome PackedTold) (r bits how first second : ℕ) (after : List ℕ) : Type 0 where
+  pub says : Says (o .answer .told) r how first second
+  pub count : bits ≡ o .answer .bits
+  pub buffer : after ≡ o .buffer

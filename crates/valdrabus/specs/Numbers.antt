@@ -22,6 +22,8 @@ use Rattle.meaning.specs.declared.Identifier.{Identifier}
 use Rattle.meaning.specs.declared.Identifier.the-variants as Identifier′
 use Rattle.meaning.specs.declared.Writing.{Writing}
 use Rattle.meaning.specs.declared.Writing.the-variants as Writing′
+use Rattle.meaning.specs.declared.BitWriting.{BitWriting}
+use Rattle.meaning.specs.declared.BitWriting.the-variants as BitWriting′
 use Rattle.meaning.specs.Answers.{Outcome, expectedCode, kindCode}
 use Rattle.valdrabus.specs.declared.told.Told.{Told}
 
@@ -103,6 +105,13 @@ writingTold Writing′.OverLimit = numberTold 12
 writingTold Writing′.NotUtf8 = numberTold 4
 writingTold Writing′.HoldsNul = numberTold 11
 writingTold (Writing′.NoRoom n) = roomTold n
+
+-- [02 T-07] 12 and 16 return the number alone
+abbrev pub bitWritingTold : BitWriting → Told
+bitWritingTold (BitWriting′.Written n) = writtenTold n
+bitWritingTold BitWriting′.OverLimit = numberTold 12
+bitWritingTold BitWriting′.BadBits = numberTold 16
+bitWritingTold (BitWriting′.NoRoom n) = roomTold n
 
 -- WHAT A CONTRACT SAYS: the result and the lent numbers are those of an answer
 pub record Says (t : Told) (r how first second : ℕ) : Type 0 where

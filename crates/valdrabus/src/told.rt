@@ -1,6 +1,7 @@
 // An answer in five numbers: 0 or the refusal's number; how a text is answered; two numbers more, a range, a span, or what a refusal returns; and the place
 // where the reading of a string stops.
 use admitting::kinds::kind_code;
+use meaning::BitWriting;
 use meaning::Charset;
 use meaning::Identifier;
 use meaning::LiteralExpected;
@@ -14,7 +15,7 @@ use meaning::Writing;
 ghost use mathlib.Core.Path.{_≡_};
 ghost use Rattle.meaning.specs.Answers.{expectedCode};
 ghost use Rattle.valdrabus.specs.Numbers.{numberTold, borrowedTold, writtenTold, roomTold, spanTold, placeTold, refusalTold, Says, SaysPlace};
-ghost use Rattle.valdrabus.specs.Numbers.{textTold, rangeTold, charsetTold, truthTold, nullnessTold, identifierTold, writingTold};
+ghost use Rattle.valdrabus.specs.Numbers.{textTold, rangeTold, charsetTold, truthTold, nullnessTold, identifierTold, writingTold, bitWritingTold};
 
 pub(crate) struct Told {
     pub number: u32,
@@ -98,7 +99,7 @@ fn borrowed_told(first: usize, second: usize) -> Told
 }
 
 // The buffer's start.
-fn written_told(second: usize) -> Told
+pub(crate) fn written_told(second: usize) -> Told
     ensures { λ r. ⌜ r ≡ writtenTold second ⌝ }
 {
     Told {
@@ -226,6 +227,19 @@ pub(crate) fn writing_told(answer: Writing) -> Told
         Writing::NotUtf8 => number_told(4),
         Writing::HoldsNul => number_told(11),
         Writing::NoRoom { needed } => room_told(needed),
+    }
+}
+
+// [02 T-07] The same of a bit string.
+// Rules out: 12 for 16 (must-fail: numbers_mistaken).
+pub(crate) fn bit_writing_told(answer: BitWriting) -> Told
+    ensures { λ r. ⌜ r ≡ bitWritingTold answer ⌝ }
+{
+    match answer {
+        BitWriting::Written { len } => written_told(len),
+        BitWriting::OverLimit => number_told(12),
+        BitWriting::BadBits => number_told(16),
+        BitWriting::NoRoom { needed } => room_told(needed),
     }
 }
 
