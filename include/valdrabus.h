@@ -1,12 +1,13 @@
 /*
- * valdrabus: reads the literals of SQL dumps, dates as days too, and writes values as literals: plain, E'..' and U&'..'.
+ * valdrabus: reads the literals of SQL dumps, dates as days and bit strings as packed bytes too, and writes values as literals: plain, E'..' and U&'..', and
+ * packed bytes as B'..' and X'..'.
  *
  * Link libvaldrabus.a (made by `tools/archive`, for x86-64 or Arm). No function allocates, keeps a pointer, or has any state.
  *
  * WHAT THE CALLER OWES, and no more:
  *   - a pointer with a length is valid for that many bytes, for reading, and for writing where it is not const; with the length 0 it is any pointer but NULL;
  *   - the same of a block's items and answers, whose lengths count 32-bit numbers and not bytes; these pointers are aligned, with the length 0 too;
- *   - a pointer to a number (how, first, second, place, value, year, len ..) is valid for writing and aligned;
+ *   - a pointer to a number (how, first, second, place, value, year, bits, len ..) is valid for writing and aligned;
  *   - what is written through (the buffer, each lent number, a block's answers) overlaps nothing else that is given.
  * Everything else is tested: every kind, span, source, setting and buffer gets an answer or a number.
  *
@@ -27,13 +28,16 @@
  *    7  not a readable bit string                  first, second: its span
  *    8  not a money text                           first, second: its span
  *    9  would be written, and the buffer, in a block what is left of it, is shorter       first: 0, second: the length needed
- *   10  a number that is given, to a call or in a block's item, names nothing: an unknown kind, or a mark or setting that is neither 0 nor 1       first, second: 0
+ *   10  a number that is given, to a call or in a block's item, names nothing: an unknown kind, for a bit string's writer one that is neither 12 nor 13, or a mark
+ *       or setting that is neither 0 nor 1       first, second: 0
  *   11  a writer's value holds NUL, which a plain literal does not spell with the setting 0, and E'..' and U&'..' at neither setting
- *   12  a writer's value has more than 268435456 bytes, or the part size is below 4
+ *   12  a writer's value has more than 268435456 bytes, for a bit string's its packed bytes, or the part size is below 4
  *   14  a date literal's value is no date         first, second: its span; valdrabus_date_of_day, whose number is no day's, has no span
  *   15  a block as a whole: its items are not in fours, its answers have fewer numbers than its items, or the buffer has more than 4294967295 bytes
+ *   16  packed bytes that are none of that many bits: the byte count is not the bit count rounded up to bytes, an unused bit is set, or an X'..' is asked of a
+ *       count that is no multiple of four
  * 10 is tested before all others; then 1, 2, 3, 4, then 5 to 8, then 9 or 14. The plain writers test 10, 12, 4, 11, 9; the writers of E'..' and U&'..', which
- * take no number that could name nothing, 12, 4, 11, 9. Of a block 15 is tested before any item is looked at, and of each item 10, 1, 3, 4, 6, 9.
+ * take no number that could name nothing, 12, 4, 11, 9; a bit string's writer 10, 12, 16, 9. Of a block 15 is tested before any item is looked at, and of each item 10, 1, 3, 4, 6, 9.
  *
  * WHAT STAYS UNCHANGED. A refusal, by any number but 0, and a borrowed answer change no byte of the buffer. A written answer fills the buffer's start, in a block
  * the start of what is left; the rest is unchanged. The lent numbers (how, first, second, place ..) are written by every call, with 0 where nothing else is said: so place is 0
@@ -112,7 +116,8 @@ enum {
     VALDRABUS_HOLDS_NUL = 11,
     VALDRABUS_OVER_LIMIT = 12,
     VALDRABUS_INVALID_DATE = 14,
-    VALDRABUS_BAD_BLOCK = 15
+    VALDRABUS_BAD_BLOCK = 15,
+    VALDRABUS_BAD_BITS = 16
 };
 
 enum {
@@ -200,6 +205,20 @@ uint32_t valdrabus_as_date(uint32_t kind, uint32_t synthetic, uint32_t start, ui
 
 /* The day that has a number; all three 0 on a refusal, which is of 0 and of what is past 3652059. 14. */
 uint32_t valdrabus_date_of_day(uint32_t number, uint32_t *year, uint32_t *month, uint32_t *day);
+
+/* PACKED BITS: a bit string's bits eight to a byte, the first bit the top one (80 hex) of the first byte, the unused low bits of the last byte zero. A binary
+   digit is one bit, a hex digit four: B'1000001' is the byte 82 hex and 7 bits, X'1FA' the bytes 1F A0 hex and 12. */
+
+/* A bit string's packed bytes, always written: how is VALDRABUS_WRITTEN, first is 0, second their count. bits: how many bits they hold; 0 on a refusal. The
+   digits are those that valdrabus_as_bit_text gives, of all segments in one run, and how many bits each is goes by the kind and not by the letter before the mark.
+   With 9 second counts packed bytes; a buffer of half of the literal's bytes always has room. 1, 2, 3, 4, 7, 9, 10. */
+uint32_t valdrabus_as_packed_bits(uint32_t kind, uint32_t synthetic, uint32_t start, uint32_t end, const uint8_t *source, size_t source_len,
+                                  uint8_t *out, size_t out_len, uint64_t *bits, uint32_t *how, size_t *first, size_t *second);
+
+/* The reverse: packed bytes and how many bits they hold as B'..', for the kind VALDRABUS_KIND_BINARY_BITS, or as X'..', for VALDRABUS_KIND_HEX_BITS, its digits
+   in upper case. len: the text's length, also the length needed with 9, else 0; it is one of the digits and three bytes more, so a buffer of no bytes
+   (out_len 0) asks for the length alone. Read with the same kind, the text gives the bytes and the count back. 9, 10, 12, 16. */
+uint32_t valdrabus_write_bit_literal(const uint8_t *bytes, size_t bytes_len, uint64_t bits, uint32_t kind, uint8_t *out, size_t out_len, size_t *len);
 
 /* THE VIEW of an answer by how, first and second, for a source and a buffer of these lengths: it returns which of the two it shows (VALDRABUS_NONE, _BORROWED, _WRITTEN) and the
    range in it, an empty one that fits included. A range that does not fit, or a refusal, shows an empty part: VALDRABUS_NONE, 0, 0. */

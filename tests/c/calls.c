@@ -1,7 +1,7 @@
 /*
- * Calls each function of valdrabus.h but the block's, which blocks.c calls, and compares what it answers, the lent numbers and every byte of the buffer with what
- * document 01's examples, the tables of its reading and those of requests T-01, T-04, T-05 and T-06 say. Prints one line; ends with status 1 at the first difference,
- * having said where it stands.
+ * Calls each function of valdrabus.h but the block's and those of packed bits, which blocks.c and bits.c call, and compares what it answers, the lent numbers and
+ * every byte of the buffer with what document 01's examples, the tables of its reading and those of requests T-01, T-04, T-05 and T-06 say. Prints one line; ends
+ * with status 1 at the first difference, having said where it stands.
  */
 #include "valdrabus.h"
 
