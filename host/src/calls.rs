@@ -4,6 +4,7 @@
 //! aligned, valid for writing and overlaps nothing else that is borrowed. No function keeps a pointer. The `SAFETY` comments name this as "slices".
 
 use crate::items::{INVALID_STRING, Item, Told};
+use crate::kinds::{BitStringRadix, Kind};
 use crate::literal::Literal;
 use crate::said::Said;
 use crate::settings::Settings;
@@ -165,6 +166,39 @@ pub(crate) fn date_of_day(number: u32) -> (u32, [u32; 3]) {
     // SAFETY: each lent number is a `&mut`.
     let returned = unsafe { sys::valdrabus_date_of_day(number, &mut year, &mut month, &mut day) };
     (returned, [year, month, day])
+}
+
+/// How many bits are packed beside what is said; 0 on a refusal.
+pub(crate) fn as_packed_bits(literal: &Literal, source: &[u8], out: &mut [u8]) -> (Said, u64) {
+    let (mut said, mut bits) = (Said::default(), 0);
+    // SAFETY: slices.
+    said.number = unsafe {
+        sys::valdrabus_as_packed_bits(
+            literal.kind.code(),
+            literal.synthetic.into(),
+            literal.span.start,
+            literal.span.end,
+            source.as_ptr(),
+            source.len(),
+            out.as_mut_ptr(),
+            out.len(),
+            &mut bits,
+            &mut said.how,
+            &mut said.first,
+            &mut said.second,
+        )
+    };
+    (said, bits)
+}
+
+/// Packed bytes as a bit string: the number, and the length.
+pub(crate) fn write_bit_literal(bytes: &[u8], bits: u64, radix: BitStringRadix, out: &mut [u8]) -> (u32, usize) {
+    let (kind, mut len) = (Kind::BitString { radix }.code(), 0);
+    // SAFETY: slices.
+    let number = unsafe {
+        sys::valdrabus_write_bit_literal(bytes.as_ptr(), bytes.len(), bits, kind, out.as_mut_ptr(), out.len(), &mut len)
+    };
+    (number, len)
 }
 
 /// The value beside what is said; 0 on a refusal.

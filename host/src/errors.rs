@@ -77,7 +77,7 @@ pub enum Error {
     BadNumber,
     /// 11: a value with a NUL, which no plain literal spells where backslash escapes are off, and neither `E'..'` nor `U&'..'` at any setting.
     HoldsNul,
-    /// 12: a value longer than [`LONGEST_VALUE`](crate::LONGEST_VALUE), or parts smaller than [`LEAST_PART`](crate::LEAST_PART).
+    /// 12: a value, or a bit string's packed bytes, longer than [`LONGEST_VALUE`](crate::LONGEST_VALUE), or parts smaller than [`LEAST_PART`](crate::LEAST_PART).
     OverLimit,
     /// 14: a date literal whose value is not ten bytes, `yyyy-mm-dd`, of a day from 0001-01-01 to 9999-12-31.
     InvalidDate {
@@ -86,10 +86,12 @@ pub enum Error {
     },
     /// 15: a block with fewer answers than items, or with a buffer that is, or would have to be, longer than [`LONGEST_BUFFER`](crate::LONGEST_BUFFER).
     BadBlock,
+    /// 16: bytes that are no packed bits of that count: not as many bytes as the bits take, an unused bit that is set, or a count that is no multiple of four for `X'..'`.
+    BadBits,
 }
 
 impl Error {
-    /// The refusal's number, 1 to 12, 14 or 15, as `include/valdrabus.h` lists them.
+    /// The refusal's number, 1 to 12 or 14 to 16, as `include/valdrabus.h` lists them.
     pub const fn number(&self) -> u32 {
         match self {
             Error::WrongKind { .. } => 1,
@@ -106,6 +108,7 @@ impl Error {
             Error::OverLimit => 12,
             Error::InvalidDate { .. } => 14,
             Error::BadBlock => 15,
+            Error::BadBits => 16,
         }
     }
 
@@ -191,6 +194,7 @@ impl Error {
             11 => Error::HoldsNul,
             12 => Error::OverLimit,
             15 => Error::BadBlock,
+            16 => Error::BadBits,
             _ => Error::BadNumber,
         }
     }
@@ -224,6 +228,7 @@ impl fmt::Display for Error {
                     "the block has fewer answers than items, or takes a buffer longer than {LONGEST_BUFFER} bytes"
                 )
             }
+            Error::BadBits => write!(f, "the bytes are no packed bits of that count, or X'..' cannot spell it"),
         }?;
         write!(f, " (number {})", self.number())
     }
@@ -255,7 +260,7 @@ mod tests {
 
     #[test]
     fn every_number_of_a_literal_comes_back_as_its_error() {
-        for number in (1..=12).chain([14, 15]) {
+        for number in (1..=12).chain(14..=16) {
             let error = of_literal(number, 1, 2);
             assert_eq!((error.number(), error.place()), (number, (number == 6).then_some(4)));
         }
@@ -263,7 +268,7 @@ mod tests {
 
     #[test]
     fn what_the_header_does_not_know_is_a_bad_number() {
-        assert_eq!([13, 16, 17].map(|number| of_literal(number, 0, 0)), [Error::BadNumber; 3]);
+        assert_eq!([13, 17, 18].map(|number| of_literal(number, 0, 0)), [Error::BadNumber; 3]);
         assert_eq!(of_literal(1, 10, 14), Error::BadNumber);
         assert_eq!([5, 14].map(|number| Error::of_bare(number, 0)), [Error::BadNumber; 2]);
     }

@@ -4,6 +4,7 @@ use crate::calls::{self, PartQuestion, TextQuestion};
 use crate::dates::Date;
 use crate::errors::Error;
 use crate::literal::Literal;
+use crate::packed::Packed;
 use crate::settings::Settings;
 use crate::texts::Text;
 
@@ -64,6 +65,11 @@ impl<'s> InBytes<'s> {
     /// As [`Literal::as_bit_text`]. Refusals: 1, 2, 3, 4, 7, 9.
     pub fn as_bit_text<'b>(&self, out: &'b mut [u8]) -> Result<Text<'s, 'b, [u8]>, Error> {
         self.text(TextQuestion::Bits, out)
+    }
+
+    /// As [`Literal::as_packed_bits`]. Refusals: 1, 2, 3, 4, 7, 9.
+    pub fn as_packed_bits<'b>(&self, out: &'b mut [u8]) -> Result<Packed<'b>, Error> {
+        Packed::of_literal(&self.literal, self.source, out)
     }
 
     /// As [`Literal::as_temporal_text`]. Refusals: 1, 2, 3, 4, 6, 9.

@@ -1,4 +1,4 @@
-//! Reads the literals of SQL dumps, dates as days too, and writes values as literals.
+//! Reads the literals of SQL dumps, dates as days and bit strings as packed bytes too, and writes values as literals.
 //!
 //! A string of a dump has many spellings: doubled quotes, `E'..'` and `U&'..'` escapes, dollar quotes, MySQL's backslashes, names that arrive in parts. This crate says what a
 //! literal *means*, so that a table can be keyed by it:
@@ -28,6 +28,7 @@
 //! - [`Literal`]: a kind and a span; the questions are its methods. [`InBytes`]: the same over bytes that may not be UTF-8.
 //! - [`Text`]: an answer that is a part of the source, or written into the buffer that was lent.
 //! - [`Date`]: the day of a date literal, [`Literal::as_date`], with its number: for sorting, and for other crates' dates.
+//! - [`Packed`]: a bit string's bits eight to a byte, [`Literal::as_packed_bits`], and how many they are. [`write_bit_literal`], [`to_bit_literal`]: back to `B'..'` or `X'..'`.
 //! - [`read_block`]: many string literals of one source in one call, each an [`Item`]; [`Block`] shows their answers. [`to_block`]: the same with memory of its own.
 //! - [`Error`]: why a call, or an item of a block, is refused, with its number. A refusal changes no byte of the buffer. That of a string has the [place](Error::place) where reading stops;
 //!   [`Error::in_source`] tells the line and column of it.
@@ -54,6 +55,7 @@ mod kinds;
 mod literal;
 mod owned;
 mod owned_blocks;
+mod packed;
 mod positions;
 mod questions;
 mod said;
@@ -78,6 +80,7 @@ pub use items::{Item, Told};
 pub use kinds::{BitStringRadix, Expected, IntervalFields, Kind, TimeZone};
 pub use literal::Literal;
 pub use owned_blocks::{BlockBuf, to_block, to_block_bytes};
+pub use packed::{Packed, to_bit_literal, write_bit_literal};
 pub use positions::Position;
 pub use settings::Settings;
 pub use span::Span;

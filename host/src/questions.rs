@@ -5,6 +5,7 @@ use crate::dates::Date;
 use crate::errors::Error;
 use crate::literal::Literal;
 use crate::owned;
+use crate::packed::{self, Packed};
 use crate::settings::Settings;
 use crate::texts::Text;
 use std::borrow::Cow;
@@ -82,7 +83,7 @@ impl Literal {
     }
 }
 
-/// Texts, into a lent buffer.
+/// Texts and packed bits, into a lent buffer.
 impl Literal {
     /// What a string literal means, with backslash escapes off. Refusals: 1, 2, 3, 6, 9.
     ///
@@ -148,6 +149,29 @@ impl Literal {
         self.text(TextQuestion::Bits, source, out)
     }
 
+    /// A bit string's bits, packed: eight to a byte, the first bit the top one of the first byte, and how many they are. The digits are those of
+    /// [`as_bit_text`](Literal::as_bit_text), of all segments in one run; how many bits each is goes by the kind, not by the letter. They are always written, and
+    /// half of the literal's bytes is always room enough. Refusals: 1, 2, 3, 7, 9, whose length counts packed bytes.
+    ///
+    /// ```
+    /// use valdrabus::{BitStringRadix, Error, Kind, Literal};
+    /// let row = "(12, B'1010' '0000' '11', X'dead')";
+    /// let flags = Literal::new(Kind::BitString { radix: BitStringRadix::Binary }, 5..24);
+    /// let key = Literal::new(Kind::BitString { radix: BitStringRadix::Hex }, 26..33);
+    ///
+    /// let mut out = [0; 2];
+    /// let packed = flags.as_packed_bits(row, &mut out)?;
+    /// assert_eq!((packed.bytes(), packed.bits()), (&[0b1010_0000, 0b1100_0000][..], 10));
+    /// let packed = key.as_packed_bits(row, &mut out)?;
+    /// assert_eq!((packed.bytes(), packed.bits()), (&[0xDE, 0xAD][..], 16));
+    ///
+    /// assert_eq!(flags.as_packed_bits(row, &mut out[..1]), Err(Error::NoRoom { needed: 2 }));
+    /// # Ok::<(), valdrabus::Error>(())
+    /// ```
+    pub fn as_packed_bits<'b>(&self, source: &str, out: &'b mut [u8]) -> Result<Packed<'b>, Error> {
+        Packed::of_literal(self, source.as_bytes(), out)
+    }
+
     /// What the quoted token of a date, time, timestamp or interval means, with backslash escapes off. Refusals: 1, 2, 3, 6 with its [place](Error::place), 9.
     ///
     /// ```
@@ -166,7 +190,7 @@ impl Literal {
     }
 }
 
-/// Texts, allocated where they are not a part of the source. None of these refuses by 9.
+/// Texts, allocated where they are not a part of the source, and packed bits. None of these refuses by 9.
 impl Literal {
     /// As [`as_str`](Literal::as_str). Refusals: 1, 2, 3, 6.
     pub fn to_str<'s>(&self, source: &'s str) -> Result<Cow<'s, str>, Error> {
@@ -204,6 +228,18 @@ impl Literal {
     /// As [`as_bit_text`](Literal::as_bit_text). Refusals: 1, 2, 3, 7.
     pub fn to_bit_text<'s>(&self, source: &'s str) -> Result<Cow<'s, str>, Error> {
         self.owned_text(TextQuestion::Bits, source)
+    }
+
+    /// As [`as_packed_bits`](Literal::as_packed_bits): the packed bytes, and how many bits they hold. Refusals: 1, 2, 3, 7.
+    ///
+    /// ```
+    /// use valdrabus::{BitStringRadix, Kind, Literal};
+    /// let key = Literal::new(Kind::BitString { radix: BitStringRadix::Hex }, 0..11);
+    /// assert_eq!(key.to_packed_bits("X'DEADBEEF'")?, (vec![0xDE, 0xAD, 0xBE, 0xEF], 32));
+    /// # Ok::<(), valdrabus::Error>(())
+    /// ```
+    pub fn to_packed_bits(&self, source: &str) -> Result<(Vec<u8>, u64), Error> {
+        packed::to_packed_bits(self, source.as_bytes())
     }
 
     /// As [`as_temporal_text`](Literal::as_temporal_text). Refusals: 1, 2, 3, 6.

@@ -128,6 +128,29 @@ unsafe extern "C" {
         second: *mut usize,
     ) -> u32;
     pub fn valdrabus_date_of_day(number: u32, year: *mut u32, month: *mut u32, day: *mut u32) -> u32;
+    pub fn valdrabus_as_packed_bits(
+        kind: u32,
+        synthetic: u32,
+        start: u32,
+        end: u32,
+        source: *const u8,
+        source_len: usize,
+        out: *mut u8,
+        out_len: usize,
+        bits: *mut u64,
+        how: *mut u32,
+        first: *mut usize,
+        second: *mut usize,
+    ) -> u32;
+    pub fn valdrabus_write_bit_literal(
+        bytes: *const u8,
+        bytes_len: usize,
+        bits: u64,
+        kind: u32,
+        out: *mut u8,
+        out_len: usize,
+        len: *mut usize,
+    ) -> u32;
     pub fn valdrabus_view(
         how: u32,
         first: usize,
