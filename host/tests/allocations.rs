@@ -118,6 +118,25 @@ fn dates_allocate_nothing() {
     assert_eq!(made, 0);
 }
 
+/// Neither packed bits nor what is written of them, nor their refusals; with memory of their own, the bytes or the text alone.
+#[test]
+fn packed_bits_allocate_nothing() {
+    let (binary, mut out) = (Kind::BitString { radix: BitStringRadix::Binary }, [0; 16]);
+    let literals = ["B'1000001'", "B'100' '0001'", "B'2'"].map(|text| (Literal::whole(binary, text).unwrap(), text));
+    let (bits, made) = counted(|| {
+        literals
+            .map(|(literal, text)| literal.as_packed_bits(text, &mut out).map(Packed::bits).map_err(|why| why.number()))
+    });
+    assert_eq!((bits, made), ([Ok(7), Ok(7), Err(7)], 0));
+    let radix = BitStringRadix::Binary;
+    let (texts, made) = counted(|| [7, 6].map(|bits| write_bit_literal([0x82], bits, radix, &mut out).map(str::len)));
+    assert_eq!((texts, made), ([Ok(10), Err(Error::BadBits)], 0));
+    let (owned, made) = counted(|| literals[0].0.to_packed_bits(literals[0].1));
+    assert_eq!((owned, made), (Ok((vec![0x82], 7)), 1));
+    let (owned, made) = counted(|| to_bit_literal([0x82], 7, radix));
+    assert_eq!((owned.as_deref(), made), (Ok("B'1000001'"), 1));
+}
+
 #[test]
 fn single_calls_allocate_nothing() {
     let (text, rows, long) = wholesale();

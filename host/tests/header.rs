@@ -12,6 +12,7 @@ fn scalar(c: &str) -> &str {
     match c {
         "uint8_t" => "u8",
         "uint32_t" => "u32",
+        "uint64_t" => "u64",
         "int64_t" => "i64",
         "size_t" => "usize",
         "bool" => "bool",

@@ -1,4 +1,4 @@
-//! What the safe functions never meet: numbers that name nothing, what is lent of dates, items that are not in fours, and the view. Through the C functions
+//! What the safe functions never meet: numbers that name nothing, what is lent of dates and of packed bits, items that are not in fours, and the view. Through the C functions
 //! themselves.
 
 use valdrabus::sys;
@@ -6,6 +6,7 @@ use valdrabus::sys;
 const BAD_NUMBER: u32 = 10;
 const INVALID_DATE: u32 = 14;
 const BAD_BLOCK: u32 = 15;
+const BAD_BITS: u32 = 16;
 
 /// A string read by its raw numbers: what is returned, how, first, second and place, which all begin as 77.
 fn as_str(kind: u32, synthetic: u32, setting: u32) -> [usize; 5] {
@@ -45,7 +46,7 @@ fn number_10_for_what_names_nothing() {
     assert_eq!(as_str(1, 2, 0)[0], BAD_NUMBER as usize);
 }
 
-/// The date's is below.
+/// The date's and those of packed bits are below.
 #[test]
 fn number_10_of_every_function_that_takes_a_number() {
     let (source, mut out) = (b"1", [0xA5; 8]);
@@ -137,6 +138,66 @@ fn a_days_numbers() {
         // SAFETY: references of this function.
         let returned = unsafe { sys::valdrabus_date_of_day(number, &mut year, &mut month, &mut day) };
         assert_eq!((returned, [year, month, day]), due, "{number}");
+    }
+}
+
+/// A bit string packed by its raw numbers: what is returned, how many bits, how, first and second, which all begin as 77, and the buffer.
+fn as_packed_bits(kind: u32, synthetic: u32, end: u32) -> (u32, u64, [usize; 3], [u8; 3]) {
+    let (source, mut out) = (b"B'1000001'", [0xA5; 3]);
+    let (mut bits, mut how, mut first, mut second) = (77, 77, 77, 77);
+    // SAFETY: slices and references of this function.
+    let returned = unsafe {
+        sys::valdrabus_as_packed_bits(
+            kind,
+            synthetic,
+            0,
+            end,
+            source.as_ptr(),
+            source.len(),
+            out.as_mut_ptr(),
+            out.len(),
+            &mut bits,
+            &mut how,
+            &mut first,
+            &mut second,
+        )
+    };
+    (returned, bits, [how as usize, first, second], out)
+}
+
+#[test]
+fn a_bit_strings_numbers() {
+    const AS_LENT: [u8; 3] = [0xA5; 3];
+    assert_eq!(as_packed_bits(12, 0, 10), (0, 7, [2, 0, 1], [0x82, 0xA5, 0xA5]));
+    for (kind, synthetic) in [(0, 0), (15, 0), (u32::MAX, 0), (12, 2), (12, u32::MAX), (4, 2), (15, 1)] {
+        assert_eq!(as_packed_bits(kind, synthetic, 99), (BAD_NUMBER, 0, [0; 3], AS_LENT), "{kind} {synthetic}");
+    }
+    assert_eq!(as_packed_bits(4, 1, 99), (1, 0, [0, 7, 4], AS_LENT));
+    assert_eq!(as_packed_bits(12, 1, 99), (2, 0, [0, 0, 99], AS_LENT));
+    assert_eq!(as_packed_bits(12, 0, 99), (3, 0, [0, 0, 99], AS_LENT));
+    assert_eq!(as_packed_bits(12, 0, 9), (7, 0, [0, 0, 9], AS_LENT));
+    assert_eq!(as_packed_bits(13, 0, 10), (9, 0, [0, 0, 4], AS_LENT));
+}
+
+#[test]
+fn the_kinds_that_packed_bytes_are_written_as() {
+    for (kind, bits, due, text) in [
+        (12, 7, (0, 10), &b"B'1000001'"[..]),
+        (13, 8, (0, 5), b"X'82'"),
+        (13, 7, (BAD_BITS, 0), b""),
+        (0, 7, (BAD_NUMBER, 0), b""),
+        (11, 7, (BAD_NUMBER, 0), b""),
+        (14, 7, (BAD_NUMBER, 0), b""),
+        (14, 99, (BAD_NUMBER, 0), b""),
+        (u32::MAX, 7, (BAD_NUMBER, 0), b""),
+    ] {
+        let (bytes, mut out, mut len) = ([0x82], [0xA5; 12], 77);
+        // SAFETY: slices and references of this function.
+        let returned = unsafe {
+            sys::valdrabus_write_bit_literal(bytes.as_ptr(), 1, bits, kind, out.as_mut_ptr(), out.len(), &mut len)
+        };
+        assert_eq!((returned, len), due, "{kind} {bits}");
+        assert_eq!((&out[..text.len()], &out[text.len()..]), (text, &[0xA5; 12][text.len()..]), "{kind} {bits}");
     }
 }
 

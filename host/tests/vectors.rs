@@ -1,5 +1,5 @@
 //! Rows of `vectors/`, all that a caller of this crate can ask: the Rust original's own answers, how document 01 is read, and the facts of the writers' two
-//! forms, of values in parts, of places, of dates and of printed numbers. `tests/blocks.rs` has those of blocks. docs/VECTORS.md says what a row holds.
+//! forms, of values in parts, of places, of dates, of printed numbers and of packed bits. `tests/blocks.rs` has those of blocks. docs/VECTORS.md says what a row holds.
 
 mod common;
 
@@ -57,14 +57,20 @@ impl Row {
         Literal { synthetic: self.question.ends_with("/synthetic"), ..Literal::new(kind, span) }
     }
 
-    /// The bytes that are written where there is room for them.
+    /// The bytes that are written where there is room for them; behind packed ones stands how many bits they hold.
     fn value(&self) -> Option<Vec<u8>> {
-        self.answer.strip_prefix("w ").map(unhex)
+        self.answer.strip_prefix("w ")?.split(' ').next().map(unhex)
+    }
+
+    /// The count and the base that packed bytes are written with.
+    fn bits(&self) -> (u64, BitStringRadix) {
+        let radix = if self.kind == "13" { BitStringRadix::Hex } else { BitStringRadix::Binary };
+        (self.start.parse().expect("a count"), radix)
     }
 
     /// Whether a value is written; then the room is the buffer's length.
     fn is_writers(&self) -> bool {
-        ["writer", "escape", "unicode"].contains(&self.question.as_str())
+        ["writer", "escape", "unicode", "unpack"].contains(&self.question.as_str())
     }
 
     /// The lengths of the buffers to lend. A borrowed answer and a refusal need none, and must leave any. A value that is written is also lent just what it needs, and a byte less.
@@ -128,6 +134,10 @@ fn written(text: &str) -> String {
     format!("w {}", hex(text.as_bytes()))
 }
 
+fn packed(bytes: &[u8], bits: u64) -> String {
+    format!("w {} {bits}", hex(bytes))
+}
+
 fn day(date: Date) -> String {
     format!("d {} {} {} {}", date.year(), date.month(), date.day(), date.day_number())
 }
@@ -150,6 +160,7 @@ fn in_bytes(row: &Row, out: &mut [u8]) -> String {
         "plain" => told(source, asked.as_str(out)),
         "decimal" => told(source, asked.as_decimal_text(out)),
         "bits" => told(source, asked.as_bit_text(out)),
+        "pack" => asked.as_packed_bits(out).map_or_else(refused, |bits| packed(bits.bytes(), bits.bits())),
         "temporal" => told(source, asked.as_temporal_text(out)),
         "money" => told_part(source, asked.as_money_text().map(Some)),
         "source" => told_part(source, asked.source_text().map(Some)),
@@ -184,6 +195,10 @@ fn on_bare_text(row: &Row, question: &str, out: &mut [u8]) -> Option<String> {
         .map_or_else(refused, written),
         "escape" => write_escape(source, out).map_or_else(refused, written),
         "unicode" => write_unicode(source, out).map_or_else(refused, written),
+        "unpack" => {
+            let (bits, radix) = row.bits();
+            write_bit_literal(source, bits, radix, out).map_or_else(refused, written)
+        }
         _ => return None,
     })
 }
@@ -197,6 +212,7 @@ fn in_text(row: &Row, text: &str, out: &mut [u8]) -> Option<String> {
         "plain" => told(source, literal().as_str(text, out)),
         "decimal" => told(source, literal().as_decimal_text(text, out)),
         "bits" => told(source, literal().as_bit_text(text, out)),
+        "pack" => literal().as_packed_bits(text, out).map_or_else(refused, |bits| packed(bits.bytes(), bits.bits())),
         "temporal" => told(source, literal().as_temporal_text(text, out)),
         "money" => told_part(source, literal().as_money_text(text).map(Some)),
         "source" => told_part(source, literal().source_text(text).map(Some)),
@@ -210,6 +226,21 @@ fn in_text(row: &Row, text: &str, out: &mut [u8]) -> Option<String> {
         }
         _ => return None,
     })
+}
+
+/// The row asked for bytes of its own, or of any bytes for a text.
+fn allocated_bits(row: &Row) -> Option<String> {
+    match row.question.trim_end_matches("/synthetic") {
+        "pack" => {
+            let text = std::str::from_utf8(&row.source).ok()?;
+            Some(row.literal().to_packed_bits(text).map_or_else(refused, |(bytes, bits)| packed(&bytes, bits)))
+        }
+        "unpack" if !row.answer.starts_with("r 9") => {
+            let (bits, radix) = row.bits();
+            Some(to_bit_literal(&row.source, bits, radix).map_or_else(refused, |text| written(&text)))
+        }
+        _ => None,
+    }
 }
 
 /// The row asked for a text of its own.
@@ -251,7 +282,7 @@ fn replay(name: &str) -> usize {
                 assert_eq!((said, &out), (answer, &buffer), "{name} {} in text", row.id);
             }
         }
-        if let Some(said) = text.and_then(|text| allocated(&row, text)) {
+        if let Some(said) = text.and_then(|text| allocated(&row, text)).or_else(|| allocated_bits(&row)) {
             assert_eq!(said, row.answer, "{name} {} allocated", row.id);
         }
         asked += 1;
@@ -285,6 +316,12 @@ fn the_facts_of_dates() {
 #[test]
 fn the_facts_of_printing() {
     assert_eq!(replay("printing"), 1_471);
+}
+
+/// The tables of request T-07 have 73 facts, 8 decisions and 7 premises.
+#[test]
+fn the_facts_of_packed_bits() {
+    assert_eq!(replay("packing"), 2_481);
 }
 
 #[test]
