@@ -1,0 +1,44 @@
+//! The example `flags`: a list of bit strings, packed and written back.
+
+mod common;
+#[path = "../examples/flags/report.rs"]
+mod report;
+#[path = "../examples/flags/rows.rs"]
+mod rows;
+
+use common::{places, read};
+use rows::Refused;
+use valdrabus::{Error, Span};
+
+#[test]
+fn the_sample_list() {
+    let list = read("lists/flags.txt");
+    let rows = rows::rows(list.as_bytes()).expect("a short list");
+    assert_eq!(report::report(list.as_bytes(), &rows), read("lists/flags.packed"));
+}
+
+#[test]
+fn lines_that_are_no_rows_and_rows_that_are_refused() {
+    let list = b"-- none\r\n\r\na\tX'0F'\r\nno tab\nb\tB'2'\nc\tX'\xFF'\n\xFF\tb'1'\nd\t";
+    let rows = rows::rows(list).expect("a short list");
+    let told = rows.iter().map(|row| (row.line, &*row.name, row.flags.as_ref().map(|flags| &flags.literal[..])));
+    let span = |start, end| Span { start, end };
+    let refused = |error| Err(Refused::Literal(error));
+    let due = [
+        (3, "a", Ok("X'0F'")),
+        (4, "no tab", Err(Refused::NoTab)),
+        (5, "b", refused(Error::InvalidBitString { span: span(29, 33) })),
+        (6, "c", refused(Error::NotUtf8 { span: Some(span(36, 40)) })),
+        (7, "\u{FFFD}", Ok("B'1'")),
+        (8, "d", refused(Error::InvalidBitString { span: span(50, 50) })),
+    ];
+    assert!(told.eq(due.iter().map(|(line, name, flags)| (*line, *name, flags.as_ref().map(|text| &text[..])))));
+    let said = report::report(list, &rows);
+    assert!(
+        said.contains(
+            "\n     5  refused: b: the text at 29..33 is not a readable bit string (number 7), line 5, column 3\n"
+        ),
+        "{said}"
+    );
+    assert!(said.ends_with("\n2 packed, 9 bits in 2 bytes; 4 refused\n"), "{said}");
+}
