@@ -6,8 +6,8 @@
 Needs cargo, valgrind, the archive (as tools/archive finds it) and the Rust's source (VALDRABUS_RUST_SRC, see tools/oracle/oracle.py). Times are those of
 `bench`, the best of its rounds. Instructions are counted by callgrind: a case is run once and eleven times, and a tenth of the difference is what one run
 costs, so that start and end of the program do not count. The page has a section for each machine, one more on blocks, of which only this one's are written
-anew, and a summary of both. A machine's section tells how much longer a date takes than the temporal text of the same literal. With --blocks it is the one on
-blocks alone. With --print the sections go to standard output and the page stays as it is.
+anew, and a summary of both. A machine's section tells how much longer a date takes than the temporal text of the same literal, and packed bits than the digits
+of the same bit string. With --blocks it is the one on blocks alone. With --print the sections go to standard output and the page stays as it is.
 """
 import os
 import platform
@@ -25,6 +25,8 @@ SIDES = ['ours', 'rust', 'rust-str']
 # the columns of bench's table: times, and the ratio to the Rust with from_utf8
 OURS, RUST, RATIO, RUST_STR = 3, 4, 5, 6
 TIMES = 'Nanoseconds for one literal:\n\n'
+# what the names of its cases of bit strings begin with
+BITS, PACKED = 'bit text: ', 'packed bits: '
 # the same of its table of blocks; where the Rust cannot be compared, there is a dash
 BLOCK_SIDES = ['block', 'singles', 'rust']
 BLOCK, SINGLES, BLOCK_RUST = 3, 4, 6
@@ -116,6 +118,14 @@ def of_dates(table):
     return f'A date takes {times["date"] / times["temporal text"]:.2f} times what the temporal text of the same literal takes, both ours.\n'
 
 
+def of_bits(table):
+    """Ours: the time of packed bits beside that of the same literal's digits."""
+    times = {row[0]: float(row[OURS]) for row in table}
+    packed = [name.removeprefix(PACKED) for name in times if name.startswith(PACKED)]
+    beside = '; '.join(f'{times[PACKED + name] / times[BITS + name]:.2f} ({name})' for name in packed)
+    return f'Packing takes so many times what the bit text of the same literal takes, both ours: {beside}.\n'
+
+
 def head(machine):
     return f'### {MACHINES[machine]}\n\n{model()}; {output("rustc", "--version").strip()}, release builds; {output("valgrind", "--version").strip()}.\n\n'
 
@@ -126,7 +136,7 @@ def section(machine):
     text = head(machine) + TIMES + times
     for at, than in ((RUST, 'the Rust'), (RUST_STR, 'the Rust without `from_utf8`')):
         text += f'\nWhere ours takes longer than {than}: {slower(table, OURS, at)}.\n'
-    text += '\n' + of_dates(table)
+    text += '\n' + of_dates(table) + '\n' + of_bits(table)
     text += '\nInstructions for one literal:\n\n| case | ours | Rust | ratio | Rust, no `from_utf8` | ratio |\n|---|---|---|---|---|---|\n'
     for row in table:
         ours, *others = counted(row[0], int(row[1]), SIDES)

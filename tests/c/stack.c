@@ -22,6 +22,7 @@ static int idle;
 static const char *text;
 static uint32_t len, kind, how, year, month, day, number, items[4], answers[4];
 static size_t first, second, place;
+static uint64_t bits;
 static volatile uint32_t told;
 
 static uint32_t nothing(void)
@@ -56,6 +57,16 @@ static void as_temporal_text(void)
     CALL(valdrabus_as_temporal_text, kind, 0, 0, len, bytes(text), len, out, sizeof out, &how, &first, &second, &place);
 }
 
+static void as_packed_bits(void)
+{
+    CALL(valdrabus_as_packed_bits, kind, 0, 0, len, bytes(text), len, out, sizeof out, &bits, &how, &first, &second);
+}
+
+static void write_bit_literal(void)
+{
+    CALL(valdrabus_write_bit_literal, bytes(text), len, 8 * (uint64_t)len, kind, out, sizeof out, &first);
+}
+
 static void read_block(void)
 {
     items[0] = kind;
@@ -79,7 +90,7 @@ static void embeds_nul(void)
 }
 
 /* Texts that go deep: joined ones that are read quickly, by digits and behind a space that is not ASCII, and that are refused, so that they are read by units, of
-   which one has eight digits; no ASCII; numbers that are printed. */
+   which one has eight digits; no ASCII; numbers that are printed; joined bit strings, one refused in its second segment. */
 #define QUICK "E'\\303\\251'\xE3\x80\x80'a'"
 #define REFUSED "E'\\U0001F600' 'a' E'\\400'"
 #define MIXED "\xC3\xA9'\x01\\\xF0\x9F\x98\x80"
@@ -98,6 +109,11 @@ static const struct row {
     {"as_decimal_text", as_decimal_text, VALDRABUS_KIND_DECIMAL, "0x-80000000000000000000000000000000"},
     {"as_decimal_text", as_decimal_text, VALDRABUS_KIND_DECIMAL, "-0b101_0"},
     {"as_decimal_text", as_decimal_text, VALDRABUS_KIND_DECIMAL, "1_234" MIXED},
+    {"as_packed_bits", as_packed_bits, VALDRABUS_KIND_BINARY_BITS, "B'1' \xE3\x80\x80'0101010101' '1'"},
+    {"as_packed_bits", as_packed_bits, VALDRABUS_KIND_HEX_BITS, "X'1' \xE3\x80\x80'0123456789abcdef' '1'"},
+    {"as_packed_bits", as_packed_bits, VALDRABUS_KIND_BINARY_BITS, "B'1' \xE3\x80\x80'2'"},
+    {"write_bit_literal", write_bit_literal, VALDRABUS_KIND_BINARY_BITS, MIXED},
+    {"write_bit_literal", write_bit_literal, VALDRABUS_KIND_HEX_BITS, MIXED},
     {"write_literal", write_literal, 0, MIXED},
     {"write_unicode", write_unicode, 0, MIXED},
     {"string_literal_embeds_nul", embeds_nul, 0, "'a text of more than thirty-two bytes'"},

@@ -1,6 +1,7 @@
 //! A case asked of ours, and of the Rust with and without its check of UTF-8.
 
-use crate::cases::{Case, Place, Question, Task};
+use crate::cases::{Base, Case, Place, Question, Task};
+use crate::packing::{self, Packed, Sides};
 use crate::timing::Timed;
 use crate::{dates, writing};
 use original::ast::literal::Literal;
@@ -9,7 +10,7 @@ use original::dialect::StringLiteralSyntax;
 use original::vocab::{Meta, Span};
 use std::hint::black_box;
 use std::str::from_utf8;
-use valdrabus::sys;
+use valdrabus::{BitStringRadix, Kind, sys};
 
 #[derive(Clone, Copy, PartialEq, Debug)]
 pub enum Side {
@@ -32,12 +33,21 @@ pub struct Ready {
     alone: Vec<Literal>,
     /// The numbers whose days are asked for.
     numbers: Vec<u32>,
+    /// What is written back as bit strings.
+    packed: Vec<Packed>,
 }
 
 impl Ready {
     pub fn new(case: Case) -> Ready {
         let longest = case.places.iter().map(|place| place.end - place.start).max().unwrap_or(0) as usize;
-        let none = Ready { out: Vec::new(), within: Vec::new(), alone: Vec::new(), numbers: Vec::new(), case };
+        let none = Ready {
+            out: Vec::new(),
+            within: Vec::new(),
+            alone: Vec::new(),
+            numbers: Vec::new(),
+            packed: Vec::new(),
+            case,
+        };
         let case = &none.case;
         match case.task {
             Task::Read(question) => {
@@ -51,6 +61,13 @@ impl Ready {
             Task::Days => {
                 Ready { numbers: case.source.lines().map(|text| text.parse().expect("a number")).collect(), ..none }
             }
+            Task::Bits(base) => {
+                let radix = if base == Base::Hex { BitStringRadix::Hex } else { BitStringRadix::Binary };
+                let literal =
+                    |place: &Place| valdrabus::Literal::new(Kind::BitString { radix }, place.start..place.end);
+                let packed = |place| literal(place).to_packed_bits(&case.source).expect("packed bits");
+                Ready { out: vec![0; longest], packed: case.places.iter().map(packed).collect(), ..none }
+            }
         }
     }
 
@@ -59,10 +76,24 @@ impl Ready {
             (Side::Ours, Question::I64) => self.ours_i64(),
             (Side::Ours, Question::Refused) => self.ours_refused(),
             (Side::Ours, Question::Date) => dates::ours(&self.case),
+            (side, Question::Packed(base)) => {
+                let mut sum = 0;
+                self.each_packed(side, base, |bytes, bits| sum += digest(black_box(bytes)) + black_box(bits));
+                sum
+            }
             (Side::Ours, question) => self.ours_text(question),
             (Side::Rust, question) => self.rust(question),
             (Side::RustStr, question) => self.rust_str(question),
         }
+    }
+
+    fn each_packed(&mut self, side: Side, base: Base, shown: impl FnMut(&[u8], u64)) {
+        let sides = match side {
+            Side::Ours => Sides::Ours,
+            Side::Rust => Sides::Rust(&self.alone),
+            Side::RustStr => Sides::RustStr(&self.within),
+        };
+        packing::each_packed(&self.case, base, &sides, &mut self.out, shown);
     }
 
     fn ours_text(&mut self, question: Question) -> u64 {
@@ -81,6 +112,9 @@ impl Ready {
                     ),
                     Question::Temporal => sys::valdrabus_as_temporal_text(
                         kind, 0, start, end, from, long, to, room, how_to, first_to, second_to, place_to,
+                    ),
+                    Question::Bits(_) => sys::valdrabus_as_bit_text(
+                        kind, 0, start, end, from, long, to, room, how_to, first_to, second_to,
                     ),
                     _ => sys::valdrabus_as_decimal_text(
                         kind, 0, start, end, from, long, to, room, how_to, first_to, second_to,
@@ -166,11 +200,29 @@ impl Timed for Ready {
             }
             Task::Days if side == Side::Ours => dates::ours_of_numbers(&self.numbers),
             Task::Days => dates::plain_of_numbers(&self.numbers),
+            Task::Bits(base) => {
+                let mut sum = 0;
+                packing::each_written(&self.packed, base, side, &mut self.out, |text| sum += digest(black_box(text)));
+                sum
+            }
         }
     }
 
     fn agrees(&mut self) -> bool {
         let [ours, rust, rust_str] = SIDES.map(|(side, _)| match self.case.task {
+            Task::Read(Question::Packed(base)) => {
+                let mut all = Vec::new();
+                self.each_packed(side, base, |bytes, bits| {
+                    all.extend_from_slice(bytes);
+                    all.extend_from_slice(&bits.to_le_bytes());
+                });
+                all
+            }
+            Task::Bits(base) => {
+                let mut all = Vec::new();
+                packing::each_written(&self.packed, base, side, &mut self.out, |text| all.extend_from_slice(text));
+                all
+            }
             Task::Read(_) | Task::Days => self.run(side).to_le_bytes().to_vec(),
             Task::Write(spelling) => {
                 let mut all = Vec::new();
@@ -198,6 +250,8 @@ fn answer(literal: &Literal, source: &str, question: Question, setting: u32) -> 
         Question::Str => literal.as_str_in(source, syntax),
         Question::Decimal => literal.as_decimal_text(source),
         Question::Temporal => literal.as_temporal_text(source),
+        Question::Bits(_) => literal.as_bit_text(source),
+        Question::Packed(_) => unreachable!("packed by hand"),
     };
     digest(black_box(text.expect("a text").as_bytes()))
 }

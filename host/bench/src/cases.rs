@@ -14,6 +14,10 @@ pub enum Question {
     I64,
     Temporal,
     Date,
+    /// A bit string's digits.
+    Bits(Base),
+    /// The same, packed.
+    Packed(Base),
 }
 
 impl Question {
@@ -23,6 +27,39 @@ impl Question {
             Question::Str | Question::Refused => 4,
             Question::Decimal | Question::I64 => 1,
             Question::Temporal | Question::Date => 8,
+            Question::Bits(base) | Question::Packed(base) => base.kind(),
+        }
+    }
+}
+
+/// The base of a bit string's digits.
+#[derive(Clone, Copy, PartialEq, Debug)]
+pub enum Base {
+    Binary,
+    Hex,
+}
+
+impl Base {
+    /// The code of the literals' kind.
+    pub fn kind(self) -> u32 {
+        match self {
+            Base::Binary => 12,
+            Base::Hex => 13,
+        }
+    }
+
+    /// How many bits a digit is.
+    pub fn bits(self) -> u32 {
+        match self {
+            Base::Binary => 1,
+            Base::Hex => 4,
+        }
+    }
+
+    pub fn opening(self) -> &'static str {
+        match self {
+            Base::Binary => "B'",
+            Base::Hex => "X'",
         }
     }
 }
@@ -44,6 +81,8 @@ pub enum Task {
     Write(Spelling),
     /// The day of a number, each number a text of the source.
     Days,
+    /// Packed bytes as a bit string; what they are packed from is in the source.
+    Bits(Base),
 }
 
 /// Where a literal, or a value to write, stands in the source, and at which setting it is read.
@@ -123,6 +162,12 @@ impl Case {
 /// The two cases of one text; tools/speed.py knows them by these names.
 const TEMPORAL: &str = "temporal text";
 const DATE: &str = "date";
+/// The three cases of one bit string begin so; tools/speed.py knows them by these beginnings.
+const BITS: &str = "bit text: ";
+const PACKED: &str = "packed bits: ";
+const UNPACKED: &str = "write bits: ";
+/// Joined bit strings have segments of so many digits.
+const SEGMENT: usize = 64;
 
 const LONG: usize = 65_536;
 const NUMBERS: usize = 1000;
@@ -187,6 +232,7 @@ fn read() -> Vec<Case> {
         Case::numbers("i64, hex", Question::I64, |rng| format!("0x{:x}", rng.next() >> (1 + rng.below(62)))),
     ];
     cases.extend(dates());
+    cases.extend(bits());
     cases.extend(sparse());
     cases.extend(
         [1, 3, 6, 9, 12, 15, 18, 19].map(|digits| {
@@ -212,6 +258,40 @@ fn dates() -> [Case; 4] {
         Case::numbers("date, any day", Question::Date, any),
         Case::of("day of a number", Task::Days, 0, numbers),
     ]
+}
+
+/// The same bit strings read as their digits, packed, and written back from packed bytes: short ones of one segment, and long ones that are joined.
+fn bits() -> impl Iterator<Item = Case> {
+    const KINDS: [(Base, &str, usize); 4] = [
+        (Base::Binary, "8 binary digits", 8),
+        (Base::Hex, "32 hex digits", 32),
+        (Base::Binary, "4096 binary digits, joined", 4096),
+        (Base::Hex, "4096 hex digits, joined", 4096),
+    ];
+    KINDS.into_iter().flat_map(|(base, name, digits)| {
+        let count = if digits > SEGMENT { 1 } else { NUMBERS };
+        let tasks = [
+            (BITS, Task::Read(Question::Bits(base))),
+            (PACKED, Task::Read(Question::Packed(base))),
+            (UNPACKED, Task::Bits(base)),
+        ];
+        tasks.map(|(begin, task)| {
+            let mut rng = Rng::new(127);
+            Case::of(&format!("{begin}{name}"), task, 0, (0..count).map(|_| bit_string(&mut rng, base, digits)))
+        })
+    })
+}
+
+/// So many digits, in upper case, in segments with a line feed between.
+fn bit_string(rng: &mut Rng, base: Base, digits: usize) -> String {
+    let mut text = base.opening().to_owned();
+    for at in 0..digits {
+        if at > 0 && at % SEGMENT == 0 {
+            text.push_str("'\n'");
+        }
+        text.push(char::from(b"0123456789ABCDEF"[rng.below(1 << base.bits())]));
+    }
+    text + "'"
 }
 
 /// Names with a quote that is not doubled, some 20 bytes before it and as many behind: reading stops halfway.

@@ -6,6 +6,7 @@ mod block_asking;
 mod blocks;
 mod cases;
 mod dates;
+mod packing;
 // the same numbers from the same seed; not all of it is asked for here
 #[allow(dead_code)]
 #[path = "../../compare/src/rng.rs"]

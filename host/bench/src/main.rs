@@ -1,5 +1,6 @@
 //! Times ours and the Rust original side by side, in one process; the writers, which the original has not, beside loops that push into a `String`; dates, of
-//! which it has the text, beside a parse of that text, and the day of a number beside plain arithmetic.
+//! which it has the text, beside a parse of that text, and the day of a number beside plain arithmetic; packed bits, of which it has the digits, beside a loop that
+//! packs those.
 //!
 //!     cargo run --release -p bench                          a table, as it stands in docs/PERFORMANCE.md
 //!     cargo run --release -p bench -- --blocks              the same of strings that are read in blocks, beside single calls
