@@ -9,7 +9,9 @@ mod Demands
 mod BlockExports
 mod PlaceExports
 mod DateExports
+mod PackExports
 mod Witnesses
 mod BlockWitnesses
 mod PlaceWitnesses
 mod DateWitnesses
+mod PackWitnesses
