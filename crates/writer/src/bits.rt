@@ -19,7 +19,7 @@ ghost use Rattle.writer.specs.Texts.{PutBytes};
 ghost use Rattle.writer.specs.Bits.{perByte, byteDigits, digitsBy, literalBy};
 
 // The bit count rounded up to bytes. By division, since a sum could wrap.
-// Rules out: a wrapped rounding; rounding down.
+// Rules out: a rounding that wraps; rounding down (must-fail: low_bit_first, whole_bytes_only).
 fn packed_len(bits: u64) -> u64
     ensures { λ r. ⌜ r ≡ packedLength bits ⌝ }
 {
@@ -30,7 +30,7 @@ fn packed_len(bits: u64) -> u64
 }
 
 // Whether so many bits are whole digits.
-// Rules out: X with any count; X with whole bytes alone.
+// Rules out: X with any count; X with whole bytes alone (must-fail: low_bit_first, whole_bytes_only).
 fn are_whole(bits: u64, radix: BitStringRadix) -> bool
     ensures { λ r. ⌜ r ≡ eqb (bits % radixBits radix) 0 ⌝ }
 {
@@ -41,7 +41,7 @@ fn are_whole(bits: u64, radix: BitStringRadix) -> bool
 }
 
 // Whether a bit behind the last one that counts is set: those that count are shifted out of the last byte.
-// Rules out: unused bits not looked at.
+// Rules out: unused bits not looked at (must-fail: low_bit_first, whole_bytes_only).
 fn has_unused(bytes: &[u8], bits: u64) -> bool
     requires { ⌜ length (now bytes) ≡ packedLength bits ⌝ }
     ensures { λ r. ⌜ r ≡ not (allZero (drop bits (spread 8 (now (bytes .entry))))) ⌝ }
@@ -54,7 +54,7 @@ fn has_unused(bytes: &[u8], bits: u64) -> bool
 }
 
 // Whether the bytes and the count don't go together: three reasons, one answer.
-// Rules out: further bytes passed over; too few bytes let in.
+// Rules out: further bytes passed over (must-fail: further_bytes_passed_over).
 fn are_bad(bytes: &[u8], bits: u64, radix: BitStringRadix) -> bool
     ensures { λ r. ⌜ r ≡ badBits radix (now (bytes .entry)) bits ⌝ }
 {
@@ -67,7 +67,7 @@ fn are_bad(bytes: &[u8], bits: u64, radix: BitStringRadix) -> bool
     has_unused(bytes, bits)
 }
 
-// How many digits so many bits are; and how many a byte has.
+// How many digits so many bits are; and below, how many a byte has.
 fn digit_count(bits: u64, radix: BitStringRadix) -> u64
     ensures { λ r. ⌜ r ≡ bits / radixBits radix ⌝ }
 {
@@ -86,6 +86,7 @@ fn per_byte(radix: BitStringRadix) -> usize
     }
 }
 
+// Rules out: the letter of the other radix; a small letter (must-fail: low_bit_first, whole_bytes_only).
 fn letter_of(radix: BitStringRadix) -> u8
     ensures { λ r. ⌜ r ≡ radixLetter radix ⌝ }
 {
@@ -96,7 +97,7 @@ fn letter_of(radix: BitStringRadix) -> u8
 }
 
 // The eight binary digits of a byte. Divisors that are no variables are compiled to shifts.
-// Rules out: the low bit first.
+// Rules out: the low bit first (must-fail: low_bit_first).
 fn put_eight(byte: u8, out: &mut [u8]) -> usize
     requires { ⌜ 8 ≤ length (now out) ⌝ }
     ensures { λ r. ⌜ PutBytes (figures 2 8 byte) (now (out .entry)) r (now (out .exit)) ⌝ }
@@ -112,6 +113,8 @@ fn put_eight(byte: u8, out: &mut [u8]) -> usize
     8
 }
 
+// The digits of a byte.
+// Rules out: the low half first (must-fail: whole_bytes_only).
 fn put_byte(byte: u8, radix: BitStringRadix, out: &mut [u8]) -> usize
     requires { ⌜ perByte radix ≤ length (now out) ⌝ }
     ensures { λ r. ⌜ PutBytes (byteDigits radix byte) (now (out .entry)) r (now (out .exit)) ⌝ }
@@ -151,7 +154,7 @@ fn put_digits(bytes: &[u8], n: usize, radix: BitStringRadix, out: &mut [u8]) -> 
 }
 
 // Letter, mark, the first n digits, mark.
-// Rules out: the letter of the other radix; a mark left out.
+// Rules out: another mark (must-fail: further_bytes_passed_over).
 fn put_literal(bytes: &[u8], n: usize, radix: BitStringRadix, out: &mut [u8]) -> usize
     requires { ⌜ (n ≤ length (digitsBy radix (now bytes))) × (n + 3 ≤ length (now out)) ⌝ }
     ensures { λ r. ⌜ PutBytes (literalBy radix n (now (bytes .entry))) (now (out .entry)) r (now (out .exit)) ⌝ }
@@ -163,7 +166,7 @@ fn put_literal(bytes: &[u8], n: usize, radix: BitStringRadix, out: &mut [u8]) ->
 }
 
 // Writes bytes of so many bits as a literal, and says how long the text is; or refuses them, and leaves the buffer as lent.
-// Rules out: 12 by the bit count; 9 in digits alone (must-fail: limit_mistaken, size_for_length).
+// Rules out: 12 by the bit count; 9 ahead of 16, or in digits alone (must-fail: limit_mistaken, another_refusal_told, size_for_length).
 pub fn write_bit_literal(
     bytes: &[u8],
     bits: u64,
