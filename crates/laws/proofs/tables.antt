@@ -6,4 +6,6 @@ pub mod BlockWitnesses
 pub mod BlockControls
 pub mod PlaceWitnesses
 pub mod DateWitnesses
+pub mod PackControls
+pub mod PackWitnesses
 pub mod Starred

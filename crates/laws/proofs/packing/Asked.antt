@@ -6,7 +6,7 @@ use mathlib.Core.Bool.{Bool, true, false}
 use mathlib.Core.List.{List, [], _∷_, _++_}
 use Prim.Native.Nat.{ℕ, zero, _-_, _*_, _^_, _≤_, _<_}
 use native.Mathlib.Omega.{arith}
-use borrow.Author.Tests.{lt-ltb, leb-true}
+use borrow.Author.Tests.{lt-ltb, leb-true, le-leb, lt-leb}
 use lib.Dec.{leb, ltb}
 use lib.Pow.{pow-pos}
 use lib.ListN.{length, take, drop, replicate}
@@ -46,6 +46,23 @@ module _ (r : BitStringRadix) (l : Literal) (S t out : List ℕ) (k : l .kind �
 
   pub packed-value : (v : List ℕ) → valueOf t (bits off (2 ^ radixBits r) t) ≡ means v → packedQuestion l S out ≡ packsAs (l .span) (radixBits r) out (means v)
   packed-value v e = packed-asked ∙ ap (packsAs (l .span) (radixBits r) out) e
+
+  -- written where there is room; "the needed length in 9 counting packed bytes"
+  module _ (v : List ℕ) (e : valueOf t (bits off (2 ^ radixBits r) t) ≡ means v) where
+    counted : length (bitsIn (radixBits r) v) ≡ radixBits r * length v
+    counted = length-bitsIn (radixBits r) v
+
+    sized : length (packBits (bitsIn (radixBits r) v)) ≡ packedLength (radixBits r * length v)
+    sized = length-packBits (bitsIn (radixBits r) v) ∙ ap packedLength counted
+
+    pub packed-room : packedLength (radixBits r * length v) ≤ length out
+        → packedQuestion l S out .answer ≡ Packed′.Written (packedLength (radixBits r * length v)) (radixBits r * length v)
+    packed-room h = rw (packed-value v e, sized, counted, le-leb (packedLength (radixBits r * length v)) (length out) h)
+
+    pub packed-short : length out < packedLength (radixBits r * length v)
+        → packedQuestion l S out ≡ record { answer = Packed′.Refused (NoRoom (packedLength (radixBits r * length v))); buffer = out }
+    unfolding filled
+    packed-short h = rw (packed-value v e, sized, lt-leb (packedLength (radixBits r * length v)) (length out) h)
 
 -- WHAT IS ANSWERED. The text t is UTF-8 and means digits, which are packed, counted and put
 pub record PackedAs (r : BitStringRadix) (t out : List ℕ) (len n : ℕ) (after : List ℕ) : Type 0 where

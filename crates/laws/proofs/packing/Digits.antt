@@ -3,11 +3,12 @@
 use mathlib.Core.Path.{_≡_, refl, ap, ap₂, sym, _∙_}
 use mathlib.Core.Bool.{Bool, true, false, false≢true}
 use mathlib.Core.List.{List, [], _∷_, _++_, map, append-nil}
-use Prim.Native.Nat.{ℕ, zero, suc, _-_, _*_, _/_, _%_, _^_, _≤_, _<_}
+use Prim.Native.Nat.{ℕ, zero, suc, _+_, _-_, _*_, _/_, _%_, _^_, _≤_, _<_}
+use Prim.Native.Char.{code}
 use native.Mathlib.Nat.{lt-of-lt-of-le, add-zero, div-add-mod}
 use native.Mathlib.Omega.{arith}
-use borrow.Author.Tests.{eqb-true, lt-ltb, le-ltb}
-use lib.Dec.{eqb}
+use borrow.Author.Tests.{eqb-true, lt-ltb, le-ltb, ltb-true}
+use lib.Dec.{eqb, ltb}
 use lib.Pow.{pow-mono}
 use lib.ListN.{length, take, drop, replicate, length-drop, take-append-drop}
 use lib.Seq.{length-take-le, take-append-seam, drop-append-seam}
@@ -18,7 +19,7 @@ use Rattle.meaning.specs.Bytes.{if_then_else_, _!_, within, digit, allZero}
 use Rattle.meaning.specs.Questions.{bitBase}
 use Rattle.meaning.specs.Forms.{figure}
 use Rattle.meaning.specs.Packing.{spread, gather, bitsPer, bitsIn, packBits, radixBits, packedLength}
-use Rattle.laws.proofs.basics.Tests.{and-left, and-right, within-yes, within-bounds}
+use Rattle.laws.proofs.basics.Tests.{and-left, and-right, within-yes, within-below, within-bounds}
 use Rattle.laws.proofs.basics.Digits.{DigitsTo}
 use Rattle.laws.proofs.writing.Figures.{figure-digit}
 use Rattle.laws.proofs.packing.Gathered.{Below, units, length-spread, gather-spread, units-most, spread-gather, gather-below, gather-zeros}
@@ -43,6 +44,24 @@ radix-few Hex = omega arith
 -- ONE DIGIT. No lower-case letter
 abbrev pub Upper : List ℕ → Type 0
 Upper t = (i : ℕ) → i < length t → within 97 122 (t ! i) ≡ false
+
+-- no byte below a is one
+pub low-upper : (t : List ℕ) → Below 97 t → Upper t
+low-upper [] h i k = absurd (omega arith)
+low-upper (b ∷ t) h zero k = within-below 97 122 b (h .0)
+low-upper (b ∷ t) h (suc i) k = low-upper t (h .1) i (omega arith)
+
+figure-low : (d : ℕ) → d < 16 → figure d < 97
+unfolding figure
+figure-low d h = go (ltb d 10) refl
+  where
+    go : (x : Bool) → ltb d 10 ≡ x → (if x then code "0" + d else code "A" + (d - 10)) < 97
+    go true e = omega (arith, ltb-true d 10 e)
+    go false e = omega arith
+
+pub figures-low : (ns : List ℕ) → Below 16 ns → Below 97 (map figure ns)
+figures-low [] h = tt
+figures-low (d ∷ ns) h = (figure-low d (h .0), figures-low ns (h .1))
 
 figure-of : (b : ℕ) → digit b < 16 → within 97 122 b ≡ false → figure (digit b) ≡ b
 unfolding figure digit
@@ -142,6 +161,9 @@ module _ (k : ℕ) (some : 0 < k) (few : k ≤ 4) where
   -- and they are digits of the kind's base
   pub figures-digits : (t : List ℕ) → Below 2 t → DigitsTo (2 ^ k) (length (map figure (gather k t))) (map figure (gather k t))
   figures-digits t h = figures-at (2 ^ k) low (gather k t) (gather-below k some t h)
+
+  pub figures-upper : (t : List ℕ) → Below 2 t → Below 97 (map figure (gather k t))
+  figures-upper t h = figures-low (gather k t) (below-most (2 ^ k) 16 low (gather k t) (gather-below k some t h))
 
   -- the bits of digits are the digits again
   pub figures-bitsIn : (ds : List ℕ) → DigitsTo (2 ^ k) (length ds) ds → Upper ds → map figure (gather k (bitsIn k ds)) ≡ ds

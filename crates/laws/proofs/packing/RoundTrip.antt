@@ -1,6 +1,6 @@
 -- [02 T-07] "Two round trips are proved once over bits per digit": "bytes and count come back through either literal, read with the kind of its letter"; and a
 -- literal "comes back as it was". Each is said of a literal in a span, with room (D07-9). Assumes nothing.
-use mathlib.Core.Path.{_≡_, ap, sym, _∙_, subst}
+use mathlib.Core.Path.{_≡_, refl, ap, sym, _∙_, subst}
 use mathlib.Core.Bool.{false}
 use mathlib.Core.List.{List, [], _∷_, _++_}
 use Prim.Native.Nat.{ℕ, zero, suc, _^_, _≤_, _<_}
@@ -10,6 +10,7 @@ use borrow.Author.Tests.{le-leb}
 use lib.Pow.{pow-mono}
 use lib.ListN.{length, take, drop, length-append, List·getD-append}
 use Rattle.meaning.specs.declared.BitStringRadix.{BitStringRadix}
+use Rattle.meaning.specs.declared.BitStringRadix.the-variants.{Binary, Hex}
 use Rattle.meaning.specs.declared.LiteralKind.the-variants as Kind
 use Rattle.meaning.specs.declared.Span.{Span}
 use Rattle.meaning.specs.declared.Literal.{Literal}
@@ -24,12 +25,18 @@ use Rattle.meaning.specs.Packing.{spread, bitsIn, packBits, packsAs, packedQues
 use Rattle.meaning.specs.Packing.{bitWrites, bitWriteQuestion}
 use Rattle.laws.proofs.basics.Digits.{DigitsTo}
 use Rattle.laws.proofs.questions.Asked.{Spans}
-use Rattle.laws.proofs.packing.Gathered.{Below, below-places, spread-below, bitsIn-below, length-packBits}
+use Rattle.laws.proofs.packing.Gathered.{Below, below-append, below-places, spread-below, bitsIn-below, length-packBits}
 use Rattle.laws.proofs.packing.Digits.{radix-some, radix-few, Upper, packed-front, packed-unused, bytes-length, bytes-packed, bitsIn-figures}
-use Rattle.laws.proofs.packing.Digits.{figures-digits, figures-bitsIn}
-use Rattle.laws.proofs.packing.Segment.{bitText, bitText-means, bitText-utf8, bits-shape}
+use Rattle.laws.proofs.packing.Digits.{low-upper, figures-digits, figures-upper, figures-bitsIn}
+use Rattle.laws.proofs.packing.Segment.{bitText, bitText-segment, bitText-means, bitText-utf8, bits-shape}
 use Rattle.laws.proofs.packing.Asked.{packed-value, PackedAs, packed-written, packed-bytes, packed-count}
 use Rattle.laws.proofs.packing.Reverse.{Fine, bit-accepted, bit-wrote, bit-writes, bitWrites-all}
+
+-- "a literal of just one segment", which its text is (D07-8), "with an upper-case letter equal to its kind, upper-case digits": no byte is a lower-case letter
+pub record OneUpper (r : BitStringRadix) (t : List ℕ) : Type 0 where
+  pub alone : segment off t ≡ length t
+  pub letter : t ! 0 ≡ radixLetter r
+  pub upper : (i : ℕ) → i < length t → within 97 122 (t ! i) ≡ false
 
 -- FROM BYTES. Digits whose bits pack into given bytes
 packs-all : (s : Span) (k : ℕ) (d v t bytes : List ℕ) (n : ℕ) → bitsIn k v ≡ t → packBits t ≡ bytes → length t ≡ n → length bytes ≤ length d
@@ -42,34 +49,49 @@ below-take m zero t h = tt
 below-take m (suc n) [] h = tt
 below-take m (suc n) (b ∷ t) h = (h .0, below-take m n t (h .1))
 
--- "accepted": bytes that are numbers below 256, as lent bytes are; a count that the reverse takes; and the literal that it writes
-module _ (r : BitStringRadix) (bytes : List ℕ) (n : ℕ) (below : (i : ℕ) → bytes ! i < 256) (fine : Fine r bytes n) where
-  bits-of : List ℕ
-  bits-of = take n (spread 8 bytes)
-
-  bits-below : Below 2 bits-of
-  unfolding bits-of
+module _ (r : BitStringRadix) (bytes : List ℕ) (n : ℕ) where
+  bits-below : Below 2 (take n (spread 8 bytes))
   bits-below = below-take 2 n (spread 8 bytes) (spread-below 8 bytes)
-
-  digits-of : DigitsTo (2 ^ radixBits r) (length (bitDigits r bytes n)) (bitDigits r bytes n)
-  unfolding bits-of bitDigits
-  digits-of = figures-digits (radixBits r) (radix-some r) (radix-few r) bits-of bits-below
 
   low : 2 ^ radixBits r ≤ 16
   low = pow-mono (radix-few r)
 
-  pub literal-packs : (l : Literal) (S d : List ℕ) → l .kind ≡ Kind.BitString r → Spans l S (bitLiteral r bytes n) → length bytes ≤ length d
-      → packedQuestion l S d ≡ record { answer = Packed′.Written (length bytes) n; buffer = bytes ++ drop (length bytes) d }
-  unfolding bits-of bitDigits bitLiteral
-  literal-packs l S d k h room =
-      let ds : List ℕ = bitDigits r bytes n in
-      let size : length bits-of ≡ n = bytes-length bytes n (fine .size) in
-      packed-value r l S (bitText r ds) d k h (bitText-utf8 r ds (λ i j. lt-of-lt-of-le (digits-of i j) low)) ds
-      (bitText-means r off (2 ^ radixBits r) low ds digits-of)
-      ∙ packs-all (l .span) (radixBits r) d ds bits-of bytes n
-      (bitsIn-figures (radixBits r) (radix-some r) (radix-few r) bits-of bits-below (rw size (fine .whole)))
-      (bytes-packed bytes n (fine .size) (below-places 256 bytes (λ i j. below i)) (fine .unused)) size room
+  digits-of : DigitsTo (2 ^ radixBits r) (length (bitDigits r bytes n)) (bitDigits r bytes n)
+  unfolding bitDigits
+  digits-of = figures-digits (radixBits r) (radix-some r) (radix-few r) (take n (spread 8 bytes)) bits-below
 
+  digits-low : DigitsTo 16 (length (bitDigits r bytes n)) (bitDigits r bytes n)
+  digits-low i h = lt-of-lt-of-le (digits-of i h) low
+
+  -- "Digits are written in upper case": what the reverse writes is such a literal, whatever the bytes and the count are
+  pub written-one : OneUpper r (bitLiteral r bytes n)
+  unfolding bitLiteral bitDigits
+  written-one =
+      let upper = figures-upper (radixBits r) (radix-some r) (radix-few r) (take n (spread 8 bytes)) bits-below in
+      record {
+        alone = bitText-segment r off (bitDigits r bytes n) digits-low;
+        letter = refl;
+        upper = low-upper (bitLiteral r bytes n) (letter-low r, (omega arith, below-append 97 (bitDigits r bytes n) (quote ∷ []) upper (omega arith, tt)));
+      }
+    where
+      letter-low : (r : BitStringRadix) → radixLetter r < 97
+      letter-low Binary = omega arith
+      letter-low Hex = omega arith
+
+  -- bytes are numbers below 256, as lent bytes are; the count is one that gives no 16
+  module _ (below : (i : ℕ) → bytes ! i < 256) (fine : Fine r bytes n) where
+    pub literal-packs : (l : Literal) (S d : List ℕ) → l .kind ≡ Kind.BitString r → Spans l S (bitLiteral r bytes n) → length bytes ≤ length d
+        → packedQuestion l S d ≡ record { answer = Packed′.Written (length bytes) n; buffer = bytes ++ drop (length bytes) d }
+    unfolding bitDigits bitLiteral
+    literal-packs l S d k h room =
+        let ds : List ℕ = bitDigits r bytes n in
+        let size : length (take n (spread 8 bytes)) ≡ n = bytes-length bytes n (fine .size) in
+        packed-value r l S (bitText r ds) d k h (bitText-utf8 r ds digits-low) ds (bitText-means r off (2 ^ radixBits r) low ds digits-of)
+        ∙ packs-all (l .span) (radixBits r) d ds (take n (spread 8 bytes)) bytes n
+        (bitsIn-figures (radixBits r) (radix-some r) (radix-few r) (take n (spread 8 bytes)) bits-below (rw size (fine .whole)))
+        (bytes-packed bytes n (fine .size) (below-places 256 bytes (λ i j. below i)) (fine .unused)) size room
+
+-- "bytes and count come back through either literal, read with the kind of its letter"
 pub bytes-round-trip : (r : BitStringRadix) (bytes : List ℕ) (n : ℕ) (out : List ℕ) (m : ℕ) → ((i : ℕ) → bytes ! i < 256)
     → bitWriteQuestion r bytes n out .answer ≡ BitWriting′.Written m
     → (l : Literal) (S d : List ℕ) → l .kind ≡ Kind.BitString r → Spans l S (take m (bitWriteQuestion r bytes n out .buffer)) → length bytes ≤ length d
@@ -77,31 +99,23 @@ pub bytes-round-trip : (r : BitStringRadix) (bytes : List ℕ) (n : ℕ) (out : 
 bytes-round-trip r bytes n out m below e l S d k h room =
     literal-packs r bytes n below (bit-accepted r bytes n out m e .1) l S d k (rw (bit-wrote r bytes n out m e) at h) room
 
--- FROM A LITERAL. "a literal of just one segment", which its text is (D07-8), "with an upper-case letter equal to its kind, upper-case digits": no byte is a
--- lower-case letter
-pub record OneUpper (r : BitStringRadix) (t : List ℕ) : Type 0 where
-  pub alone : segment off t ≡ length t
-  pub letter : t ! 0 ≡ radixLetter r
-  pub upper : (i : ℕ) → i < length t → within 97 122 (t ! i) ≡ false
+-- FROM A LITERAL. What packing answers is what the reverse takes: never 16
+pub packed-fine : {r : BitStringRadix} {t out : List ℕ} {len n : ℕ} {after : List ℕ} → PackedAs r t out len n after → Fine r (take len after) n
+packed-fine {r} a =
+    let b : List ℕ = bitsIn (radixBits r) (a .value) in
+    record {
+      size = rw (packed-bytes a) (length-packBits b ∙ ap packedLength (sym (a .count)));
+      whole = rw (packed-count a) (mul-mod-right (radixBits r) (length (a .value)));
+      unused = rw (packed-bytes a, a .count) (packed-unused b (bitsIn-below (radixBits r) (a .value)));
+    }
 
--- its digits are in upper case
 digits-upper : (r : BitStringRadix) (ds : List ℕ) → Upper (bitText r ds) → Upper ds
 digits-upper r ds u i h = rw (List·getD-append ds (quote ∷ []) 0 i h) at (u (suc (suc i)) (omega (arith, length-append ds (quote ∷ []))))
 
--- packed, it is what the reverse takes, and the reverse writes it
+-- and the reverse writes such a literal's text
 module _ (r : BitStringRadix) (t out : List ℕ) (len n : ℕ) (after : List ℕ) (one : OneUpper r t) (a : PackedAs r t out len n after) where
   shape : (t ≡ bitText r (a .value)) × DigitsTo (2 ^ radixBits r) (length (a .value)) (a .value)
   shape = bits-shape r off (2 ^ radixBits r) t (a .value) (one .alone) (one .letter) (a .reads)
-
-  pub packed-fine : Fine r (take len after) n
-  packed-fine =
-      let b : List ℕ = bitsIn (radixBits r) (a .value) in
-      let below = bitsIn-below (radixBits r) (a .value) in
-      record {
-        size = rw (packed-bytes a) (length-packBits b ∙ ap packedLength (sym (a .count)));
-        whole = rw (packed-count a) (mul-mod-right (radixBits r) (length (a .value)));
-        unused = rw (packed-bytes a, a .count) (packed-unused b below);
-      }
 
   pub packed-literal : bitLiteral r (take len after) n ≡ t
   unfolding bitLiteral bitDigits
@@ -111,6 +125,7 @@ module _ (r : BitStringRadix) (t out : List ℕ) (len n : ℕ) (after : List ℕ
       let upper : Upper (a .value) = digits-upper r (a .value) (subst Upper (shape .0) (one .upper)) in
       rw (e, figures-bitsIn (radixBits r) (radix-some r) (radix-few r) (a .value) (shape .1) upper) (sym (shape .0))
 
+-- it "comes back as it was", where its packed bytes are "within the limit"
 pub literal-round-trip : (r : BitStringRadix) (l : Literal) (S t d : List ℕ) (len n : ℕ) → l .kind ≡ Kind.BitString r → Spans l S t → OneUpper r t
     → packedQuestion l S d .answer ≡ Packed′.Written len n → len ≤ 268435456 → (e : List ℕ) → length t ≤ length e
     → bitWriteQuestion r (take len (packedQuestion l S d .buffer)) n e
@@ -119,5 +134,5 @@ literal-round-trip r l S t d len n k h one answered limit e room =
     let a = packed-written r l S t d k h len n answered in
     let after : List ℕ = packedQuestion l S d .buffer in
     let size : length (take len after) ≡ len = ap length (packed-bytes a) ∙ sym (a .size) in
-    bit-writes r (take len after) n e (rw size limit) (packed-fine r t d len n after one a)
+    bit-writes r (take len after) n e (rw size limit) (packed-fine a)
     ∙ ap (λ (x : List ℕ). bitWrites x e) (packed-literal r t d len n after one a) ∙ bitWrites-all t e room
