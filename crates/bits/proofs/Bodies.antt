@@ -1,24 +1,24 @@
 -- Segments by their openings and bodies, as bits read them. Assumes nothing.
 use mathlib.Core.Path.{_≡_, refl, ap, sym, _∙_}
-use mathlib.Core.Bool.{Bool, true, false, _&&_, _||_, false≢true}
+use mathlib.Core.Bool.{Bool, true, false, _&&_, false≢true}
 use mathlib.Core.List.{List, [], _∷_, _++_}
 use Prim.Native.Nat.{ℕ, zero, suc, _+_, _-_, _<_}
 use native.Mathlib.Omega.{arith}
 use lib.Dec.{eqb}
 use lib.ListN.{length, take, drop, getD, length-take, length-drop}
 use lib.Seq.{getD-drop, getD-take}
-use borrow.Author.Tests.{eqb-true}
 use Rattle.meaning.specs.declared.Settings.{Settings}
 use Rattle.meaning.specs.Bytes.{if_then_else_, _!_, part, ascii, has, quote, isMark, allDigits}
 use Rattle.meaning.specs.Walk.{Step, keep, give, stop, Trace, ended, stopped, kept, gave, after, walk, stops, value}
 use Rattle.meaning.specs.Cutting.{opening, segment, segmentBy, segmentStep}
 use Rattle.meaning.specs.Reading.{means, fails, each}
 use Rattle.meaning.specs.Kinds.{bitBody, firstBits, laterBits}
-use Rattle.laws.proofs.basics.Tests.{if-suc, and-right}
+use Rattle.laws.proofs.basics.Tests.{and-right}
 use Rattle.laws.proofs.basics.Digits.{DigitsTo, allDigits-at}
 use Rattle.laws.proofs.cutting.Gaps.{gap-fits}
 use Rattle.laws.proofs.cutting.Openings.{segment-fits}
 use Rattle.laws.proofs.joining.Joining.{fails≢means, both-means}
+use Rattle.laws.proofs.packing.Segment as openings
 use Rattle.laws.proofs.questions.Ranges.{part-inside}
 use Rattle.laws.proofs.walking.StepBounds.{Bounded, Steady}
 use Rattle.cutting.proofs.Cursors.{Unit-at}
@@ -31,19 +31,8 @@ quote-opens [] e = absurd (false≢true e)
 quote-opens (b ∷ s) e = rw e
 
 pub letter-opens : (s : List ℕ) (n : ℕ) → has (s ! 0) (ascii "BbXx") ≡ true → opening s ≡ suc n → suc n ≡ 2
-unfolding isMark
 letter-opens [] n e o = absurd (omega arith)
-letter-opens (b ∷ s) n e o = go (eqb b 66) (eqb b 98) (eqb b 88) (eqb b 120) refl refl refl refl e
-  where
-    two : (c : ℕ) → eqb b c ≡ true → opening (c ∷ s) ≡ (if eqb (s ! 0) quote then 2 else 0) → suc n ≡ 2
-    two c q f = sym (if-suc (eqb (s ! 0) quote) 2 n (sym f ∙ ap (λ (x : ℕ). opening (x ∷ s)) (sym (eqb-true b c q)) ∙ o) .1)
-
-    go : (x y z w : Bool) → eqb b 66 ≡ x → eqb b 98 ≡ y → eqb b 88 ≡ z → eqb b 120 ≡ w → (x || (y || (z || (w || false)))) ≡ true → suc n ≡ 2
-    go true y z w ex ey ez ew h = two 66 ex refl
-    go false true z w ex ey ez ew h = two 98 ey refl
-    go false false true w ex ey ez ew h = two 88 ez refl
-    go false false false true ex ey ez ew h = two 120 ew refl
-    go false false false false ex ey ez ew h = absurd (false≢true h)
+letter-opens (b ∷ s) n e o = omega (arith, openings.letter-opens b s n e o .0)
 
 -- A BODY, by its test and its digits; o bytes open the segment, n if the test holds
 bits-by : (β n o : ℕ) (x d : Bool) (s v : List ℕ) → (x ≡ true → o ≡ n) → part o (length s - 1) s ≡ v → d ≡ allDigits β v

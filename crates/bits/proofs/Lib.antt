@@ -7,4 +7,3 @@ pub mod Radix
 pub mod Inking
 pub mod Runs
 pub mod Packings
-pub mod Inside

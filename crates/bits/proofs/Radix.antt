@@ -11,6 +11,7 @@ use Rattle.meaning.specs.declared.BitStringRadix.{BitStringRadix}
 use Rattle.meaning.specs.declared.BitStringRadix.the-variants.{Binary, Hex}
 use Rattle.meaning.specs.Bytes.{if_then_else_}
 use Rattle.meaning.specs.Packing.{radixBits, packedLength}
+use Rattle.laws.proofs.packing.Digits.{radix-some}
 
 pub base-binary : (r : BitStringRadix) → r ≡ Binary → 2 ≡ 2 ^ radixBits r
 base-binary r e = rw e
@@ -19,10 +20,6 @@ pub base-hex : (r : BitStringRadix) → r ≡ Hex → 16 ≡ 2 ^ radixBits r
 base-hex r e = rw e
 
 -- a digit has some bits, and a byte has whole digits
-pub radix-some : (r : BitStringRadix) → 0 < radixBits r
-radix-some Binary = omega arith
-radix-some Hex = omega arith
-
 pub bits-some : (r : BitStringRadix) (k : ℕ) → k ≡ radixBits r → 0 < k
 bits-some r k e = rw e (radix-some r)
 

@@ -18,7 +18,8 @@ use Rattle.laws.proofs.basics.Digits.{DigitsTo}
 use Rattle.laws.proofs.basics.Laying.{laid-same}
 use Rattle.bits.specs.declared.pens.Pen.{Pen}
 use Rattle.bits.specs.Pens.{DigitsAt, Packing, Packable}
-use Rattle.bits.proofs.Radix.{radix-some, radix-whole}
+use Rattle.laws.proofs.packing.Digits.{radix-some}
+use Rattle.bits.proofs.Radix.{radix-whole}
 use Rattle.bits.proofs.Inking.{digit-fits, double-fits, full-inside, packing-full, more-left, packing-more, whole-inside, packing-whole}
 
 -- the first i digits are packed

@@ -143,72 +143,81 @@ module _ (σ : Settings) (β : ℕ) (t : List ℕ) (i : ℕ) (z : i ≡ 0) (r : 
           go true k = bits-by true k (fails 0) (first false (not-true (x && d) n))
           go false k = bits-by false k (fails 0) (first false (not-true (x && d) n))
 
-      -- the later segments, as they were measured
-      module _ (n : not (x && d) ≡ false) (a : Later)
-          (m : Measures (each (laterBits β) (cut σ (take (length t - c .at) (drop (c .at) t)))) (length (take (length t - c .at) (drop (c .at) t))) a) where
+      module _ (n : not (x && d) ≡ false) where
         right : (x && d) ≡ true
         right = not-false (x && d) n
 
-        told : laterOf (each (laterBits β) (cut σ (drop (c .at) t))) ≡ a
-        told = ap (λ (w : List ℕ). laterOf (each (laterBits β) (cut σ w))) (sym (part-tail t (c .at))) ∙ sym (m .answer)
+        two : o ≡ 2
+        two = letter-two unit β b d eb digits (sym ex ∙ and-left x d right)
 
-        number-inside : c .at + numberIn a ≤ length t
-        number-inside = omega (arith, m .within, length-take (length t - c .at) (drop (c .at) t), length-drop (c .at) t, unit .inside)
+        -- the answer, by what the later segments mean
+        answered : (w : List ℕ) → each (laterBits β) (cut σ (drop (c .at) t)) ≡ means w → bodies σ (drop (c .at) t) ≡ w
+            → (y : Bool) → eqb u (length t) ≡ y
+            → bits σ β t ≡ (if eqb (u - 1 + 1) (length t) then borrowed o (u - 1) else written (part o (u - 1) t ++ bodies σ (drop (c .at) t)))
+        answered w ew eg true f =
+            let l = eqb-true u (length t) f in
+            let p : u - 1 + 1 ≡ length t = omega (arith, unit .some) in
+            bits-by true f (means (take (u - 1 - o) (drop o t))) (first true right)
+            ∙ ap₂ (λ (i j : ℕ). borrowed i (j - 1)) (sym two) (sym l)
+            ∙ rw (eq-eqb (u - 1 + 1) (length t) p)
+        answered w ew eg false f =
+            let p : u - 1 + 1 ≡ u = omega (arith, unit .some) in
+            bits-by false f (means (take (u - 1 - o) (drop o t))) (first true right)
+            ∙ ap (λ (v : Value). asWritten (both (means (take (u - 1 - o) (drop o t))) (onward (c .at) v))) ew
+            ∙ rw (p, f, eg)
 
-        pub place-fits : (p : ℕ) → a ≡ Later′.Refused p → c .at + p ≤ length t
-        place-fits p k = omega (arith, number-inside, ap numberIn k)
-
-        pub finds-refused : (p : ℕ) → a ≡ Later′.Refused p → Finds σ β t (Digits′.Refused (c .at + p))
-        finds-refused p k = finds-bad σ β t (c .at + p) (go (eqb u (length t)) refl)
-          where
-            bad : each (laterBits β) (cut σ (drop (c .at) t)) ≡ fails p
-            bad = later-fails (each (laterBits β) (cut σ (drop (c .at) t))) p (told ∙ k)
-
-            go : (y : Bool) → eqb u (length t) ≡ y → bits σ β t ≡ refused (c .at + p)
-            go true h =
-                absurd
-                (fails≢means p [] (sym bad ∙ later-none σ β (c .at) t (omega (arith, eqb-true u (length t) h, unit .ends))))
-            go false h =
-                bits-by false h (means (take (u - 1 - o) (drop o t))) (first true right)
-                ∙ ap (λ (w : Value). asWritten (both (means (take (u - 1 - o) (drop o t))) (onward (c .at) w))) bad
-
-        pub finds-found : (k : ℕ) → a ≡ Later′.Length k → Finds σ β t (Digits′.Found o (u - 1) (c .at) k)
+        found : (k : ℕ) (w : List ℕ) → each (laterBits β) (cut σ (drop (c .at) t)) ≡ means w → length w ≡ k → c .at + k ≤ length t
+            → Finds σ β t (Digits′.Found o (u - 1) (c .at) k)
         unfolding cut
-        finds-found k h =
-            let w = later-means (each (laterBits β) (cut σ (drop (c .at) t))) k (told ∙ h) in
-            let g = each-bodies σ β 0 (drop (c .at) t) (w .0) (w .1) in
+        found k w ew l h =
+            let g = each-bodies σ β 0 (drop (c .at) t) w ew in
             finds-at σ β t o (u - 1) (c .at) k
             record {
               body = first-ordered;
               behind = omega (arith, unit .some, unit .ends);
               inside = unit .inside;
               goes = g .0;
-              count = ap length (g .1) ∙ w .2;
-              within = omega (arith, number-inside, ap numberIn h, unit .some, unit .ends);
+              count = ap length (g .1) ∙ l;
+              within = omega (arith, unit .some, unit .ends);
               digits =
                   rw (g .1)
-                  (digits-append β (take (u - 1 - o) (drop o t)) (w .0) (allDigits-at β (take (u - 1 - o) (drop o t)) (sym ed ∙ and-right x d right))
-                  (each-digits β (cut σ (drop (c .at) t)) (w .0) (w .1)));
-              answer = go (w .0) (w .1) (g .1) (eqb u (length t)) refl;
+                  (digits-append β (take (u - 1 - o) (drop o t)) w (allDigits-at β (take (u - 1 - o) (drop o t)) (sym ed ∙ and-right x d right))
+                  (each-digits β (cut σ (drop (c .at) t)) w ew));
+              answer = answered w ew (g .1) (eqb u (length t)) refl;
             }
-          where
-            two : o ≡ 2
-            two = letter-two unit β b d eb digits (sym ex ∙ and-left x d right)
 
-            go : (w : List ℕ) → each (laterBits β) (cut σ (drop (c .at) t)) ≡ means w → bodies σ (drop (c .at) t) ≡ w
-                → (y : Bool) → eqb u (length t) ≡ y
-                → bits σ β t ≡ (if eqb (u - 1 + 1) (length t) then borrowed o (u - 1) else written (part o (u - 1) t ++ bodies σ (drop (c .at) t)))
-            go w ew eg true f =
-                let l = eqb-true u (length t) f in
-                let p : u - 1 + 1 ≡ length t = omega (arith, unit .some) in
-                bits-by true f (means (take (u - 1 - o) (drop o t))) (first true right)
-                ∙ ap₂ (λ (i j : ℕ). borrowed i (j - 1)) (sym two) (sym l)
-                ∙ rw (eq-eqb (u - 1 + 1) (length t) p)
-            go w ew eg false f =
-                let p : u - 1 + 1 ≡ u = omega (arith, unit .some) in
-                bits-by false f (means (take (u - 1 - o) (drop o t))) (first true right)
-                ∙ ap (λ (v : Value). asWritten (both (means (take (u - 1 - o) (drop o t))) (onward (c .at) v))) ew
-                ∙ rw (p, f, eg)
+        -- there are none
+        pub finds-lone : u ≡ length t → Finds σ β t (Digits′.Found o (u - 1) (c .at) 0)
+        finds-lone e = found 0 [] (later-none σ β (c .at) t (omega (arith, unit .ends))) refl (omega (arith, unit .inside))
+
+        -- as they were measured
+        module _ (a : Later)
+            (m : Measures (each (laterBits β) (cut σ (take (length t - c .at) (drop (c .at) t)))) (length (take (length t - c .at) (drop (c .at) t))) a) where
+          told : laterOf (each (laterBits β) (cut σ (drop (c .at) t))) ≡ a
+          told = ap (λ (w : List ℕ). laterOf (each (laterBits β) (cut σ w))) (sym (part-tail t (c .at))) ∙ sym (m .answer)
+
+          number-inside : c .at + numberIn a ≤ length t
+          number-inside = omega (arith, m .within, length-take (length t - c .at) (drop (c .at) t), length-drop (c .at) t, unit .inside)
+
+          pub place-fits : (p : ℕ) → a ≡ Later′.Refused p → c .at + p ≤ length t
+          place-fits p k = omega (arith, number-inside, ap numberIn k)
+
+          pub finds-refused : (p : ℕ) → a ≡ Later′.Refused p → Finds σ β t (Digits′.Refused (c .at + p))
+          finds-refused p k = finds-bad σ β t (c .at + p) (go (eqb u (length t)) refl)
+            where
+              bad : each (laterBits β) (cut σ (drop (c .at) t)) ≡ fails p
+              bad = later-fails (each (laterBits β) (cut σ (drop (c .at) t))) p (told ∙ k)
+
+              go : (y : Bool) → eqb u (length t) ≡ y → bits σ β t ≡ refused (c .at + p)
+              go true h = absurd (fails≢means p [] (sym bad ∙ later-none σ β (c .at) t (omega (arith, eqb-true u (length t) h, unit .ends))))
+              go false h =
+                  bits-by false h (means (take (u - 1 - o) (drop o t))) (first true right)
+                  ∙ ap (λ (w : Value). asWritten (both (means (take (u - 1 - o) (drop o t))) (onward (c .at) w))) bad
+
+          pub finds-found : (k : ℕ) → a ≡ Later′.Length k → Finds σ β t (Digits′.Found o (u - 1) (c .at) k)
+          finds-found k h =
+              let w = later-means (each (laterBits β) (cut σ (drop (c .at) t))) k (told ∙ h) in
+              found k (w .0) (w .1) (w .2) (omega (arith, number-inside, ap numberIn h))
 
 -- READ, as it was found
 module _ {σ : Settings} {β : ℕ} {t : List ℕ} {r : Digits} (a : Finds σ β t r) where

@@ -41,6 +41,14 @@ pub(crate) fn find_digits(text: &[u8], base: u8, settings: Settings) -> Digits
                 return Digits::Refused { place: 0 };
             }
             let at = next.at;
+            if end == text.len() {
+                return Digits::Found {
+                    from: open,
+                    last,
+                    at,
+                    later: 0,
+                };
+            }
             match measure_later(&text[at..], base, settings) {
                 Later::Length(later) => Digits::Found {
                     from: open,

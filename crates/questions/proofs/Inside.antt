@@ -1,4 +1,4 @@
--- What each reader borrows lies in its text. Of strings and temporal texts this is Ranges' read-inside and temporal-inside, of bits their own, of a charset's name
+-- What each reader borrows lies in its text. Of strings and temporal texts this is Ranges' read-inside and temporal-inside, of bits Segment's bits-inside, of a charset's name
 -- AgreedParts' charset-inside. Assumes nothing.
 use mathlib.Core.Path.{_≡_, refl}
 use mathlib.Core.Bool.{Bool, true, false, not}

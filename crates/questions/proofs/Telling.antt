@@ -28,6 +28,7 @@ use Rattle.meaning.specs.Answers.{Meets, kindCode}
 use Rattle.meaning.specs.Questions as Definition
 use Rattle.meaning.specs.Questions.{tested, stringQuestion, decimalQuestion, bitsQuestion, temporalQuestion}
 use Rattle.laws.proofs.questions.Ranges.{read-inside, temporal-inside}
+use Rattle.laws.proofs.packing.Segment.{bits-inside}
 use Rattle.admitting.specs.declared.tests.Tested.{Tested}
 use Rattle.admitting.specs.declared.tests.Tested.the-variants.{Passes, Barred}
 use Rattle.admitting.specs.Tests.{Tests, Locates}
@@ -40,7 +41,6 @@ use Rattle.strings.proofs.AsciiRows.{ascii-utf8}
 use Rattle.strings.proofs.Fits.{ascii-long, ascii-reads}
 use Rattle.questions.specs.Told.{placeOf, toldBy, InText, bitBaseBy}
 use Rattle.questions.proofs.Moved.{fits-text, told-meets, told-barred}
-use Rattle.bits.proofs.Inside.{bits-inside}
 use Rattle.questions.proofs.Inside.{decimal-inside}
 
 -- NO SUM WRAPS

@@ -147,7 +147,7 @@ letter-of b h = go (eqb b 66) (eqb b 98) (eqb b 88) (eqb b 120) refl refl refl r
     go false false false true e f g i h = at 120 i (refl, refl)
     go false false false false e f g i h = absurd (false≢true h)
 
-letter-opens : (b : ℕ) (u : List ℕ) (n : ℕ) → has b (ascii "BbXx") ≡ true → opening (b ∷ u) ≡ suc n → (n ≡ 1) × (u ! 0 ≡ quote)
+pub letter-opens : (b : ℕ) (u : List ℕ) (n : ℕ) → has b (ascii "BbXx") ≡ true → opening (b ∷ u) ≡ suc n → (n ≡ 1) × (u ! 0 ≡ quote)
 letter-opens b u n h o = go (opens b u n o)
   where
     go : {n : ℕ} → Opens b u n → (n ≡ 1) × (u ! 0 ≡ quote)

@@ -1,7 +1,7 @@
 -- `bits::finding::find_digits` meets its contract: the first segment's letter and digits, and what is measured behind it, say where the digits stand. Assumes nothing.
 use native.Mathlib.Omega.{arith}
 use Rattle.bits.proofs.Wholes.{first-some, first-ordered, first-inside, rest-inside, place-fits}
-use Rattle.bits.proofs.Wholes.{finds-end, finds-remainder, finds-no-bits, finds-refused, finds-found}
+use Rattle.bits.proofs.Wholes.{finds-end, finds-remainder, finds-no-bits, finds-lone, finds-refused, finds-found}
 use borrow.Author.Needs.{needs}
 use Rattle.bits.proofs.finding.find_digits.Statement.{statement}
 use Rattle.bits.proofs.finding.find_digits.Tie as tie
@@ -39,6 +39,9 @@ are-digits-requires c κs = search needs
 returns : tie.Need-returns
 returns c = search finds-no-bits
 
+returns-2 : tie.Need-returns-2
+returns-2 c = search finds-lone
+
 sub-measure-later : tie.Need-sub-measure-later
 sub-measure-later c = search rest-inside
 
@@ -60,9 +63,8 @@ enum-known-place c = search needs
 add-t28 : tie.Need-add-t28
 add-t28 c =
     let h =
-    place-fits _ _ _ _ (c .before .before .before .before .before .before .before .before .before .before .before .before .before .before .new .ensures) _ (c .before .before .before .before .before .before .before .before .before .before .before .before .before .next .ensures) _ _ _ _ (c .before .before .before .before .before .before .before .before .before .before .before .«open» .given .1) _ _ _
-    (c .before .before .before .before .before .before .before .before .before .byte-at .ensures) (c .before .before .before .before .before .before .before .before .is-bit-letter .ensures) (c .before .before .before .before .before .before .are-digits .ensures) (c .before .before .before .before .before .if1 .left) _
-    (c .before .before .before .measure-later .ensures) _ (c .before .place .given .1) in
+    place-fits _ _ _ _ (c .before .before .before .before .before .before .before .before .before .before .before .before .before .before .before .new .ensures) _ (c .before .before .before .before .before .before .before .before .before .before .before .before .before .before .next .ensures) _ _ _ _ (c .before .before .before .before .before .before .before .before .before .before .before .before .«open» .given .1) _ _ _ (c .before .before .before .before .before .before .before .before .before .before .byte-at .ensures)
+    (c .before .before .before .before .before .before .before .before .before .is-bit-letter .ensures) (c .before .before .before .before .before .before .before .are-digits .ensures) (c .before .before .before .before .before .before .if1 .left) _ (c .before .before .before .measure-later .ensures) _ (c .before .place .given .1) in
     omega (arith, h)
 
 enum-told : tie.Need-enum-told
@@ -71,19 +73,19 @@ enum-told c = search needs
 enum-told-2 : tie.Need-enum-told-2
 enum-told-2 c = search needs
 
-returns-2 : tie.Need-returns-2
-returns-2 c =
-    finds-found _ _ _ _ (c .before .before .before .before .before .before .before .before .before .before .before .before .before .before .new .ensures) _ (c .before .before .before .before .before .before .before .before .before .before .before .before .before .next .ensures) _ _ _ _ (c .before .before .before .before .before .before .before .before .before .before .before .«open» .given .1) _ _ _ (c .before .before .before .before .before .before .before .before .before .byte-at .ensures)
-    (c .before .before .before .before .before .before .before .before .is-bit-letter .ensures) (c .before .before .before .before .before .before .are-digits .ensures) (c .before .before .before .before .before .if1 .left) _ (c .before .before .before .measure-later .ensures) _ (c .before .later .given .1)
-
 returns-3 : tie.Need-returns-3
-returns-3 c = search finds-refused
+returns-3 c =
+    finds-found _ _ _ _ (c .before .before .before .before .before .before .before .before .before .before .before .before .before .before .before .new .ensures) _ (c .before .before .before .before .before .before .before .before .before .before .before .before .before .before .next .ensures) _ _ _ _ (c .before .before .before .before .before .before .before .before .before .before .before .before .«open» .given .1) _ _ _ (c .before .before .before .before .before .before .before .before .before .before .byte-at .ensures)
+    (c .before .before .before .before .before .before .before .before .before .is-bit-letter .ensures) (c .before .before .before .before .before .before .before .are-digits .ensures) (c .before .before .before .before .before .before .if1 .left) _ (c .before .before .before .measure-later .ensures) _ (c .before .later .given .1)
 
 returns-4 : tie.Need-returns-4
-returns-4 c = search finds-end
+returns-4 c = search finds-refused
 
 returns-5 : tie.Need-returns-5
-returns-5 c = search finds-remainder
+returns-5 c = search finds-end
+
+returns-6 : tie.Need-returns-6
+returns-6 c = search finds-remainder
 
 pub find-digits-spec : {M : Type 1} → statement M
 find-digits-spec =
@@ -100,6 +102,7 @@ find-digits-spec =
     part-are-digits-end
     are-digits-requires
     returns
+    returns-2
     sub-measure-later
     part-measure-later-start
     part-measure-later-end
@@ -109,7 +112,7 @@ find-digits-spec =
     add-t28
     enum-told
     enum-told-2
-    returns-2
     returns-3
     returns-4
-    returns-5)
+    returns-5
+    returns-6)
