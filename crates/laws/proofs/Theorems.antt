@@ -5,20 +5,21 @@ use mathlib.Core.Logic.{_⊎_, _↔_}
 use mathlib.Core.Path.{_≡_}
 use mathlib.Core.Bool.{Bool, true, false}
 use mathlib.Core.List.{List, [], _∷_, _++_, flatten}
-use Prim.Native.Nat.{ℕ, suc, _+_, _*_, _%_, _^_, _≤_, _<_}
+use Prim.Native.Nat.{ℕ, suc, _+_, _-_, _*_, _/_, _%_, _^_, _≤_, _<_}
 use lib.Dec.{T}
 use lib.IntN.{ℤ, negℤ}
-use lib.ListN.{length, getD, take, drop}
+use lib.ListN.{length, getD, take, drop, replicate}
 use denote.Ref.{RefT, now}
 use Rattle.meaning.specs.declared.Settings.{Settings}
 use Rattle.meaning.specs.declared.PartSize.{PartSize}
 use Rattle.meaning.specs.declared.Form.{Form}
 use Rattle.meaning.specs.declared.LiteralKind.{LiteralKind}
+use Rattle.meaning.specs.declared.LiteralKind.the-variants as Kind
 use Rattle.meaning.specs.declared.Span.{Span}
 use Rattle.meaning.specs.declared.Literal.{Literal}
 use Rattle.meaning.specs.declared.Refusal.{Refusal}
 use Rattle.meaning.specs.declared.LiteralExpected.the-variants as Expected
-use Rattle.meaning.specs.declared.Refusal.the-variants.{WrongKind, NotUtf8, InvalidString, InvalidDate}
+use Rattle.meaning.specs.declared.Refusal.the-variants.{WrongKind, NotUtf8, InvalidString, NoRoom, InvalidDate}
 use Rattle.meaning.specs.declared.Text.{Text}
 use Rattle.meaning.specs.declared.Text.the-variants as Text
 use Rattle.meaning.specs.declared.Writing.the-variants as Writing
@@ -26,6 +27,9 @@ use Rattle.meaning.specs.declared.CalendarDay.{CalendarDay}
 use Rattle.meaning.specs.declared.Day.the-variants as Day
 use Rattle.meaning.specs.declared.Dated.{Dated}
 use Rattle.meaning.specs.declared.Dated.the-variants as Dated
+use Rattle.meaning.specs.declared.BitStringRadix.{BitStringRadix}
+use Rattle.meaning.specs.declared.PackedBits.the-variants as Packed
+use Rattle.meaning.specs.declared.BitWriting.the-variants as BitWriting
 use Rattle.meaning.specs.declared.Read.{Read}
 use Rattle.meaning.specs.declared.Item.{Item}
 use Rattle.meaning.specs.declared.Four.{Four}
@@ -35,15 +39,15 @@ use Rattle.meaning.specs.Walk.{Step, stop, Trace, stopped, gave, walk, size, st
 use Rattle.meaning.specs.Steps.{standardStep, escapeStep, unicodeStep, checked, gap, trim}
 use Rattle.meaning.specs.Cutting.{off, opening, segment, cut, complete, continues}
 use Rattle.meaning.specs.Spelling.{spelling}
-use Rattle.meaning.specs.Kinds.{token, noToken, temporalToken, temporal}
+use Rattle.meaning.specs.Kinds.{bits, token, noToken, temporalToken, temporal}
 use Rattle.meaning.specs.Reading.{Answer, written, refused, one, alone, read, means, fails, valueOf, meaning}
 use Rattle.meaning.specs.Numbers.{fits, printed}
 use Rattle.meaning.specs.Halves.{joinedHalves, negatedHigh, negatedLow, bitsOf, textOf}
 use Rattle.meaning.specs.Helpers.{uescapeLegal, escapeValid, unicodeValid}
 use Rattle.meaning.specs.Answers.{Outcome, Meets, IsPart, textNumber, truthNumber, nullnessNumber, refusalNumber, datedNumber, kindCode, partShown}
-use Rattle.meaning.specs.Answers.{partPlace, shown}
+use Rattle.meaning.specs.Answers.{partPlace, shown, packedNumber, bitWritingNumber}
 use Rattle.meaning.specs.Reads.{Reads}
-use Rattle.meaning.specs.Questions.{badSpan, isString, isTemporal, stringQuestion, decimalQuestion, bitsQuestion, temporalQuestion, i64Question, moneyQuestion}
+use Rattle.meaning.specs.Questions.{badSpan, isString, isTemporal, bitBase, stringQuestion, decimalQuestion, bitsQuestion, temporalQuestion, i64Question, moneyQuestion}
 use Rattle.meaning.specs.Questions.{charsetQuestion, sourceQuestion, boolQuestion, nullQuestion, identifierQuestion}
 use Rattle.meaning.specs.Writer.{spells, between, partsFrom, partsOf, overLimit, partTooSmall, writtenText, writeQuestion}
 use Rattle.meaning.specs.Forms.{formOpening, formText, formQuestion}
@@ -52,6 +56,8 @@ use Rattle.meaning.specs.Codes.{isKnown, literalOf, settingsOf}
 use Rattle.meaning.specs.Blocks.{itemsOf, numbersOf, four, fourOf, itemQuestion, askedAs, itemAsked, blockAt, badBlock, BlockOutcome, blockCall, Blocks}
 use Rattle.meaning.specs.Dates.{monthLength, dayNumber, isDay, calendarDay, dateOf, lastDay, dayQuestion, isDate, spelledDay, dayIn, isDateKind, datedOn}
 use Rattle.meaning.specs.Dates.{dateQuestion}
+use Rattle.meaning.specs.Packing.{spread, gather, bitsPer, bitsIn, packsAs, packedQuestion, radixBits, bitLiteral, packedLength, badBits, bitWrites}
+use Rattle.meaning.specs.Packing.{bitWriteQuestion}
 use Rattle.meaning.proofs.Rows.{all}
 use Rattle.laws.proofs.basics.Digits as Digits
 use Rattle.laws.proofs.basics.Digits.{DigitsTo}
@@ -99,7 +105,7 @@ use Rattle.laws.proofs.questions.OnlyKinds.{ZeroOrOne}
 use Rattle.laws.proofs.questions.Sources as Sources
 use Rattle.laws.proofs.questions.Sources.{Agree}
 use Rattle.laws.proofs.questions.Buffers as Buffers
-use Rattle.laws.proofs.questions.Buffers.{TextLeaves, IdentifierLeaves, WritingLeaves}
+use Rattle.laws.proofs.questions.Buffers.{TextLeaves, IdentifierLeaves, WritingLeaves, PackedLeaves, BitWritingLeaves}
 use Rattle.laws.proofs.questions.Ranges as Ranges
 use Rattle.laws.proofs.questions.Ranges.{Bounds, Answered}
 use Rattle.laws.proofs.questions.Answered as Accepting
@@ -138,6 +144,20 @@ use Rattle.laws.proofs.dates.Joined as DateJoined
 use Rattle.laws.proofs.dates.Joined.{quoted, TwoOf}
 use Rattle.laws.proofs.dates.Called as DateCalled
 use Rattle.laws.proofs.dates.Called.{DateCall, DayCall}
+use Rattle.laws.proofs.packing.Gathered as Gathered
+use Rattle.laws.proofs.packing.Gathered.{Below, units}
+use Rattle.laws.proofs.packing.Segment.{bitText}
+use Rattle.laws.proofs.packing.Asked as PackAsked
+use Rattle.laws.proofs.packing.Asked.{PackedAs, packedNumbers}
+use Rattle.laws.proofs.packing.Reverse as PackReverse
+use Rattle.laws.proofs.packing.Reverse.{Fine, Answers, reverseNumbers}
+use Rattle.laws.proofs.packing.Long as PackLong
+use Rattle.laws.proofs.packing.RoundTrip as PackRoundTrip
+use Rattle.laws.proofs.packing.RoundTrip.{OneUpper}
+use Rattle.laws.proofs.packing.Joined as PackJoined
+use Rattle.laws.proofs.packing.Joined.{Run, runs, runDigits}
+use Rattle.laws.proofs.packing.Called as PackCalled
+use Rattle.laws.proofs.packing.Called.{PackedCall, BitWriterCall}
 use Rattle.laws.proofs.tables.Starred as Starred
 use Rattle.laws.proofs.tables.Controls as Controls
 use Rattle.laws.proofs.tables.Controls.{Program, Telling, WritesAt, ShutOut}
@@ -424,7 +444,7 @@ reads-unique = Determined.reads-unique
 pub part-unique : (v : List ℕ) (place : ℕ × ℕ) (r r′ : RefT (List ℕ)) → IsPart v place r → IsPart v place r′ → SamePart r r′
 part-unique = Determined.part-unique
 
--- "Shut out": the five wrong programs, of every question that writes at some input; `ControlsOfAll` has such an input of each question
+-- "Shut out": the five wrong programs, of every question that writes at some input; `ControlsOfAll` and `PackControls` have such an input of each question
 pub shut-out : {X A : Type 0} {question : Program X A} {told : Telling X A} {x : X} {v : List ℕ} → WritesAt question told x v → ShutOut question told x v
 shut-out = Controls.shut-out
 
@@ -891,3 +911,158 @@ pub joined-date-calls : (w a g b : List ℕ) → TwoOf w a g b → (x : DateCall
     → utf8 (w ++ (quoted a ++ (g ++ quoted b))) ≡ true → utf8 (w ++ quoted (a ++ b)) ≡ true
     → (c : CalendarDay) → (x .result ≡ Dated.On c) ↔ (y .result ≡ Dated.On c)
 joined-date-calls = DateCalled.joined-calls
+
+-- DOCUMENT 02, T-07
+-- "Answer a bit string's packed bytes and bit count": of a UTF-8 text that means digits, as many bytes as they need, and where the buffer is shorter "the needed
+-- length in 9 counting packed bytes"; and what is answered is so (`PackedAs`)
+module _ (r : BitStringRadix) (l : Literal) (S t out : List ℕ) (k : l .kind ≡ Kind.BitString r) (h : Spans l S t) where
+  pub packed-room : utf8 t ≡ true → (v : List ℕ) → valueOf t (bits off (2 ^ radixBits r) t) ≡ means v → packedLength (radixBits r * length v) ≤ length out
+      → packedQuestion l S out .answer ≡ Packed.Written (packedLength (radixBits r * length v)) (radixBits r * length v)
+  packed-room = PackAsked.packed-room r l S t out k h
+
+  pub packed-short : utf8 t ≡ true → (v : List ℕ) → valueOf t (bits off (2 ^ radixBits r) t) ≡ means v → length out < packedLength (radixBits r * length v)
+      → packedQuestion l S out ≡ record { answer = Packed.Refused (NoRoom (packedLength (radixBits r * length v))); buffer = out }
+  packed-short = PackAsked.packed-short r l S t out k h
+
+  pub packed-written : (len n : ℕ) → packedQuestion l S out .answer ≡ Packed.Written len n → PackedAs r t out len n (packedQuestion l S out .buffer)
+  packed-written = PackAsked.packed-written r l S t out k h
+
+-- "A binary digit is one bit, a hex digit four; the first bit is the top bit of the first byte; unused low bits of the last byte are zero": the packed bytes'
+-- bits, the top one first, are the digits' bits and then fewer than eight zeros
+module _ {r : BitStringRadix} {t out : List ℕ} {len n : ℕ} {after : List ℕ} (a : PackedAs r t out len n after) where
+  pub packed-count : n ≡ radixBits r * length (a .value)
+  packed-count = PackAsked.packed-count a
+
+  pub packed-length : len ≡ packedLength n
+  packed-length = PackAsked.packed-length a
+
+  pub packed-bits : (spread 8 (take len after) ≡ bitsIn (radixBits r) (a .value) ++ replicate (8 * len - n) 0) × (8 * len - n < 8)
+  packed-bits = PackAsked.packed-bits a
+
+-- bits as numbers and numbers as bits, once over the width: each undoes the other
+pub gather-spread : (w : ℕ) → 0 < w → (ns : List ℕ) → Below (2 ^ w) ns → gather w (spread w ns) ≡ ns
+gather-spread = Gathered.gather-spread
+
+pub spread-gather : (w : ℕ) → 0 < w → (t : List ℕ) → Below 2 t → spread w (gather w t) ≡ t ++ replicate (w * units w (length t) - length t) 0
+spread-gather = Gathered.spread-gather
+
+-- segments run on: joined segments are packed as the one that holds all their digits
+pub packed-joined : (r : BitStringRadix) (ds : List ℕ) → DigitsTo (2 ^ radixBits r) (length ds) ds → (ps : List (Run (2 ^ radixBits r))) (tail : List ℕ)
+    → White tail → (l : Literal) (S out : List ℕ) → l .kind ≡ Kind.BitString r → Spans l S (bitText r ds ++ runs ps tail)
+    → (l′ : Literal) (S′ : List ℕ) → l′ .kind ≡ Kind.BitString r → Spans l′ S′ (bitText r (ds ++ runDigits ps))
+    → packedQuestion l S out ≡ packedQuestion l′ S′ out
+packed-joined = PackJoined.packed-joined
+
+-- "Add the reverse, bytes and a bit count to a B or X literal, X only when the count is a multiple of four": what is written, and how long it is
+module _ (r : BitStringRadix) (bytes : List ℕ) (n : ℕ) (out : List ℕ) (m : ℕ) (e : bitWriteQuestion r bytes n out .answer ≡ BitWriting.Written m) where
+  pub bit-accepted : (length bytes ≤ 268435456) × Fine r bytes n × (m ≡ length (bitLiteral r bytes n)) × (m ≤ length out)
+  bit-accepted = PackReverse.bit-accepted r bytes n out m e
+
+  pub bit-written : bitWriteQuestion r bytes n out .buffer ≡ bitLiteral r bytes n ++ drop m out
+  bit-written = PackReverse.bit-written r bytes n out m e
+
+pub bit-literal-length : (r : BitStringRadix) (bytes : List ℕ) (n : ℕ) → Fine r bytes n → length (bitLiteral r bytes n) ≡ n / radixBits r + 3
+bit-literal-length = PackReverse.bitLiteral-length
+
+-- 32 bits hold it: no more than 2,147,483,651 bytes of B and 536,870,915 of X, and `Long` has bytes that need as many
+pub bit-literal-most : (r : BitStringRadix) (bytes : List ℕ) (n : ℕ) → length bytes ≤ 268435456 → Fine r bytes n
+    → radixBits r * length (bitLiteral r bytes n) ≤ 2147483648 + radixBits r * 3
+bit-literal-most = PackLong.bitLiteral-most
+
+-- "Digits are written in upper case": a literal of just one segment, in upper case, with its kind's letter
+pub bit-literal-one : (r : BitStringRadix) (bytes : List ℕ) (n : ℕ) → OneUpper r (bitLiteral r bytes n)
+bit-literal-one = PackRoundTrip.written-one
+
+-- "bytes and count come back through either literal, read with the kind of its letter". Bytes are numbers below 256, as lent bytes are
+pub bytes-round-trip : (r : BitStringRadix) (bytes : List ℕ) (n : ℕ) (out : List ℕ) (m : ℕ) → ((i : ℕ) → bytes ! i < 256)
+    → bitWriteQuestion r bytes n out .answer ≡ BitWriting.Written m
+    → (l : Literal) (S d : List ℕ) → l .kind ≡ Kind.BitString r → Spans l S (take m (bitWriteQuestion r bytes n out .buffer)) → length bytes ≤ length d
+    → packedQuestion l S d ≡ record { answer = Packed.Written (length bytes) n; buffer = bytes ++ drop (length bytes) d }
+bytes-round-trip = PackRoundTrip.bytes-round-trip
+
+-- "a literal of just one segment, with an upper-case letter equal to its kind, upper-case digits and packed bytes within the limit, comes back as it was". Its
+-- text is the segment; each of these premises is needed: `PackControls`
+pub literal-round-trip : (r : BitStringRadix) (l : Literal) (S t d : List ℕ) (len n : ℕ) → l .kind ≡ Kind.BitString r → Spans l S t → OneUpper r t
+    → packedQuestion l S d .answer ≡ Packed.Written len n → len ≤ 268435456 → (e : List ℕ) → length t ≤ length e
+    → bitWriteQuestion r (take len (packedQuestion l S d .buffer)) n e
+    ≡ record { answer = BitWriting.Written (length t); buffer = t ++ drop (length t) e }
+literal-round-trip = PackRoundTrip.literal-round-trip
+
+-- every answer of packing is one that the reverse takes: none gives 16
+pub packed-fine : {r : BitStringRadix} {t out : List ℕ} {len n : ℕ} {after : List ℕ} → PackedAs r t out len n after → Fine r (take len after) n
+packed-fine = PackRoundTrip.packed-fine
+
+-- "Refusals: packing as for bits": 1 to 7 exactly where the bits question gives them, whatever buffers the two are lent; and what that shows is packed
+module _ (l : Literal) (S out out′ : List ℕ) where
+  pub packed-refuses : (r : Refusal) → refusalNumber r ≤ 8
+      → (packedQuestion l S out .answer ≡ Packed.Refused r) ↔ (bitsQuestion l S out′ .answer ≡ Text.Refused r)
+  packed-refuses = PackAsked.packed-refuses l S out out′
+
+  pub packed-shown : textNumber (bitsQuestion l S out′ .answer) ≡ 0
+      → packedQuestion l S out
+      ≡ packsAs (l .span) (bitsPer (bitBase (l .kind))) out (means (shown S (bitsQuestion l S out′ .buffer) (bitsQuestion l S out′ .answer)))
+  packed-shown = PackAsked.packed-shown l S out out′
+
+pub packed-numbers : (l : Literal) (S out : List ℕ) → has (packedNumber (packedQuestion l S out .answer)) packedNumbers ≡ true
+packed-numbers = PackAsked.packed-numbers
+
+-- "reverse 12, then 16 if the byte count isn't the bit count rounded up to bytes, X has a wrong count, or an unused bit is set, then 9". "The reverse's limit is
+-- the writer's, in packed bytes": in those given. What each answer says, and each test where those before it pass
+pub bit-answers : (r : BitStringRadix) (bytes : List ℕ) (n : ℕ) (out : List ℕ) → Answers r bytes n out (bitWriteQuestion r bytes n out .answer)
+bit-answers = PackReverse.bit-answers
+
+pub bit-fine : (r : BitStringRadix) (bytes : List ℕ) (n : ℕ) → (badBits r bytes n ≡ false) ↔ Fine r bytes n
+bit-fine = PackReverse.fine-bits
+
+module _ (r : BitStringRadix) (bytes : List ℕ) (n : ℕ) (out : List ℕ) where
+  pub bit-over : 268435456 < length bytes → bitWriteQuestion r bytes n out ≡ record { answer = BitWriting.OverLimit; buffer = out }
+  bit-over = PackReverse.bit-over r bytes n out
+
+  pub bit-bad : length bytes ≤ 268435456 → badBits r bytes n ≡ true → bitWriteQuestion r bytes n out ≡ record { answer = BitWriting.BadBits; buffer = out }
+  bit-bad = PackReverse.bit-bad r bytes n out
+
+  pub bit-writes : length bytes ≤ 268435456 → Fine r bytes n → bitWriteQuestion r bytes n out ≡ bitWrites (bitLiteral r bytes n) out
+  bit-writes = PackReverse.bit-writes r bytes n out
+
+  pub bit-numbers : has (bitWritingNumber (bitWriteQuestion r bytes n out .answer)) reverseNumbers ≡ true
+  bit-numbers = PackReverse.bit-numbers r bytes n out
+
+-- refusals leave the buffer as lent; two sources in neither of which the span gives 3, agreeing inside it, get the same answer with the same buffer
+pub packed-leaves : (l : Literal) (S out : List ℕ) → PackedLeaves out (packedQuestion l S out .answer) (packedQuestion l S out .buffer)
+packed-leaves = Buffers.packed-leaves
+
+pub bit-writing-leaves : (r : BitStringRadix) (bytes : List ℕ) (n : ℕ) (out : List ℕ)
+    → BitWritingLeaves out (bitWriteQuestion r bytes n out .answer) (bitWriteQuestion r bytes n out .buffer)
+bit-writing-leaves = Buffers.bit-writing-leaves
+
+pub packed-sources : (l : Literal) (S S′ : List ℕ) → Agree l S S′ → (out : List ℕ) → packedQuestion l S out ≡ packedQuestion l S′ out
+packed-sources = Sources.packedQuestion-same
+
+-- the same of what calls return, whatever their contracts permit
+pub bytes-calls : (r : BitStringRadix) (bytes : List ℕ) (n : ℕ) → ((i : ℕ) → bytes ! i < 256) → (w : BitWriterCall r bytes n) (m : ℕ)
+    → w .result ≡ BitWriting.Written m → (c : PackedCall r (take m (w .after))) → length bytes ≤ length (c .lent)
+    → (c .result ≡ Packed.Written (length bytes) n) × (c .after ≡ bytes ++ drop (length bytes) (c .lent))
+bytes-calls = PackCalled.bytes-calls
+
+pub literal-calls : (r : BitStringRadix) (t : List ℕ) → OneUpper r t → (c : PackedCall r t) (len n : ℕ) → c .result ≡ Packed.Written len n
+    → len ≤ 268435456 → (w : BitWriterCall r (take len (c .after)) n) → length t ≤ length (w .lent)
+    → (w .result ≡ BitWriting.Written (length t)) × (w .after ≡ t ++ drop (length t) (w .lent))
+literal-calls = PackCalled.literal-calls
+
+pub packed-calls : {r : BitStringRadix} {t : List ℕ} (c : PackedCall r t) (len n : ℕ) → c .result ≡ Packed.Written len n
+    → PackedAs r t (c .lent) len n (c .after)
+packed-calls = PackCalled.packed-calls
+
+module _ {r : BitStringRadix} {t : List ℕ} (c : PackedCall r t) (lent : List ℕ) (x : Text) (after : List ℕ)
+    (m : Meets (bitsQuestion (c .literal) (c .source) lent) x after) where
+  pub packed-refuses-calls : (q : Refusal) → refusalNumber q ≤ 8 → (c .result ≡ Packed.Refused q) ↔ (x ≡ Text.Refused q)
+  packed-refuses-calls = PackCalled.refuses-calls c lent x after m
+
+  pub packed-shown-calls : textNumber x ≡ 0
+      → Meets (packsAs (c .literal .span) (radixBits r) (c .lent) (means (shown (c .source) after x))) (c .result) (c .after)
+  packed-shown-calls = PackCalled.shown-calls c lent x after m
+
+pub packed-joined-calls : (r : BitStringRadix) (ds : List ℕ) → DigitsTo (2 ^ radixBits r) (length ds) ds → (ps : List (Run (2 ^ radixBits r))) (tail : List ℕ)
+    → White tail → (x : PackedCall r (bitText r ds ++ runs ps tail)) (y : PackedCall r (bitText r (ds ++ runDigits ps))) → x .lent ≡ y .lent
+    → Same (x .result) (y .result) (x .after) (y .after)
+packed-joined-calls = PackCalled.run-calls

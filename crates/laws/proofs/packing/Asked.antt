@@ -1,5 +1,5 @@
--- [02 T-07] The packed question, from a literal in a source to bytes or a refusal: what its text's value decides, that it refuses as the bits question does, and
--- which numbers it gives. Assumes nothing.
+-- [02 T-07] The packed question, from a literal in a source to bytes or a refusal: what its text's value decides, that it refuses as the bits question does,
+-- and which numbers it gives. Assumes nothing.
 use mathlib.Core.Logic.{_↔_}
 use mathlib.Core.Path.{_≡_, refl, ap, sym, _∙_}
 use mathlib.Core.Bool.{Bool, true, false}

@@ -1,5 +1,5 @@
--- [02 T-07] Segments run on (D07-2): the digits of all segments are one run, packed once, and no segment begins a byte of its own. So B'1' '0' is packed as B'10'.
--- Assumes nothing.
+-- [02 T-07] Segments run on (D07-2): the digits of all segments are one run, packed once, and no segment begins a byte of its own. So B'1' '0' is packed as
+-- B'10' is. Assumes nothing.
 use mathlib.Core.Path.{_≡_, refl, ap, sym, _∙_}
 use mathlib.Core.Bool.{true}
 use mathlib.Core.List.{List, [], _∷_, _++_, map, flatten, append-nil}

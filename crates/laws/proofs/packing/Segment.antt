@@ -4,7 +4,7 @@ use mathlib.Core.Path.{_≡_, refl, ap, sym, _∙_}
 use mathlib.Core.Bool.{Bool, true, false, _&&_, _||_, and-false, false≢true}
 use mathlib.Core.List.{List, [], _∷_, _++_}
 use Prim.Native.Nat.{ℕ, zero, suc, _+_, _-_, _≤_, _<_}
-use native.Mathlib.Nat.{add-zero, lt-of-lt-of-le}
+use native.Mathlib.Nat.{zero-add, add-zero, lt-of-lt-of-le}
 use native.Mathlib.Omega.{arith}
 use borrow.Author.Tests.{eqb-true}
 use lib.Dec.{eqb}
@@ -15,7 +15,7 @@ use Rattle.meaning.specs.declared.BitStringRadix.{BitStringRadix}
 use Rattle.meaning.specs.declared.BitStringRadix.the-variants.{Binary, Hex}
 use Rattle.meaning.specs.Bytes.{if_then_else_, _!_, part, ascii, has, quote, backslash, isMark, within, digit, allDigits}
 use Rattle.meaning.specs.Chars.{Due, utf8, whole, pushes}
-use Rattle.meaning.specs.Walk.{keep, give, stop, gave, ended, after, walk, size}
+use Rattle.meaning.specs.Walk.{keep, give, stop, gave, ended, after, walk, size, stops}
 use Rattle.meaning.specs.Steps.{closingStep, doubled}
 use Rattle.meaning.specs.Cutting.{hides, opening, segment, segmentBy, segmentStep, cut}
 use Rattle.meaning.specs.Reading.{borrowed, Value, means, fails, valueOf, both, asWritten}
@@ -120,16 +120,20 @@ closing-stop h q d t = go (h && eqb d backslash) (eqb d q) refl
     go false true e s = eqb-true d q e
     go false false e s = let z : _≡_ {A = ℕ} 0 1 = cc in absurd (omega arith)
 
+closing-at : (h : Bool) (q : ℕ) (t : List ℕ) → stops (walk (closingStep h q) 0 t) ≡ true → t ! size (walk (closingStep h q) 0 t) ≡ q
+closing-at h q t s =
+    let m : ℕ = size (walk (closingStep h q) 0 t) in
+    let d = stop-at (closingStep h q) 0 t (true→T (stops (walk (closingStep h q) 0 t)) s) m (zero-add m) in
+    ap (t !_) (sym (add-zero m)) ∙ sym (getD-drop m t 0 0) ∙ ap (_! 0) (d .2) ∙ closing-stop h q (d .0) (d .1) (d .3)
+
 pub segment-last : (σ : Settings) (t : List ℕ) (n e : ℕ) → opening t ≡ suc n → segment σ t ≡ suc e → t ! e ≡ t ! n
 segment-last σ t n e o h =
     let s = segment-of σ t e h in
     let k : ℕ = s .0 in
     let same : k ≡ n = omega (arith, s .1, o) in
     let m : ℕ = size (walk (closingStep (hides σ t) (t ! k)) 0 (drop (suc k) t)) in
-    let d = stop-at (closingStep (hides σ t) (t ! k)) 0 (drop (suc k) t) (true→T _ (s .2)) m (omega arith) in
-    let place : e ≡ suc k + (m + 0) = omega (arith, s .3) in
-    ap (t !_) place ∙ sym (getD-drop (suc k) t (m + 0) 0) ∙ sym (getD-drop m (drop (suc k) t) 0 0) ∙ ap (_! 0) (d .2)
-    ∙ closing-stop (hides σ t) (t ! k) (d .0) (d .1) (d .3) ∙ ap (t !_) same
+    let place : e ≡ suc k + m = omega (arith, s .3) in
+    ap (t !_) place ∙ sym (getD-drop (suc k) t m 0) ∙ closing-at (hides σ t) (t ! k) (drop (suc k) t) (s .2) ∙ ap (t !_) same
 
 -- a letter of bits opens a segment with the mark behind it
 letter-of : (b : ℕ) → has b (ascii "BbXx") ≡ true → (isMark b ≡ false) × (has b (ascii "EeNnBbXx") ≡ true)

@@ -1,8 +1,8 @@
--- [02 T-07] What packing and its reverse shut out: document 01's list by a closed input of each, as `Controls` has it, and other packings and literals. And each
--- premise of the second round trip is needed: without it a text comes back as another one, or not at all. Assumes nothing.
-use mathlib.Core.Path.{_≡_, refl, ap, ap₂, sym, _∙_}
+-- [02 T-07] What packing and its reverse shut out: document 01's list by a closed input of each, as `Controls` has it, and other packings and literals. And
+-- each premise of the second round trip is needed: without it a text comes back as another one, or not at all. Assumes nothing.
+use mathlib.Core.Path.{_≡_, refl, ap, sym, _∙_}
 use mathlib.Core.Bool.{false, and-false}
-use mathlib.Core.List.{List, [], _∷_, _++_}
+use mathlib.Core.List.{List, [], _∷_}
 use Prim.Native.Nat.{ℕ, zero, suc, _-_, _*_, _≤_, _<_}
 use native.Mathlib.Nat.{lt-of-lt-of-le, one-mul}
 use native.Mathlib.Omega.{arith}
@@ -18,7 +18,7 @@ use Rattle.meaning.specs.declared.PackedBits.{PackedBits}
 use Rattle.meaning.specs.declared.PackedBits.the-variants as Packed′
 use Rattle.meaning.specs.declared.BitWriting.{BitWriting}
 use Rattle.meaning.specs.declared.BitWriting.the-variants as BitWriting′
-use Rattle.meaning.specs.Bytes.{_!_, ascii, same, span, quote, within, isMark, digit, allDigits}
+use Rattle.meaning.specs.Bytes.{_!_, ascii, same, quote, within, isMark, digit, allDigits}
 use Rattle.meaning.specs.Chars.{lead, utf8, isSpace}
 use Rattle.meaning.specs.Steps.{doubled}
 use Rattle.meaning.specs.Cutting.{off, named, segment, segmentStep, cut}
@@ -32,12 +32,11 @@ use Rattle.laws.proofs.tables.Controls.{Program, Right, Telling, room, 
 use Rattle.laws.proofs.writing.WriterParts.{Every}
 use Rattle.laws.proofs.packing.Digits.{Upper, low-upper}
 use Rattle.laws.proofs.packing.Segment.{bitText, bitText-segment, bitText-means, bitText-utf8}
-use Rattle.laws.proofs.packing.Asked.{packed-room, PackedAs, packed-written, packed-bytes}
+use Rattle.laws.proofs.packing.Asked.{packed-room, packed-written, packed-bytes}
 use Rattle.laws.proofs.packing.Reverse.{bit-over}
 use Rattle.laws.proofs.packing.RoundTrip.{OneUpper}
 use Rattle.laws.proofs.questions.Asked.{Spans}
 use Rattle.laws.proofs.basics.Digits.{DigitsTo}
-use Rattle.laws.proofs.basics.Tests.{within-below}
 use Rattle.laws.proofs.packing.Gathered.{Below, below-append, units-most}
 
 -- PACKING writes 12 30 for X'1' '2' '3'
@@ -174,8 +173,8 @@ unfolding packedQuestion tested sourceText badSpan cutsCharacter within utf8 lea
     digit bitsIn packBits filled bitWriteQuestion overLimit badBits bitLiteral bitDigits figure
 needs-upper-digits = (record { bytes = 0xF0 ∷ []; count = 4; packs = refl; writes = refl; other = refl }, refl, refl)
 
--- "packed bytes within the limit": 2,147,483,649 binary digits or more, which meet every other premise, are packed and then give 12. Over the number of digits:
--- such a text is not computed here
+-- "packed bytes within the limit": 2,147,483,649 binary digits or more, which meet every other premise, are packed and then give 12. Over the number of
+-- digits: such a text is not computed here
 abbrev pub oneDigits : ℕ → List ℕ
 oneDigits n = replicate n 49
 
@@ -228,3 +227,11 @@ module _ (n : ℕ) (l : Literal) (S d : List ℕ) (k : l .kind ≡ Kind.BitStrin
       let a = packed-written Binary l S (ones n) d k h (packedLength n) n ones-packed in
       let size : length (take (packedLength n) (packedQuestion l S d .buffer)) ≡ packedLength n = ap length (packed-bytes a) ∙ sym (a .size) in
       bit-over Binary (take (packedLength n) (packedQuestion l S d .buffer)) n e (rw size (omega (arith, units-most 8 (omega arith) n .0)))
+
+-- at 2,147,483,649 digits, all of their source
+pub row-needs-limit : (d e : List ℕ) → 268435457 ≤ length d
+    → bitWriteQuestion Binary
+    (take 268435457 (packedQuestion (all-as (Kind.BitString Binary) (ones 2147483649)) (ones 2147483649) d .buffer)) 2147483649 e
+    ≡ record { answer = BitWriting′.OverLimit; buffer = e }
+row-needs-limit d e room =
+    needs-limit 2147483649 (all-as (Kind.BitString Binary) (ones 2147483649)) (ones 2147483649) d refl (ones-spans 2147483649) room (omega arith) e

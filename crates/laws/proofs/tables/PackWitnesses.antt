@@ -1,13 +1,11 @@
 -- [02 T-07] What the laws of packing ask for can be had: closed literals, bytes and counts, calls on them, and what the laws then say. Assumes nothing.
 use mathlib.Core.Path.{_≡_, refl}
-use mathlib.Core.Bool.{false}
 use mathlib.Core.List.{List, [], _∷_, _++_}
 use Prim.Native.Nat.{ℕ, zero, suc, _<_}
 use native.Mathlib.Omega.{arith}
-use lib.ListN.{length, take, replicate}
+use lib.ListN.{replicate}
 use Rattle.meaning.specs.declared.BitStringRadix.the-variants.{Binary, Hex}
 use Rattle.meaning.specs.declared.LiteralKind.the-variants as Kind
-use Rattle.meaning.specs.declared.Literal.{Literal}
 use Rattle.meaning.specs.declared.Refusal.the-variants.{InvalidBitString, NoRoom}
 use Rattle.meaning.specs.declared.PackedBits.the-variants as Packed′
 use Rattle.meaning.specs.declared.BitWriting.the-variants as BitWriting′
@@ -23,7 +21,6 @@ use Rattle.meaning.specs.Forms.{figure}
 use Rattle.meaning.specs.Packing.{bitsIn, packBits, packedQuestion, bitDigits, bitLiteral, badBits, bitWriteQuestion}
 use Rattle.laws.proofs.tables.Controls.{all-as}
 use Rattle.laws.proofs.basics.Digits.{DigitsTo}
-use Rattle.laws.proofs.joining.JoiningLaw.{Gap}
 use Rattle.laws.proofs.questions.Determined.{Same}
 use Rattle.laws.proofs.packing.Digits.{low-upper}
 use Rattle.laws.proofs.packing.Segment.{bitText}
