@@ -62,9 +62,10 @@ static void as_packed_bits(void)
     CALL(valdrabus_as_packed_bits, kind, 0, 0, len, bytes(text), len, out, sizeof out, &bits, &how, &first, &second);
 }
 
+/* The last byte of each such text is 40 hex: its last four bits are unused. */
 static void write_bit_literal(void)
 {
-    CALL(valdrabus_write_bit_literal, bytes(text), len, 8 * (uint64_t)len, kind, out, sizeof out, &first);
+    CALL(valdrabus_write_bit_literal, bytes(text), len, 8 * (uint64_t)len - 4, kind, out, sizeof out, &first);
 }
 
 static void read_block(void)
@@ -93,6 +94,7 @@ static void embeds_nul(void)
    which one has eight digits; no ASCII; numbers that are printed; joined bit strings, one refused in its second segment. */
 #define QUICK "E'\\303\\251'\xE3\x80\x80'a'"
 #define REFUSED "E'\\U0001F600' 'a' E'\\400'"
+#define FLAGS "some more than sixty-four bytes, so that they are written by blocks where it is done so @"
 #define MIXED "\xC3\xA9'\x01\\\xF0\x9F\x98\x80"
 static const struct row {
     const char *name;
@@ -112,8 +114,8 @@ static const struct row {
     {"as_packed_bits", as_packed_bits, VALDRABUS_KIND_BINARY_BITS, "B'1' \xE3\x80\x80'0101010101' '1'"},
     {"as_packed_bits", as_packed_bits, VALDRABUS_KIND_HEX_BITS, "X'1' \xE3\x80\x80'0123456789abcdef' '1'"},
     {"as_packed_bits", as_packed_bits, VALDRABUS_KIND_BINARY_BITS, "B'1' \xE3\x80\x80'2'"},
-    {"write_bit_literal", write_bit_literal, VALDRABUS_KIND_BINARY_BITS, MIXED},
-    {"write_bit_literal", write_bit_literal, VALDRABUS_KIND_HEX_BITS, MIXED},
+    {"write_bit_literal", write_bit_literal, VALDRABUS_KIND_BINARY_BITS, FLAGS},
+    {"write_bit_literal", write_bit_literal, VALDRABUS_KIND_HEX_BITS, FLAGS},
     {"write_literal", write_literal, 0, MIXED},
     {"write_unicode", write_unicode, 0, MIXED},
     {"string_literal_embeds_nul", embeds_nul, 0, "'a text of more than thirty-two bytes'"},
