@@ -296,6 +296,6 @@ int main(void)
     reverses(HEX);
     far_counts();
     limit();
-    printf("%u checks of packed bits hold\n", checks);
+    printf("%u checks of all short bit strings hold\n", checks);
     return 0;
 }
