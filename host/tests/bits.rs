@@ -60,7 +60,7 @@ fn packed(digits: &str, radix: BitStringRadix) -> (Vec<u8>, u64) {
     let spell = |digit| if radix == Hex { format!("{:04b}", value(digit)) } else { digit.to_string() };
     let mut bits: String = digits.chars().map(spell).collect();
     let count = bits.len() as u64;
-    while bits.len() % 8 != 0 {
+    while !bits.len().is_multiple_of(8) {
         bits.push('0');
     }
     let byte = |at| u8::from_str_radix(&bits[at..at + 8], 2).expect("eight bits");
@@ -222,7 +222,7 @@ fn other_packings() {
 
 /// Every text of so many digits.
 fn texts(radix: BitStringRadix, digits: u32) -> impl Iterator<Item = String> {
-    let (base, width) = if radix == Hex { (16_u32, digits as usize) } else { (2, digits as usize) };
+    let (base, width) = (if radix == Hex { 16_u32 } else { 2 }, digits as usize);
     (0..base.pow(digits)).map(move |number| match (radix, width) {
         (_, 0) => String::new(),
         (Hex, _) => format!("{number:0width$X}"),
