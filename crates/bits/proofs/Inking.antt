@@ -44,6 +44,19 @@ pub record Reading (t : List ℕ) (at j v : ℕ) : Type 0 where
 pub reading-none : (t : List ℕ) (at : ℕ) → Reading t at 0 0
 reading-none t at = record { most = omega arith; number-so-far = refl; low = omega arith }
 
+-- a digit by its byte's low half, and nine more for a letter
+pub digit-known : (b : ℕ) → digit b < 16 → b % 16 + b / 64 * 9 ≡ digit b
+unfolding digit
+digit-known b h = go (within 48 57 b) (within 65 70 b) (within 97 102 b) refl refl refl h
+  where
+    go : (x y z : Bool) → within 48 57 b ≡ x → within 65 70 b ≡ y → within 97 102 b ≡ z
+        → (if x then b - 48 else if y then b - 55 else if z then b - 87 else 16) < 16
+        → b % 16 + b / 64 * 9 ≡ (if x then b - 48 else if y then b - 55 else if z then b - 87 else 16)
+    go true y z e f g h = let k = within-bounds 48 57 b e in omega arith
+    go false true z e f g h = let k = within-bounds 65 70 b f in omega arith
+    go false false true e f g h = let k = within-bounds 97 102 b g in omega arith
+    go false false false e f g h = absurd (omega arith)
+
 -- a binary digit is its byte's lowest bit
 binary-digit : (b : ℕ) → digit b < 2 → digit b ≡ b % 2
 unfolding digit
@@ -107,18 +120,18 @@ module _ (t : List ℕ) (at : ℕ) (r : BitStringRadix) (d : DigitsAt (2 ^ radix
     pub hex-inside : at + 1 < length t
     hex-inside = omega (arith, hex .inside)
 
-    one : digit (getD t at 0) < 16
-    one = subst (λ (x : ℕ). digit x < 16) (getD-drop at t 0 0 ∙ ap (λ (i : ℕ). getD t i 0) (add-zero at)) (hex .digits 0 (omega arith))
+    pub hex-one : digit (getD t at 0) < 16
+    hex-one = subst (λ (x : ℕ). digit x < 16) (getD-drop at t 0 0 ∙ ap (λ (i : ℕ). getD t i 0) (add-zero at)) (hex .digits 0 (omega arith))
 
-    two : digit (getD t (at + 1) 0) < 16
-    two = subst (λ (x : ℕ). digit x < 16) (getD-drop at t 1 0) (hex .digits 1 (omega arith))
+    pub hex-two : digit (getD t (at + 1) 0) < 16
+    hex-two = subst (λ (x : ℕ). digit x < 16) (getD-drop at t 1 0) (hex .digits 1 (omega arith))
 
     pub hex-high : (a : ℕ) → a ≡ digit (getD t at 0) → a * 16 < 256
-    hex-high a ea = omega (arith, one)
+    hex-high a ea = omega (arith, hex-one)
 
     module _ (a b : ℕ) (ea : a ≡ digit (getD t at 0)) (eb : b ≡ digit (getD t (at + 1) 0)) where
       pub hex-fits : a * 16 + b < 256
-      hex-fits = omega (arith, one, two)
+      hex-fits = omega (arith, hex-one, hex-two)
 
       pub hex-whole : a * 16 + b ≡ number (2 ^ radixBits r) (8 / radixBits r) 0 (drop at t)
       hex-whole =

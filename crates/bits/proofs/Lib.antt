@@ -3,6 +3,7 @@ pub mod Asking
 pub mod Bodies
 pub mod Turns
 pub mod Wholes
+pub mod Found
 pub mod Radix
 pub mod Inking
 pub mod Runs

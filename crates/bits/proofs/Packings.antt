@@ -35,7 +35,7 @@ use Rattle.bits.specs.declared.finding.Digits.the-variants as Digits′
 use Rattle.bits.specs.Bodies.{bodyBy, bodyStep, bodies, Found-at, Finds}
 use Rattle.bits.specs.Pens.{Packing, Packable, Closable, BodiesPackable, digitsFrom, Segmented, PacksInto, packedOf, Packs}
 use Rattle.bits.proofs.Turns.{here, body-step}
-use Rattle.bits.proofs.Wholes.{digits-length}
+use Rattle.bits.proofs.Found.{digits-length}
 use Rattle.bits.proofs.Radix.{radix-whole}
 
 -- SEGMENT BY SEGMENT: the bodies before i are packed

@@ -1,4 +1,4 @@
--- Where the digits of a whole text stand, by what each of its passes said; and its reading by that. Assumes nothing.
+-- The reading of a text, by what each of its passes said. Assumes nothing.
 use mathlib.Core.Path.{_≡_, refl, ap, ap₂, sym, _∙_, subst}
 use mathlib.Core.Bool.{Bool, true, false, _&&_, not}
 use mathlib.Core.List.{List, [], _∷_, _++_, append-nil}
@@ -8,21 +8,18 @@ use native.Mathlib.Omega.{arith}
 use lib.Dec.{eqb}
 use lib.ListN.{length, take, drop, getD, length-append, length-take, length-drop, drop-of-length-le}
 use lib.Seq.{drop-drop}
-use borrow.Author.Tests.{not-true, not-false, eqb-true, eq-eqb, ne-eqb, le-leb}
+use borrow.Author.Tests.{not-true, not-false, eq-eqb, ne-eqb, le-leb}
 use Rattle.meaning.specs.declared.Settings.{Settings}
 use Rattle.meaning.specs.declared.Read.{Read}
 use Rattle.meaning.specs.declared.Read.the-variants as Read′
 use Rattle.meaning.specs.Bytes.{if_then_else_, part, ascii, has, allDigits}
 use Rattle.meaning.specs.Walk.{give, stop, gave, walk, stops}
 use Rattle.meaning.specs.Cutting.{segmentStep, cut}
-use Rattle.meaning.specs.Reading.{borrowed, written, refused, Value, means, fails, onward, both, each, asWritten}
+use Rattle.meaning.specs.Reading.{Answer, borrowed, written, refused, Value, means, fails, onward, both, each, asWritten}
 use Rattle.meaning.specs.Kinds.{firstBits, laterBits, borrowedAs, bitsBy, bits}
 use Rattle.meaning.specs.Answers.{filled}
 use Rattle.meaning.specs.Reads.{Reads}
-use Rattle.laws.proofs.basics.Tests.{and-left, and-right}
-use Rattle.laws.proofs.basics.Digits.{allDigits-at}
-use Rattle.laws.proofs.basics.Lists.{part-tail}
-use Rattle.laws.proofs.joining.Joining.{fails≢means}
+use Rattle.laws.proofs.basics.Tests.{and-left}
 use Rattle.laws.proofs.walking.Walks.{walk-drop}
 use Rattle.laws.proofs.walking.Courses.{walk-at}
 use Rattle.laws.proofs.walking.Passes.{put-part}
@@ -31,20 +28,19 @@ use Rattle.cutting.specs.Segments.{nextOf}
 use Rattle.cutting.specs.declared.cursor.Cursor.{Cursor}
 use Rattle.cutting.specs.declared.cursor.Next.{Next}
 use Rattle.cutting.specs.declared.cursor.Next.the-variants as Next′
+use Rattle.laws.proofs.basics.Lists.{part-tail}
 use Rattle.cutting.proofs.Cursors.{Unit-at, at-end, at-remainder, at-segment}
 use Rattle.bits.specs.declared.later.Later.{Later}
 use Rattle.bits.specs.declared.later.Later.the-variants as Later′
-use Rattle.bits.specs.declared.finding.Digits.{Digits}
-use Rattle.bits.specs.declared.finding.Digits.the-variants as Digits′
-use Rattle.bits.specs.Bodies.{laterOf, numberIn, Measures, bodies, bodyStep, BodiesFit, Found-at, Finds}
-use Rattle.bits.proofs.Bodies.{each-bodies, digits-append, each-digits, own-length, first-by, letter-two}
+use Rattle.bits.specs.Bodies.{laterOf, numberIn, Measures, bodies, bodyStep, BodiesFit, joinedBits, Ordered}
+use Rattle.bits.proofs.Bodies.{each-bodies, own-length, first-by, letter-two}
 
 -- what a measure says of a value
-later-means : (x : Value) (n : ℕ) → laterOf x ≡ Later′.Length n → (w : List ℕ) × (x ≡ means w) × (length w ≡ n)
+pub later-means : (x : Value) (n : ℕ) → laterOf x ≡ Later′.Length n → (w : List ℕ) × (x ≡ means w) × (length w ≡ n)
 later-means (means w) n e = (w, refl, cc)
 later-means (fails p) n e = let z : _≡_ {A = ℕ} 0 1 = cc in absurd (omega arith)
 
-later-fails : (x : Value) (p : ℕ) → laterOf x ≡ Later′.Refused p → x ≡ fails p
+pub later-fails : (x : Value) (p : ℕ) → laterOf x ≡ Later′.Refused p → x ≡ fails p
 later-fails (means w) p e = let z : _≡_ {A = ℕ} 0 1 = cc in absurd (omega arith)
 later-fails (fails q) p e = cc
 
@@ -52,46 +48,104 @@ filled-all : (v d : List ℕ) → length v ≤ length d → filled v d ≡ v ++ 
 unfolding filled
 filled-all v d h = rw (le-leb (length v) (length d) h)
 
--- nothing stands behind a text's end
-later-none : (σ : Settings) (β i : ℕ) (t : List ℕ) → length t ≤ i → each (laterBits β) (cut σ (drop i t)) ≡ means []
-unfolding cut
-later-none σ β i t h = rw (drop-of-length-le t h)
+-- JOINED: the digits from f to l of a text, and those of the segments from i on, which measuring found
+module _ (σ : Settings) (β : ℕ) (t : List ℕ) (f l i : ℕ) (b : Ordered f l i (length t)) (r : Later)
+    (m : Measures (each (laterBits β) (cut σ (take (length t - i) (drop i t)))) (length (take (length t - i) (drop i t))) r) where
+  -- the definition's answer
+  abbrev whole : Answer
+  whole = joinedBits σ β (part f l t) i (drop i t)
 
-finds-bad : (σ : Settings) (β : ℕ) (t : List ℕ) (p : ℕ) → bits σ β t ≡ refused p → Finds σ β t (Digits′.Refused p)
-finds-bad σ β t p e = record {
-  found = λ f l i n k. let z : _≡_ {A = ℕ} 0 1 = cc in absurd (omega arith);
-  bad = λ q k. cc;
-}
+  told : laterOf (each (laterBits β) (cut σ (drop i t))) ≡ r
+  told = ap (λ (x : List ℕ). laterOf (each (laterBits β) (cut σ x))) (sym (part-tail t i)) ∙ sym (m .answer)
 
-finds-at : (σ : Settings) (β : ℕ) (t : List ℕ) (f l i n : ℕ) → Found-at σ β t f l i n → Finds σ β t (Digits′.Found f l i n)
-finds-at σ β t f l i n a = record {
-  found = λ f′ l′ i′ n′ k.
-      let ef : f ≡ f′ = cc in
-      let el : l ≡ l′ = cc in
-      let ei : i ≡ i′ = cc in
-      let en : n ≡ n′ = cc in
-      rw (← ef, ← el, ← ei, ← en) a;
-  bad = λ q k. let z : _≡_ {A = ℕ} 0 1 = cc in absurd (omega arith);
-}
+  first-length : length (part f l t) ≡ l - f
+  first-length = length-take (l - f) (drop f t) ∙ omega (arith, length-drop f t, b .body, b .behind, b .inside)
 
--- FOUND, from the text's front
-module _ (σ : Settings) (β : ℕ) (t : List ℕ) (i : ℕ) (z : i ≡ 0) (r : Next) (e : r ≡ nextOf σ t i) where
+  number-inside : i + numberIn r ≤ length t
+  number-inside = omega (arith, m .within, length-take (length t - i) (drop i t), length-drop i t, b .inside)
+
+  pub joined-fits : (n : ℕ) → r ≡ Later′.Length n → l - f + n ≤ length t
+  joined-fits n q = omega (arith, number-inside, ap numberIn q, b .behind)
+
+  pub place-fits : (p : ℕ) → r ≡ Later′.Refused p → i + p ≤ length t
+  place-fits p q = omega (arith, number-inside, ap numberIn q)
+
+  pub joined-refused : (out : List ℕ) (p : ℕ) → r ≡ Later′.Refused p → Reads whole out (Read′.Refused (i + p)) out
+  joined-refused out p q =
+      let e = later-fails (each (laterBits β) (cut σ (drop i t))) p (told ∙ q) in
+      reads-refused whole out (i + p) (ap (λ (x : Value). asWritten (both (means (part f l t)) (onward i x))) e)
+
+  module _ (out : List ℕ) (n : ℕ) (q : r ≡ Later′.Length n) where
+    rest : (w : List ℕ) × (each (laterBits β) (cut σ (drop i t)) ≡ means w) × (length w ≡ n)
+    rest = later-means (each (laterBits β) (cut σ (drop i t))) n (told ∙ q)
+
+    whole-written : whole ≡ written (part f l t ++ rest .0)
+    whole-written = ap (λ (x : Value). asWritten (both (means (part f l t)) (onward i x))) (rest .1)
+
+    whole-length : length (part f l t ++ rest .0) ≡ l - f + n
+    whole-length = length-append (part f l t) (rest .0) ∙ omega (arith, first-length, rest .2)
+
+    pub joined-short : length out < l - f + n → Reads whole out (Read′.NoRoom (l - f + n)) out
+    joined-short h = reads-short whole (part f l t ++ rest .0) out (l - f + n) whole-written whole-length h
+
+    module _ (h : l - f + n ≤ length out) where
+      first-room : length (take (l - f) (drop f t)) ≤ length out
+      first-room = omega (arith, first-length)
+
+      module _ (o : List ℕ) (eo : o ≡ filled (part f l t) out) where
+        put-first : o ≡ part f l t ++ drop (l - f) out
+        put-first = eo ∙ filled-all (part f l t) out first-room ∙ ap (λ (k : ℕ). part f l t ++ drop k out) first-length
+
+        same : length o ≡ length out
+        same = ap length put-first ∙ length-append (part f l t) (drop (l - f) out) ∙ omega (arith, first-length, length-drop (l - f) out)
+
+        lent : take (length o - (l - f)) (drop (l - f) o) ≡ drop (l - f) o
+        lent = part-tail o (l - f)
+
+        bodies-rest : (stops (walk (bodyStep σ) 0 (drop i t)) ≡ false) × (bodies σ (drop i t) ≡ rest .0)
+        unfolding cut
+        bodies-rest = each-bodies σ β 0 (drop i t) (rest .0) (rest .1)
+
+        pub rest-room : BodiesFit σ (take (length t - i) (drop i t)) (length (take (length o - (l - f)) (drop (l - f) o)))
+        rest-room =
+            rw (part-tail t i, lent)
+            record { goes = bodies-rest .0; fits = omega (arith, ap length (bodies-rest .1), rest .2, same, length-drop (l - f) o) }
+
+        pub joined-written : (last : List ℕ) → last ≡ filled (bodies σ (take (length t - i) (drop i t))) (take (length o - (l - f)) (drop (l - f) o))
+            → Reads whole out (Read′.Written (l - f + n)) (take (l - f) o ++ (last ++ drop (length o - (l - f)) (drop (l - f) o)))
+        joined-written last el =
+            let w = rest .0 in
+            let fits : length w ≤ length (drop (l - f) o) = omega (arith, rest .2, same, length-drop (l - f) o) in
+            let g : last ≡ w ++ drop (length w) (drop (l - f) o) =
+            el ∙ ap₂ filled (ap (bodies σ) (part-tail t i) ∙ bodies-rest .1) lent ∙ filled-all w (drop (l - f) o) fits in
+            let len : l - f + length w ≡ length (part f l t ++ w) = omega (arith, whole-length, rest .2) in
+            let tail : last ++ drop (length o - (l - f)) (drop (l - f) o) ≡ last =
+            ap (last ++_) (drop-of-length-le (drop (l - f) o) (le-of-eq (length-drop (l - f) o))) ∙ append-nil last in
+            reads-written whole (part f l t ++ w) out (take (l - f) o ++ (last ++ drop (length o - (l - f)) (drop (l - f) o))) (l - f + n)
+            whole-written whole-length h
+            (ap (take (l - f) o ++_) (tail ∙ g)
+            ∙ ap (λ (x : List ℕ). take (l - f) x ++ (w ++ drop (length w) (drop (l - f) x))) put-first
+            ∙ put-part (part f l t) w out (l - f) first-length
+            ∙ ap (λ (k : ℕ). (part f l t ++ w) ++ drop k out) len)
+
+-- READ, from the text's front
+module _ (σ : Settings) (β : ℕ) (t out : List ℕ) (i : ℕ) (z : i ≡ 0) (r : Next) (e : r ≡ nextOf σ t i) where
   front : r ≡ nextOf σ t 0
   front = e ∙ ap (nextOf σ t) z
 
-  pub finds-end : r ≡ Next′.End → Finds σ β t (Digits′.Refused 0)
+  pub bits-end : r ≡ Next′.End → Reads (bits σ β t) out (Read′.Refused 0) out
   unfolding bits cut
-  finds-end q = finds-bad σ β t 0 (go t (at-end σ t 0 r front q))
+  bits-end q = reads-refused (bits σ β t) out 0 (go t (at-end σ t 0 r front q))
     where
       go : (t : List ℕ) → length t ≤ 0 → bits σ β t ≡ refused 0
       go [] h = refl
       go (b ∷ t) h = absurd (omega arith)
 
-  pub finds-remainder : r ≡ Next′.Remainder → Finds σ β t (Digits′.Refused 0)
+  pub bits-remainder : r ≡ Next′.Remainder → Reads (bits σ β t) out (Read′.Refused 0) out
   unfolding bits cut
-  finds-remainder q =
+  bits-remainder q =
       let k = at-remainder σ t 0 r front q in
-      finds-bad σ β t 0 (ap (bitsBy β t) (walk-at (segmentStep σ) t 0 (k .0) stop (k .1)))
+      reads-refused (bits σ β t) out 0 (ap (bitsBy β t) (walk-at (segmentStep σ) t 0 (k .0) stop (k .1)))
 
   module _ (s o u : ℕ) (c : Cursor) (q : r ≡ Next′.Segment s o u c) where
     unit : Unit-at σ t 0 0 o u (c .at)
@@ -108,8 +162,8 @@ module _ (σ : Settings) (β : ℕ) (t : List ℕ) (i : ℕ) (z : i ≡ 0) (r : 
     pub first-inside : u - 1 ≤ length t
     first-inside = omega (arith, unit .ends, unit .inside)
 
-    pub rest-inside : c .at ≤ length t
-    rest-inside = unit .inside
+    pub bits-ordered : Ordered o (u - 1) (c .at) (length t)
+    bits-ordered = record { body = first-ordered; behind = omega (arith, unit .ends); inside = unit .inside }
 
     cut-first : cut σ t ≡ gave (unit .more) (take (u - 0) (drop 0 t)) (cut σ (drop (c .at) t))
     unfolding cut
@@ -136,8 +190,8 @@ module _ (σ : Settings) (β : ℕ) (t : List ℕ) (i : ℕ) (z : i ≡ 0) (r : 
           first-by unit β b d eb digits x ex
           ∙ ap₂ (λ (z : Bool) (j : ℕ). if z then means (take (u - 1 - j) (drop j t)) else fails 0) k (zero-add o)
 
-      pub finds-no-bits : not (x && d) ≡ true → Finds σ β t (Digits′.Refused 0)
-      finds-no-bits n = finds-bad σ β t 0 (go (eqb u (length t)) refl)
+      pub bits-refused : not (x && d) ≡ true → Reads (bits σ β t) out (Read′.Refused 0) out
+      bits-refused n = reads-refused (bits σ β t) out 0 (go (eqb u (length t)) refl)
         where
           go : (y : Bool) → eqb u (length t) ≡ y → bits σ β t ≡ refused 0
           go true k = bits-by true k (fails 0) (first false (not-true (x && d) n))
@@ -147,151 +201,14 @@ module _ (σ : Settings) (β : ℕ) (t : List ℕ) (i : ℕ) (z : i ≡ 0) (r : 
         right : (x && d) ≡ true
         right = not-false (x && d) n
 
-        two : o ≡ 2
-        two = letter-two unit β b d eb digits (sym ex ∙ and-left x d right)
+        pub bits-borrowed : u ≡ length t → Reads (bits σ β t) out (Read′.Borrowed o (u - 1)) out
+        bits-borrowed k =
+            let two : o ≡ 2 = letter-two unit β b d eb digits (sym ex ∙ and-left x d right) in
+            reads-borrowed (bits σ β t) out o (u - 1)
+            (bits-by true (eq-eqb u (length t) k) (means (take (u - 1 - o) (drop o t))) (first true right)
+            ∙ ap₂ (λ (i j : ℕ). borrowed i (j - 1)) (sym two) (sym k))
 
-        -- the answer, by what the later segments mean
-        answered : (w : List ℕ) → each (laterBits β) (cut σ (drop (c .at) t)) ≡ means w → bodies σ (drop (c .at) t) ≡ w
-            → (y : Bool) → eqb u (length t) ≡ y
-            → bits σ β t ≡ (if eqb (u - 1 + 1) (length t) then borrowed o (u - 1) else written (part o (u - 1) t ++ bodies σ (drop (c .at) t)))
-        answered w ew eg true f =
-            let l = eqb-true u (length t) f in
-            let p : u - 1 + 1 ≡ length t = omega (arith, unit .some) in
-            bits-by true f (means (take (u - 1 - o) (drop o t))) (first true right)
-            ∙ ap₂ (λ (i j : ℕ). borrowed i (j - 1)) (sym two) (sym l)
-            ∙ rw (eq-eqb (u - 1 + 1) (length t) p)
-        answered w ew eg false f =
-            let p : u - 1 + 1 ≡ u = omega (arith, unit .some) in
-            bits-by false f (means (take (u - 1 - o) (drop o t))) (first true right)
-            ∙ ap (λ (v : Value). asWritten (both (means (take (u - 1 - o) (drop o t))) (onward (c .at) v))) ew
-            ∙ rw (p, f, eg)
-
-        found : (k : ℕ) (w : List ℕ) → each (laterBits β) (cut σ (drop (c .at) t)) ≡ means w → length w ≡ k → c .at + k ≤ length t
-            → Finds σ β t (Digits′.Found o (u - 1) (c .at) k)
-        unfolding cut
-        found k w ew l h =
-            let g = each-bodies σ β 0 (drop (c .at) t) w ew in
-            finds-at σ β t o (u - 1) (c .at) k
-            record {
-              body = first-ordered;
-              behind = omega (arith, unit .some, unit .ends);
-              inside = unit .inside;
-              goes = g .0;
-              count = ap length (g .1) ∙ l;
-              within = omega (arith, unit .some, unit .ends);
-              digits =
-                  rw (g .1)
-                  (digits-append β (take (u - 1 - o) (drop o t)) w (allDigits-at β (take (u - 1 - o) (drop o t)) (sym ed ∙ and-right x d right))
-                  (each-digits β (cut σ (drop (c .at) t)) w ew));
-              answer = answered w ew (g .1) (eqb u (length t)) refl;
-            }
-
-        -- there are none
-        pub finds-lone : u ≡ length t → Finds σ β t (Digits′.Found o (u - 1) (c .at) 0)
-        finds-lone e = found 0 [] (later-none σ β (c .at) t (omega (arith, unit .ends))) refl (omega (arith, unit .inside))
-
-        -- as they were measured
-        module _ (a : Later)
-            (m : Measures (each (laterBits β) (cut σ (take (length t - c .at) (drop (c .at) t)))) (length (take (length t - c .at) (drop (c .at) t))) a) where
-          told : laterOf (each (laterBits β) (cut σ (drop (c .at) t))) ≡ a
-          told = ap (λ (w : List ℕ). laterOf (each (laterBits β) (cut σ w))) (sym (part-tail t (c .at))) ∙ sym (m .answer)
-
-          number-inside : c .at + numberIn a ≤ length t
-          number-inside = omega (arith, m .within, length-take (length t - c .at) (drop (c .at) t), length-drop (c .at) t, unit .inside)
-
-          pub place-fits : (p : ℕ) → a ≡ Later′.Refused p → c .at + p ≤ length t
-          place-fits p k = omega (arith, number-inside, ap numberIn k)
-
-          pub finds-refused : (p : ℕ) → a ≡ Later′.Refused p → Finds σ β t (Digits′.Refused (c .at + p))
-          finds-refused p k = finds-bad σ β t (c .at + p) (go (eqb u (length t)) refl)
-            where
-              bad : each (laterBits β) (cut σ (drop (c .at) t)) ≡ fails p
-              bad = later-fails (each (laterBits β) (cut σ (drop (c .at) t))) p (told ∙ k)
-
-              go : (y : Bool) → eqb u (length t) ≡ y → bits σ β t ≡ refused (c .at + p)
-              go true h = absurd (fails≢means p [] (sym bad ∙ later-none σ β (c .at) t (omega (arith, eqb-true u (length t) h, unit .ends))))
-              go false h =
-                  bits-by false h (means (take (u - 1 - o) (drop o t))) (first true right)
-                  ∙ ap (λ (w : Value). asWritten (both (means (take (u - 1 - o) (drop o t))) (onward (c .at) w))) bad
-
-          pub finds-found : (k : ℕ) → a ≡ Later′.Length k → Finds σ β t (Digits′.Found o (u - 1) (c .at) k)
-          finds-found k h =
-              let w = later-means (each (laterBits β) (cut σ (drop (c .at) t))) k (told ∙ h) in
-              found k (w .0) (w .1) (w .2) (omega (arith, number-inside, ap numberIn h))
-
--- READ, as it was found
-module _ {σ : Settings} {β : ℕ} {t : List ℕ} {r : Digits} (a : Finds σ β t r) where
-  pub bits-refused : (out : List ℕ) (p : ℕ) → r ≡ Digits′.Refused p → Reads (bits σ β t) out (Read′.Refused p) out
-  bits-refused out p e = reads-refused (bits σ β t) out p (a .bad p e)
-
-  module _ (f l i n : ℕ) (e : r ≡ Digits′.Found f l i n) where
-    at : Found-at σ β t f l i n
-    at = a .found f l i n e
-
-    pub last-fits : l + 1 ≤ length t
-    last-fits = omega (arith, at .behind, at .inside)
-
-    pub body-ordered : f ≤ l
-    body-ordered = at .body
-
-    pub body-inside : l ≤ length t
-    body-inside = omega (arith, at .behind, at .inside)
-
-    pub later-inside : i ≤ length t
-    later-inside = at .inside
-
-    pub all-fit : l - f + n ≤ length t
-    all-fit = at .within
-
-    pub bits-borrowed : (out : List ℕ) → l + 1 ≡ length t → Reads (bits σ β t) out (Read′.Borrowed f l) out
-    bits-borrowed out k = reads-borrowed (bits σ β t) out f l (at .answer ∙ rw (eq-eqb (l + 1) (length t) k))
-
-    pub first-length : length (part f l t) ≡ l - f
-    first-length = length-take (l - f) (drop f t) ∙ omega (arith, length-drop f t, at .body, at .behind, at .inside)
-
-    pub digits-length : length (part f l t ++ bodies σ (drop i t)) ≡ l - f + n
-    digits-length = length-append (part f l t) (bodies σ (drop i t)) ∙ omega (arith, first-length, at .count)
-
-    module _ (k : l + 1 ≡ length t → ⊥) (out : List ℕ) where
-      whole-written : bits σ β t ≡ written (part f l t ++ bodies σ (drop i t))
-      whole-written = at .answer ∙ rw (ne-eqb (l + 1) (length t) k)
-
-      pub bits-short : length out < l - f + n → Reads (bits σ β t) out (Read′.NoRoom (l - f + n)) out
-      bits-short h = reads-short (bits σ β t) (part f l t ++ bodies σ (drop i t)) out (l - f + n) whole-written digits-length h
-
-      module _ (h : l - f + n ≤ length out) (o : List ℕ) (eo : o ≡ filled (part f l t) out) where
-        put-first : o ≡ part f l t ++ drop (l - f) out
-        put-first =
-            eo ∙ filled-all (part f l t) out (omega (arith, first-length))
-            ∙ ap (λ (j : ℕ). part f l t ++ drop j out) first-length
-
-        same : length o ≡ length out
-        same = ap length put-first ∙ length-append (part f l t) (drop (l - f) out) ∙ omega (arith, first-length, length-drop (l - f) out)
-
-        lent : take (length o - (l - f)) (drop (l - f) o) ≡ drop (l - f) o
-        lent = part-tail o (l - f)
-
-        pub lent-fits : l - f ≤ length o
-        lent-fits = omega (arith, same)
-
-        pub rest-room : BodiesFit σ (take (length t - i) (drop i t)) (length (take (length o - (l - f)) (drop (l - f) o)))
-        rest-room =
-            rw (part-tail t i, lent)
-            record { goes = at .goes; fits = omega (arith, at .count, same, length-drop (l - f) o) }
-
-        pub bits-written : (last : List ℕ) → last ≡ filled (bodies σ (take (length t - i) (drop i t))) (take (length o - (l - f)) (drop (l - f) o))
-            → Reads (bits σ β t) out (Read′.Written (l - f + n)) (take (l - f) o ++ (last ++ drop (length o - (l - f)) (drop (l - f) o)))
-        bits-written last el =
-            let w = bodies σ (drop i t) in
-            let fits : length w ≤ length (drop (l - f) o) = omega (arith, at .count, same, length-drop (l - f) o) in
-            let g : last ≡ w ++ drop (length w) (drop (l - f) o) =
-            el ∙ ap₂ filled (ap (bodies σ) (part-tail t i)) lent ∙ filled-all w (drop (l - f) o) fits in
-            let len : l - f + length w ≡ length (part f l t ++ w) = omega (arith, digits-length, at .count) in
-            let tail : last ++ drop (length o - (l - f)) (drop (l - f) o) ≡ last =
-            ap (last ++_) (drop-of-length-le (drop (l - f) o) (le-of-eq (length-drop (l - f) o))) ∙ append-nil last in
-            reads-written (bits σ β t) (part f l t ++ w) out (take (l - f) o ++ (last ++ drop (length o - (l - f)) (drop (l - f) o))) (l - f + n)
-            whole-written digits-length h
-            (ap (take (l - f) o ++_) (tail ∙ g)
-            ∙ ap (λ (x : List ℕ). take (l - f) x ++ (w ++ drop (length w) (drop (l - f) x))) put-first
-            ∙ put-part (part f l t) w out (l - f) first-length
-            ∙ ap (λ (j : ℕ). (part f l t ++ w) ++ drop j out) len)
+        pub bits-joined : (u ≡ length t → ⊥) → (a : Read) (after : List ℕ)
+            → Reads (joinedBits σ β (part o (u - 1) t) (c .at) (drop (c .at) t)) out a after
+            → Reads (bits σ β t) out a after
+        bits-joined k a after h = rw (bits-by false (ne-eqb u (length t) k) (means (take (u - 1 - o) (drop o t))) (first true right)) h

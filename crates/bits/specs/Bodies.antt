@@ -1,4 +1,4 @@
--- What measuring answers of the segments behind the first, what their bodies are, and where a text's digits stand. Assumes nothing.
+-- What measuring answers of the segments behind the first, what their bodies are, what they make with the first, and where a text's digits stand. Assumes nothing.
 use mathlib.Core.Path.{_≡_}
 use mathlib.Core.Bool.{false}
 use mathlib.Core.List.{List, _++_}
@@ -8,9 +8,9 @@ use lib.ListN.{length, drop}
 use Rattle.meaning.specs.declared.Settings.{Settings}
 use Rattle.meaning.specs.Bytes.{if_then_else_, part}
 use Rattle.meaning.specs.Walk.{Step, keep, give, stop, walk, stops, value}
-use Rattle.meaning.specs.Cutting.{opening, segmentStep}
-use Rattle.meaning.specs.Reading.{Answer, borrowed, written, refused, Value, means, fails}
-use Rattle.meaning.specs.Kinds.{bits}
+use Rattle.meaning.specs.Cutting.{opening, segmentStep, cut}
+use Rattle.meaning.specs.Reading.{Answer, borrowed, written, refused, Value, means, fails, onward, both, each, asWritten}
+use Rattle.meaning.specs.Kinds.{laterBits, bits}
 use Rattle.laws.proofs.basics.Digits.{DigitsTo}
 use Rattle.bits.specs.declared.later.Later.{Later}
 use Rattle.bits.specs.declared.later.Later.the-variants.{Length, Refused}
@@ -47,6 +47,16 @@ bodies σ t = value (walk (bodyStep σ) 0 t)
 pub record BodiesFit (σ : Settings) (t : List ℕ) (n : ℕ) : Type 0 where
   pub goes : stops (walk (bodyStep σ) 0 t) ≡ false
   pub fits : length (bodies σ t) ≤ n
+
+-- a first segment's digits, and those of the segments of t, which stands at the place i
+abbrev pub joinedBits : Settings → ℕ → List ℕ → ℕ → List ℕ → Answer
+joinedBits σ β v i t = asWritten (both (means v) (onward i (each (laterBits β) (cut σ t))))
+
+-- the bounds of a first body, the place behind it and its gap, and a text's end
+pub record Ordered (from last at n : ℕ) : Type 0 where
+  pub body : from ≤ last
+  pub behind : last ≤ at
+  pub inside : at ≤ n
 
 -- WHERE THE DIGITS OF A TEXT STAND: those of the first segment from f to l, and those of the segments from i on, which are n
 pub record Found-at (σ : Settings) (β : ℕ) (t : List ℕ) (f l i n : ℕ) : Type 0 where

@@ -4,9 +4,9 @@ use leaves::digits::hex_value;
 use meaning::BitStringRadix;
 ghost use mathlib.Core.Path.{_≡_};
 ghost use mathlib.Core.List.{List, [], _++_};
-ghost use Prim.Native.Nat.{ℕ, _+_, _*_, _/_, _^_, _≤_};
+ghost use Prim.Native.Nat.{ℕ, _*_, _/_, _^_, _<_};
 ghost use lib.ListN.{length, drop};
-ghost use Rattle.meaning.specs.Bytes.{number};
+ghost use Rattle.meaning.specs.Bytes.{digit, number};
 ghost use Rattle.meaning.specs.Packing.{radixBits};
 ghost use Rattle.bits.specs.Pens.{Packing, Packable, Closable, DigitsAt, Low};
 
@@ -52,6 +52,15 @@ fn eight_binary(digits: &[u8], at: usize) -> u8
     byte
 }
 
+// The digit that a byte is which is known to be one, of any base up to 16: without a choice, since a byte that is none need not be told.
+// Rules out: letters read one too low.
+fn digit_of(byte: u8) -> u8
+    requires { ⌜ digit byte < 16 ⌝ }
+    ensures { λ r. ⌜ r ≡ digit byte ⌝ }
+{
+    byte % 16 + byte / 64 * 9
+}
+
 // As many digits as a byte has room for.
 fn whole_byte(digits: &[u8], at: usize, radix: BitStringRadix) -> u8
     requires { ⌜ DigitsAt (2 ^ radixBits radix) (8 / radixBits radix) at (now digits) ⌝ }
@@ -59,7 +68,7 @@ fn whole_byte(digits: &[u8], at: usize, radix: BitStringRadix) -> u8
 {
     match radix {
         BitStringRadix::Binary => eight_binary(digits, at),
-        BitStringRadix::Hex => hex_value(digits[at]) * 16 + hex_value(digits[at + 1]),
+        BitStringRadix::Hex => digit_of(digits[at]) * 16 + digit_of(digits[at + 1]),
     }
 }
 

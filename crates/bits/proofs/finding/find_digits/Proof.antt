@@ -1,7 +1,7 @@
 -- `bits::finding::find_digits` meets its contract: the first segment's letter and digits, and what is measured behind it, say where the digits stand. Assumes nothing.
 use native.Mathlib.Omega.{arith}
-use Rattle.bits.proofs.Wholes.{first-some, first-ordered, first-inside, rest-inside, place-fits}
-use Rattle.bits.proofs.Wholes.{finds-end, finds-remainder, finds-no-bits, finds-lone, finds-refused, finds-found}
+use Rattle.bits.proofs.Found.{first-some, first-ordered, first-inside, rest-inside, place-fits}
+use Rattle.bits.proofs.Found.{finds-end, finds-remainder, finds-no-bits, finds-lone, finds-refused, finds-found}
 use borrow.Author.Needs.{needs}
 use Rattle.bits.proofs.finding.find_digits.Statement.{statement}
 use Rattle.bits.proofs.finding.find_digits.Tie as tie

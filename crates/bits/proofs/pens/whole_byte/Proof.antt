@@ -1,6 +1,5 @@
 -- `bits::pens::whole_byte` meets its contract, by the radix. Assumes nothing.
-use native.Mathlib.Omega.{arith}
-use Rattle.bits.proofs.Inking.{whole-binary, binary-whole, hex-first, hex-inside, hex-high, hex-fits, hex-whole}
+use Rattle.bits.proofs.Inking.{whole-binary, binary-whole, hex-first, hex-inside, hex-one, hex-two, hex-high, hex-fits, hex-whole}
 use borrow.Author.Needs.{needs}
 use Rattle.bits.proofs.pens.whole_byte.Statement.{statement}
 use Rattle.bits.proofs.pens.whole_byte.Tie as tie
@@ -14,23 +13,23 @@ eight-binary-requires c κs = search whole-binary
 enum-told-2 : tie.Need-enum-told-2
 enum-told-2 c = search needs
 
-shared-slice-read-hex-value : tie.Need-shared-slice-read-hex-value
-shared-slice-read-hex-value c = search hex-first
+shared-slice-read-digit-of : tie.Need-shared-slice-read-digit-of
+shared-slice-read-digit-of c = search hex-first
 
-hex-value-requires : tie.Need-hex-value-requires
-hex-value-requires c κs = search needs
+digit-of-requires : tie.Need-digit-of-requires
+digit-of-requires c κs = search hex-one
 
 mul-result : tie.Need-mul-result
 mul-result c = search hex-high
 
-add-hex-value : tie.Need-add-hex-value
-add-hex-value c = search needs
+add-digit-of : tie.Need-add-digit-of
+add-digit-of c = search needs
 
-shared-slice-read-hex-value-2 : tie.Need-shared-slice-read-hex-value-2
-shared-slice-read-hex-value-2 c = search hex-inside
+shared-slice-read-digit-of-2 : tie.Need-shared-slice-read-digit-of-2
+shared-slice-read-digit-of-2 c = search hex-inside
 
-hex-value-requires-2 : tie.Need-hex-value-requires-2
-hex-value-requires-2 c κs = search needs
+digit-of-requires-2 : tie.Need-digit-of-requires-2
+digit-of-requires-2 c κs = search hex-two
 
 add-result : tie.Need-add-result
 add-result c = search hex-fits
@@ -48,12 +47,12 @@ whole-byte-spec =
     enum-told
     eight-binary-requires
     enum-told-2
-    shared-slice-read-hex-value
-    hex-value-requires
+    shared-slice-read-digit-of
+    digit-of-requires
     mul-result
-    add-hex-value
-    shared-slice-read-hex-value-2
-    hex-value-requires-2
+    add-digit-of
+    shared-slice-read-digit-of-2
+    digit-of-requires-2
     add-result
     returns
     returns-2)
