@@ -211,12 +211,12 @@ uint32_t valdrabus_date_of_day(uint32_t number, uint32_t *year, uint32_t *month,
 
 /* A bit string's packed bytes, always written: how is VALDRABUS_WRITTEN, first is 0, second their count. bits: how many bits they hold; 0 on a refusal. The
    digits are those that valdrabus_as_bit_text gives, of all segments in one run, and how many bits each is goes by the kind and not by the letter before the mark.
-   With 9 second counts packed bytes; a buffer of half of the literal's bytes always has room. 1, 2, 3, 4, 7, 9, 10. */
+   With 9 second counts packed bytes; a digit is half a byte at the most, so half of the literal's bytes are room enough. 1, 2, 3, 4, 7, 9, 10. */
 uint32_t valdrabus_as_packed_bits(uint32_t kind, uint32_t synthetic, uint32_t start, uint32_t end, const uint8_t *source, size_t source_len,
                                   uint8_t *out, size_t out_len, uint64_t *bits, uint32_t *how, size_t *first, size_t *second);
 
 /* The reverse: packed bytes and how many bits they hold as B'..', for the kind VALDRABUS_KIND_BINARY_BITS, or as X'..', for VALDRABUS_KIND_HEX_BITS, its digits
-   in upper case. len: the text's length, also the length needed with 9, else 0; it is one of the digits and three bytes more, so a buffer of no bytes
+   in upper case. len: the text's length, also the length needed with 9, else 0; it is a byte for each digit and three more, so a buffer of no bytes
    (out_len 0) asks for the length alone. Read with the same kind, the text gives the bytes and the count back. 9, 10, 12, 16. */
 uint32_t valdrabus_write_bit_literal(const uint8_t *bytes, size_t bytes_len, uint64_t bits, uint32_t kind, uint8_t *out, size_t out_len, size_t *len);
 

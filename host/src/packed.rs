@@ -72,8 +72,11 @@ impl<'b> Packed<'b> {
 /// ```
 impl fmt::Debug for Packed<'_> {
     fn fmt(&self, f: &mut fmt::Formatter<'_>) -> fmt::Result {
+        if self.bytes.is_empty() {
+            return f.write_str("0 bits");
+        }
         self.bytes.iter().try_for_each(|byte| write!(f, "{byte:02X}"))?;
-        write!(f, " of {} bits", self.bits)
+        write!(f, " of {} bit{}", self.bits, if self.bits == 1 { "" } else { "s" })
     }
 }
 

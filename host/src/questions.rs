@@ -151,7 +151,7 @@ impl Literal {
 
     /// A bit string's bits, packed: eight to a byte, the first bit the top one of the first byte, and how many they are. The digits are those of
     /// [`as_bit_text`](Literal::as_bit_text), of all segments in one run; how many bits each is goes by the kind, not by the letter. They are always written, and
-    /// half of the literal's bytes is always room enough. Refusals: 1, 2, 3, 7, 9, whose length counts packed bytes.
+    /// half of the literal's bytes is room enough, since a digit is half a byte at the most. Refusals: 1, 2, 3, 7, 9, whose length counts packed bytes.
     ///
     /// ```
     /// use valdrabus::{BitStringRadix, Error, Kind, Literal};

@@ -203,6 +203,9 @@ fn packed_bits_are_compared_and_shown() {
     assert_eq!(flags, same);
     assert_eq!(HashSet::from([flags, same]).len(), 1);
     assert_eq!(format!("{flags:?}"), "82 of 7 bits");
+    for (text, shown) in [("B''", "0 bits"), ("B'1'", "80 of 1 bit")] {
+        assert_eq!(format!("{:?}", whole(BINARY, text).as_packed_bits(text, &mut [0]).unwrap()), shown);
+    }
     let mut third = [0; 1];
     let longer = whole(BINARY, "B'10000010'").as_packed_bits("B'10000010'", &mut third).unwrap();
     assert_eq!(flags.bytes(), longer.bytes());

@@ -261,7 +261,7 @@ static void far_counts(void)
     }
 }
 
-/* At the limit a literal is only measured, since 2 GiB of buffer need not be there; past it no count is looked at. The zeros are never touched. */
+/* At the limit a literal is only measured, since 2 GiB of buffer need not be there; past it no count is looked at. Of the zeros the last byte at most is read. */
 static void limit(void)
 {
     static const uint64_t counts[] = {0, 1, 2147483644, 2147483648, 2147483649, 2147483656, 4294967296, UINT64_MAX};

@@ -4,7 +4,7 @@ ghost use mathlib.Core.Path.{_≡_};
 ghost use Rattle.meaning.specs.Bytes.{ascii, has, allDigits};
 
 // B or X, in either case.
-// Rules out: a letter in one case only (must-fail: later_prefix_accepted).
+// Rules out: O taken for X; a letter in one case only (must-fail: later_prefix_accepted, one_left_out).
 pub(crate) fn is_bit_letter(byte: u8) -> bool
     ensures { λ r. ⌜ r ≡ has byte (ascii "BbXx") ⌝ }
 {
@@ -12,7 +12,7 @@ pub(crate) fn is_bit_letter(byte: u8) -> bool
 }
 
 // Whether every byte is a digit of a base.
-// Rules out: the last byte unasked; no byte a digit.
+// Rules out: the first byte not asked, or asked for each (must-fail: digit_passed_over, digit_read_twice).
 pub(crate) fn are_digits(bytes: &[u8], base: u8) -> bool
     ensures { λ r. ⌜ r ≡ allDigits base (now (bytes .entry)) ⌝ }
 {

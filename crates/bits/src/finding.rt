@@ -23,8 +23,8 @@ pub(crate) enum Digits {
 }
 
 // Asks the first segment for its letter and its digits, and the later ones for theirs.
-// Rules out: digits chosen by the letter; a place counted from the second segment; cut at another setting than given
-// (must-fail: digits_by_letter, gap_before_the_second_left, setting_lost).
+// Rules out: digits chosen by the letter; the white space before the second segment left; a place counted from that segment; cut at another setting than given
+// (must-fail: digits_by_letter, gap_before_the_second_left, place_of_the_segment, setting_on, setting_lost).
 pub(crate) fn find_digits(text: &[u8], base: u8, settings: Settings) -> Digits
     ensures { λ r. ⌜ Finds settings base (now (text .entry)) r ⌝ }
 {
@@ -56,7 +56,10 @@ pub(crate) fn find_digits(text: &[u8], base: u8, settings: Settings) -> Digits
                     at,
                     later,
                 },
-                Later::Refused(place) => Digits::Refused { place: at + place },
+                Later::Refused(behind) => {
+                    let place = at + behind;
+                    Digits::Refused { place }
+                }
             }
         }
         Next::End => Digits::Refused { place: 0 },

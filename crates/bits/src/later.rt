@@ -20,7 +20,8 @@ pub(crate) enum Later {
 }
 
 // Asks each segment for its mark and its digits, and counts them.
-// Rules out: a prefix before a later segment; a remainder passed over; a place counted from the segment (must-fail: later_prefix_accepted).
+// Rules out: a prefix before a later segment; a remainder passed over; the place of a body told
+// (must-fail: later_prefix_accepted, remainder_passed_over, place_of_the_body).
 pub(crate) fn measure_later(text: &[u8], base: u8, settings: Settings) -> Later
     ensures { λ r. ⌜ Measures (each (laterBits base) (cut settings (now (text .entry)))) (length (now (text .entry))) r ⌝ }
 {
@@ -53,6 +54,7 @@ pub(crate) fn measure_later(text: &[u8], base: u8, settings: Settings) -> Later
 }
 
 // Writes the bodies of all segments, for which there is room: the tail of the buffer is lent on to the copy of each.
+// Rules out: each body from the text's start (must-fail: from_the_start).
 pub(crate) fn write_later(text: &[u8], settings: Settings, out: &mut [u8])
     requires { ⌜ BodiesFit settings (now text) (length (now out)) ⌝ }
     ensures { λ r. ⌜ now (out .exit) ≡ filled (bodies settings (now (text .entry))) (now (out .entry)) ⌝ }

@@ -28,7 +28,7 @@ pub enum Packed {
 }
 
 // How many bytes so many digits take: "rounded up to bytes". No sum can be too large for its type.
-// Rules out: digits counted for bytes; a last byte left out.
+// Rules out: rounding down; two binary digits to a byte; eight hex digits to one (must-fail: last_byte_left_out, hex_for_both, binary_for_both).
 fn packed_len(digits: usize, radix: BitStringRadix) -> usize
     ensures { λ r. ⌜ r ≡ packedLength (radixBits radix * «digits») ⌝ }
 {
@@ -39,7 +39,7 @@ fn packed_len(digits: usize, radix: BitStringRadix) -> usize
 }
 
 // Packs the bodies of all segments, from where the pen stands.
-// Rules out: the later segments dropped; the mark packed with the digits.
+// Rules out: the later segments dropped; the mark packed with the digits (must-fail: first_segment_only, mark_with_the_digits).
 fn pack_later(
     text: &[u8],
     radix: BitStringRadix,
@@ -77,6 +77,7 @@ fn pack_later(
 }
 
 // Packs the digits from one place to another, then those of the segments from a third place on, for which there is room.
+// Rules out: a first byte of 7 bits; the later segments laid over the first (must-fail: first_byte_of_seven, later_over_the_first).
 fn pack_all(
     text: &[u8],
     from: usize,

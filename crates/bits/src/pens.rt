@@ -18,7 +18,7 @@ pub(crate) struct Pen {
 }
 
 // "A binary digit is one bit, a hex digit four."
-// Rules out: four bits for a binary digit.
+// Rules out: four bits for a binary digit, one for a hex digit (must-fail: hex_for_both, binary_for_both).
 pub(crate) fn bits_of(radix: BitStringRadix) -> u8
     ensures { λ r. ⌜ r ≡ radixBits radix ⌝ }
 {
@@ -28,6 +28,8 @@ pub(crate) fn bits_of(radix: BitStringRadix) -> u8
     }
 }
 
+// The base whose digits have so many bits.
+// Rules out: base 16 with one bit, base 2 with four (must-fail: hex_for_both, binary_for_both).
 pub(crate) fn base_of(radix: BitStringRadix) -> u8
     ensures { λ r. ⌜ r ≡ 2 ^ radixBits radix ⌝ }
 {
@@ -38,7 +40,7 @@ pub(crate) fn base_of(radix: BitStringRadix) -> u8
 }
 
 // Eight binary digits as a byte: the compiler makes straight code of the loop.
-// Rules out: the first bit at the bottom.
+// Rules out: the eighth digit left out; the first eight digits for each eight (must-fail: one_left_out, from_the_start).
 fn eight_binary(digits: &[u8], at: usize) -> u8
     requires { ⌜ DigitsAt 2 8 at (now digits) ⌝ }
     ensures { λ r. ⌜ r ≡ number 2 8 0 (drop at (now (digits .entry))) ⌝ }
@@ -53,7 +55,7 @@ fn eight_binary(digits: &[u8], at: usize) -> u8
 }
 
 // The digit that a byte is which is known to be one, of any base up to 16: without a choice, since a byte that is none need not be told.
-// Rules out: letters read one too low.
+// Rules out: letters read one too low (must-fail: letters_one_too_low).
 fn digit_of(byte: u8) -> u8
     requires { ⌜ digit byte < 16 ⌝ }
     ensures { λ r. ⌜ r ≡ digit byte ⌝ }
@@ -62,6 +64,7 @@ fn digit_of(byte: u8) -> u8
 }
 
 // As many digits as a byte has room for.
+// Rules out: the first digit at the bottom, or read twice (must-fail: first_digit_at_the_bottom, digit_read_twice).
 fn whole_byte(digits: &[u8], at: usize, radix: BitStringRadix) -> u8
     requires { ⌜ DigitsAt (2 ^ radixBits radix) (8 / radixBits radix) at (now digits) ⌝ }
     ensures { λ r. ⌜ r ≡ number (2 ^ radixBits radix) (8 / radixBits radix) 0 (drop at (now (digits .entry))) ⌝ }
@@ -73,7 +76,8 @@ fn whole_byte(digits: &[u8], at: usize, radix: BitStringRadix) -> u8
 }
 
 // Packs digits from where the pen stands: whole bytes at once where one begins, single digits before and behind.
-// Rules out: a byte begun with each segment; the first bit at the bottom; a digit passed over.
+// Rules out: a byte begun with each segment; a digit passed over; a fresh byte of 7 bits; a whole byte laid over a begun one
+// (must-fail: byte_for_each_segment, digit_passed_over, fresh_byte_of_seven, begun_byte_overwritten).
 pub(crate) fn pack_run(digits: &[u8], radix: BitStringRadix, pen: Pen, out: &mut [u8]) -> Pen
     requires { ⌜ Packable (radixBits radix) (now digits) pen (now out) ⌝ }
     ensures { λ r. ⌜ ((whole d rest : List ℕ) → Packing (radixBits radix) whole d (now (out .entry)) pen (now (digits .entry) ++ rest)
@@ -108,7 +112,7 @@ pub(crate) fn pack_run(digits: &[u8], radix: BitStringRadix, pen: Pen, out: &mut
 }
 
 // A byte's bits so far, and zeros in place of those that are missing.
-// Rules out: a short last byte filled from the right.
+// Rules out: a short last byte filled from the right (must-fail: filled_from_the_right).
 fn filled_up(byte: u8, missing: u8) -> u8
     requires { ⌜ Low byte missing ⌝ }
     ensures { λ r. ⌜ r ≡ byte * 2 ^ missing ⌝ }
@@ -123,7 +127,7 @@ fn filled_up(byte: u8, missing: u8) -> u8
 }
 
 // "unused low bits of the last byte are zero."
-// Rules out: the last byte left out; its unused bits left as the buffer had them.
+// Rules out: the last byte left as the buffer had it, or put at its start (must-fail: last_byte_left_out, from_the_start).
 pub(crate) fn close(pen: Pen, radix: BitStringRadix, out: &mut [u8])
     requires { ⌜ Closable (radixBits radix) pen (now out) ⌝ }
     ensures { λ r. ⌜ ((whole d : List ℕ) → Packing (radixBits radix) whole d (now (out .entry)) pen []

@@ -18,6 +18,7 @@ ghost use Rattle.meaning.specs.Packing.{bitsPer, packedQuestion};
 ghost use Rattle.questions.specs.Packed.{radixBy, Countable, packedBy};
 
 // The radix of a base; hex for any other than 2.
+// Rules out: binary for every base, hex for every base (must-fail: count_in_digits, count_in_bytes).
 fn radix_by(base: u8) -> BitStringRadix
     ensures { λ r. ⌜ r ≡ radixBy base ⌝ }
 {
@@ -39,7 +40,7 @@ fn bits_per(base: u8) -> u64
 }
 
 // A packed reading, told of the literal: its digits as bits, and why it is refused.
-// Rules out: whole bytes counted; 5 for 7 (must-fail: count_in_bytes, five_for_seven).
+// Rules out: bytes counted for digits; 5 for 7 (must-fail: count_in_bytes, five_for_seven).
 fn packed_of(packed: Packed, base: u8, span: Span) -> PackedBits
     requires { ⌜ Countable packed ⌝ }
     ensures { λ r. ⌜ r ≡ packedBy span (bitsPer base) packed ⌝ }
@@ -55,7 +56,7 @@ fn packed_of(packed: Packed, base: u8, span: Span) -> PackedBits
 }
 
 // A bit string's digits as packed bytes, its text cut with the setting off: always written.
-// Rules out: strings asked; bits per digit by the letter (must-fail: another_kind_asked, hex_for_every_base).
+// Rules out: strings asked; hex digits packed of every bit string (must-fail: another_kind_asked, hex_for_every_base).
 pub fn as_packed_bits(literal: Literal, source: &[u8], out: &mut [u8]) -> PackedBits
     ensures { λ r. ⌜ Meets (packedQuestion literal (now (source .entry)) (now (out .entry))) r (now (out .exit)) ⌝ }
 {

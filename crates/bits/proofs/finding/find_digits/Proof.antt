@@ -57,14 +57,14 @@ measure-later-requires c κs = search needs
 enum-known-later : tie.Need-enum-known-later
 enum-known-later c = search needs
 
-enum-known-place : tie.Need-enum-known-place
-enum-known-place c = search needs
+enum-known-behind : tie.Need-enum-known-behind
+enum-known-behind c = search needs
 
-add-t28 : tie.Need-add-t28
-add-t28 c =
+add-place : tie.Need-add-place
+add-place c =
     let h =
     place-fits _ _ _ _ (c .before .before .before .before .before .before .before .before .before .before .before .before .before .before .before .new .ensures) _ (c .before .before .before .before .before .before .before .before .before .before .before .before .before .before .next .ensures) _ _ _ _ (c .before .before .before .before .before .before .before .before .before .before .before .before .«open» .given .1) _ _ _ (c .before .before .before .before .before .before .before .before .before .before .byte-at .ensures)
-    (c .before .before .before .before .before .before .before .before .before .is-bit-letter .ensures) (c .before .before .before .before .before .before .before .are-digits .ensures) (c .before .before .before .before .before .before .if1 .left) _ (c .before .before .before .measure-later .ensures) _ (c .before .place .given .1) in
+    (c .before .before .before .before .before .before .before .before .before .is-bit-letter .ensures) (c .before .before .before .before .before .before .before .are-digits .ensures) (c .before .before .before .before .before .before .if1 .left) _ (c .before .before .before .measure-later .ensures) _ (c .before .behind .given .1) in
     omega (arith, h)
 
 enum-told : tie.Need-enum-told
@@ -108,8 +108,8 @@ find-digits-spec =
     part-measure-later-end
     measure-later-requires
     enum-known-later
-    enum-known-place
-    add-t28
+    enum-known-behind
+    add-place
     enum-told
     enum-told-2
     returns-3
