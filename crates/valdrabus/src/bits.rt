@@ -87,7 +87,7 @@ fn bit_write_called(bytes: &[u8], bits: u64, kind: u32, out: &mut [u8]) -> Told
 }
 
 // Packed bytes and their bit count as a B literal, for kind 12, or as an X literal, for 13; 10 for any other kind.
-// Rules out: every kind let in; the count passed over; B for every kind; no byte written (must-fail: one_for_another, argument_passed_over, one_kind_for_all,
+// Rules out: X for every kind; the count passed over; B for every kind; no byte written (must-fail: one_for_another, argument_passed_over, one_kind_for_all,
 // empty_text_asked).
 #[no_mangle]
 pub extern "C" fn valdrabus_write_bit_literal(
