@@ -12,7 +12,7 @@ use Rattle.meaning.specs.declared.Settings.{Settings}
 use Rattle.meaning.specs.declared.BitStringRadix.{BitStringRadix}
 use Rattle.meaning.specs.Bytes.{if_then_else_, part}
 use Rattle.meaning.specs.Walk.{give, stop, gave, walk, stops, value}
-use Rattle.meaning.specs.Reading.{valueOf, means, fails}
+use Rattle.meaning.specs.Reading.{Value, valueOf, means}
 use Rattle.meaning.specs.Kinds.{bits}
 use Rattle.meaning.specs.Answers.{filled}
 use Rattle.meaning.specs.Packing.{bitsIn, packBits, radixBits, packedLength}
@@ -20,6 +20,7 @@ use Rattle.laws.proofs.basics.Digits.{DigitsTo}
 use Rattle.laws.proofs.basics.Lists.{part-tail}
 use Rattle.laws.proofs.basics.Laying.{laid-none, laid-same}
 use Rattle.laws.proofs.packing.Gathered.{length-bitsIn, length-packBits}
+use Rattle.laws.proofs.questions.Determined.{Same}
 use Rattle.laws.proofs.walking.Walks.{walk-drop}
 use Rattle.laws.proofs.walking.Courses.{walk-at}
 use Rattle.cutting.specs.Segments.{nextOf}
@@ -210,3 +211,7 @@ module _ (r : BitStringRadix) {σ : Settings} {β : ℕ} {t : List ℕ} {a : Dig
               buffer = b .buffer;
               within = at .within;
             }
+
+-- the contract determines the answer and the buffer
+pub packs-unique : (k : ℕ) (x : Value) (n : ℕ) (out : List ℕ) (r r′ : Packed) (d d′ : List ℕ) → Packs k x n out r d → Packs k x n out r′ d′ → Same r r′ d d′
+packs-unique k x n out r r′ d d′ a b = record { answer = a .answer ∙ sym (b .answer); buffer = a .buffer ∙ sym (b .buffer) }

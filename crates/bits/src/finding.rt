@@ -1,4 +1,4 @@
-// Where a bit string's digits stand, and how many there are: one pass over the text, for both questions.
+// Where a bit string's digits stand, and how many there are: one pass over the text, before the first is packed.
 use crate::digits::are_digits;
 use crate::digits::is_bit_letter;
 use crate::later::Later;
