@@ -2,12 +2,12 @@
  * valdrabus: reads the literals of SQL dumps, dates as days and bit strings as packed bytes too, and writes values as literals: plain, E'..' and U&'..', and
  * packed bytes as B'..' and X'..'.
  *
- * Link libvaldrabus.a (made by `tools/archive`, for x86-64 or Arm). No function allocates, keeps a pointer, or has any state.
+ * Link libvaldrabus.a (made by `tools/archive`, for x86-64 or Arm), or what `tools/install` puts beside it. No function allocates, keeps a pointer, or has any state.
  *
  * WHAT THE CALLER OWES, and no more:
- *   - a pointer with a length is valid for that many bytes, for reading, and for writing where it is not const; with the length 0 it is any pointer but NULL;
- *   - the same of a block's items and answers, whose lengths count 32-bit numbers and not bytes; these pointers are aligned, with the length 0 too;
- *   - a pointer to a number (how, first, second, place, value, year, bits, len ..) is valid for writing and aligned;
+ *   - a pointer with a length is valid for that many bytes, for reading, and for writing where it is not const; with the length 0 it is any pointer, NULL too;
+ *   - the same of a block's items and answers, whose lengths count 32-bit numbers and not bytes; these pointers are aligned, with the length 0 too, as NULL is;
+ *   - a pointer to a number (how, first, second, place, value, year, bits, len ..) is valid for writing and aligned, and so never NULL;
  *   - what is written through (the buffer, each lent number, a block's answers) overlaps nothing else that is given.
  * Everything else is tested: every kind, span, source, setting and buffer gets an answer or a number.
  *
@@ -68,9 +68,19 @@
 #include <stddef.h>
 #include <stdint.h>
 
+/* THE VERSION of this header; as one number 200, which grows with every version. */
+#define VALDRABUS_VERSION_MAJOR 0
+#define VALDRABUS_VERSION_MINOR 2
+#define VALDRABUS_VERSION_PATCH 0
+#define VALDRABUS_VERSION (VALDRABUS_VERSION_MAJOR * 10000 + VALDRABUS_VERSION_MINOR * 100 + VALDRABUS_VERSION_PATCH)
+#define VALDRABUS_VERSION_TEXT "0.2.0"
+
 #ifdef __cplusplus
 extern "C" {
 #endif
+
+/* The version of the library that is linked. Where it is not VALDRABUS_VERSION, header and library are of two versions, which no linker tells. */
+uint32_t valdrabus_version(void);
 
 enum {
     VALDRABUS_KIND_INTEGER = 1,
@@ -125,6 +135,48 @@ enum {
     VALDRABUS_BORROWED = 1,
     VALDRABUS_WRITTEN = 2
 };
+
+/* What a call's number says, as a sentence without span, place and length, which the call tells; never NULL. It is defined here, so that the library holds proved
+   code alone: a Rattle function has no text of its own to lend. */
+static inline const char *valdrabus_message(uint32_t number)
+{
+    switch (number) {
+    case VALDRABUS_OK:
+        return "answered";
+    case VALDRABUS_WRONG_KIND:
+        return "the kind does not fit the question";
+    case VALDRABUS_MISSING_SOURCE:
+        return "the literal stands in no source";
+    case VALDRABUS_INVALID_SOURCE_RANGE:
+        return "the span is no range of whole characters in the source";
+    case VALDRABUS_NOT_UTF8:
+        return "the text or value is not UTF-8";
+    case VALDRABUS_INVALID_INTEGER:
+        return "the text is not a readable integer";
+    case VALDRABUS_INVALID_STRING:
+        return "the text is not a readable string";
+    case VALDRABUS_INVALID_BIT_STRING:
+        return "the text is not a readable bit string";
+    case VALDRABUS_INVALID_MONEY:
+        return "the text is not a money text";
+    case VALDRABUS_NO_ROOM:
+        return "the room is too short";
+    case VALDRABUS_BAD_NUMBER:
+        return "a kind, mark or setting that is given names nothing";
+    case VALDRABUS_HOLDS_NUL:
+        return "the value holds a NUL: only plain literals with backslash escapes spell it";
+    case VALDRABUS_OVER_LIMIT:
+        return "the value is too long to be written, or the part size too small";
+    case VALDRABUS_INVALID_DATE:
+        return "the text or number is not a date, yyyy-mm-dd from 0001-01-01 to 9999-12-31";
+    case VALDRABUS_BAD_BLOCK:
+        return "the block's items are not in fours, it has fewer answers than items, or its buffer is too long";
+    case VALDRABUS_BAD_BITS:
+        return "the bytes are no packed bits of that count, or X'..' cannot spell it";
+    default:
+        return "unknown number";
+    }
+}
 
 /* TEXTS: a part of the source, or written into the buffer. */
 

@@ -12,5 +12,6 @@ pub mod parts;
 pub mod texts;
 mod told;
 pub mod values;
+pub mod version;
 pub mod views;
 pub mod writing;
