@@ -1,6 +1,7 @@
-//! Finds libvaldrabus.a for the machine that is built for: the archive that VALDRABUS_ARCHIVE names, else the one that tools/archive proves and makes in
-//! the repository that this crate stands in. A relative path counts from the repository's root, wherever cargo is called. An archive for another machine,
-//! or a machine that there is none for, is told before anything is proved.
+//! Finds libvaldrabus.a for the machine that is built for: the archive that VALDRABUS_ARCHIVE names, itself or by the folder that a package of
+//! `tools/archive --pack` unpacks to, else the one that tools/archive proves and makes in the repository that this crate stands in. A relative path counts
+//! from the repository's root, wherever cargo is called. An archive for another machine, a machine that there is none for, or a package that is not as its
+//! SHA256SUMS says, is told before anything is proved.
 
 use std::ffi::OsString;
 use std::fs::OpenOptions;
@@ -52,7 +53,8 @@ fn unsupported() -> String {
 /// The archive that is given. One for another machine is refused here, where it can be said what to do, and not by the linker. For a target that we make
 /// none for, any is taken.
 fn named(root: &Path) -> Option<PathBuf> {
-    let archive = root.join(env::var_os("VALDRABUS_ARCHIVE").filter(|path| !path.is_empty())?);
+    let path = root.join(env::var_os("VALDRABUS_ARCHIVE").filter(|path| !path.is_empty())?);
+    let archive = if path.is_dir() { packed(&path) } else { path };
     println!("cargo:rerun-if-changed={}", archive.display());
     if let Some(due) = supported() {
         let found = machine_of(&archive);
@@ -66,11 +68,37 @@ fn named(root: &Path) -> Option<PathBuf> {
     Some(archive)
 }
 
+/// The archive of an unpacked package, which has to be whole: each file as SHA256SUMS says, the archive among them.
+fn packed(folder: &Path) -> PathBuf {
+    const ARCHIVE: &str = "lib/libvaldrabus.a";
+    let shown = folder.display();
+    println!("cargo:rerun-if-changed={shown}/SHA256SUMS");
+    let sums = fs::read_to_string(folder.join("SHA256SUMS")).unwrap_or_default();
+    if !sums.lines().any(|line| line.split_whitespace().nth(1) == Some(ARCHIVE)) {
+        fail(&format!("VALDRABUS_ARCHIVE names the folder {shown}, which has no SHA256SUMS of {ARCHIVE}"));
+    }
+    let check = Command::new("sha256sum").args(["-c", "SHA256SUMS"]).current_dir(folder).stdin(Stdio::null()).output();
+    match check {
+        Ok(said) if said.status.success() => folder.join(ARCHIVE),
+        Ok(said) => fail(&format!(
+            "{shown} is not as its SHA256SUMS says: unpack the package anew\n{}{}",
+            String::from_utf8_lossy(&said.stdout),
+            String::from_utf8_lossy(&said.stderr)
+        )),
+        Err(why) => fail(&format!(
+            "sha256sum, which holds {shown} to its SHA256SUMS, cannot be run ({why}): name {ARCHIVE} in it, to link that as it is"
+        )),
+    }
+}
+
 /// Which machine an archive is for, by its first ELF object.
 fn machine_of(archive: &Path) -> String {
     let bytes = fs::read(archive).unwrap_or_else(|why| fail(&format!("{} cannot be read: {why}", archive.display())));
     let Some(number) = members(&bytes).find_map(elf_machine) else {
-        fail(&format!("{} is no archive of ELF objects", archive.display()));
+        fail(&format!(
+            "{} is no archive of ELF objects; of a package, name the folder that it unpacks to",
+            archive.display()
+        ));
     };
     match MACHINES.iter().find(|(_, known)| *known == number) {
         Some((name, _)) => name.to_string(),
