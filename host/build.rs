@@ -149,7 +149,7 @@ fn path_said(mut child: Child, machine: &str) -> PathBuf {
             "this toolchain gives nothing to make an archive for {machine} from: set VALDRABUS_ARCHIVE to one made elsewhere, by tools/archive {machine}"
         )),
         _ => fail(&format!(
-            "tools/archive {machine} failed; an archive that is made already can be named by VALDRABUS_ARCHIVE"
+            "tools/archive {machine} failed; an archive that is made already, or an unpacked package, can be named by VALDRABUS_ARCHIVE"
         )),
     }
 }

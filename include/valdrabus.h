@@ -49,6 +49,10 @@
  *   VALDRABUS_WRITTEN   the bytes first (which is 0) to second of the buffer
  * A block tells its texts by start and length instead.
  *
+ * ROOM. A buffer as long as the text, end - start, is never too short, which is proved: the value of a string or a temporal text is at most its text less two bytes, a
+ * bit string's digits less three, an identifier's text less four; packed bits take half of the text's bytes. Only a number may need more: 40 bytes, or the text's length
+ * where that is more.
+ *
  * THE PLACE of a 6 says where the text broke, so that nobody has to hunt for the byte. valdrabus_as_str_in and valdrabus_as_temporal_text are lent a number
  * for it, and a block tells it in the start field of its answer; identifiers have none, and neither has any other number. valdrabus_as_date is lent none:
  * where it gives 6, valdrabus_as_temporal_text gives 6 for the same literal with any buffer, an empty one too, and tells the place. It counts bytes from the
@@ -180,7 +184,7 @@ static inline const char *valdrabus_message(uint32_t number)
 
 /* TEXTS: a part of the source, or written into the buffer. */
 
-/* What a string literal means at a setting. 1, 2, 3, 4, 6, 9, 10. */
+/* What a string literal means at a setting. A buffer of end - start bytes always has room. 1, 2, 3, 4, 6, 9, 10. */
 uint32_t valdrabus_as_str_in(uint32_t kind, uint32_t synthetic, uint32_t start, uint32_t end, const uint8_t *source, size_t source_len,
                              uint32_t setting, uint8_t *out, size_t out_len, uint32_t *how, size_t *first, size_t *second, size_t *place);
 

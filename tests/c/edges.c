@@ -1,5 +1,6 @@
 /*
- * What a new user's program leans on beside the answers: the version, the sentence for each number, and NULL wherever a length of 0 says that there is nothing.
+ * What a new user's program leans on beside the answers: the version, the sentence for each number, a buffer of the text's length, and NULL wherever a length of 0
+ * says that there is nothing.
  * Each function that takes a slice is lent NULL for it, alone and with the others, and must answer what an empty slice gives, every lent number written. Prints
  * one line; ends with status 1 at the first difference, having said where it stands.
  */
@@ -175,6 +176,28 @@ static void blocks(void)
     CHECK(valdrabus_read_block(NULL, 0, bytes("'a' 'b'"), 7, NULL, 0, out, ROOM) == VALDRABUS_OK && buffer_is_lent());
 }
 
+/* No string or temporal text is refused for want of room by a buffer that is two bytes shorter than its text; the first of these needs all of it. */
+static void room(void)
+{
+    static const char *const literals[] = {
+        "'a\\'", "'a''b'", "\"a\"\"b\"", "N'a''b'", "_utf8'a''b'", "E'\\x41\\n'", "E'\\u00e9'", "U&'\\0041'", "U&'!0041'UESCAPE'!'", "$$a$$", "'a' 'b'", "'' ''",
+        "''", "'a' E'\\x41' 'b'", "DATE 'a' 'b'", "DATE'''a'", "x",
+    };
+    uint8_t enough[32];
+    uint32_t setting;
+    size_t row;
+    CHECK(valdrabus_as_str_in(STRING, 0, 0, 4, bytes(literals[0]), 4, 1, out, 2, &how, &first, &second, &place) == VALDRABUS_OK);
+    CHECK(how == VALDRABUS_WRITTEN && second == 2);
+    CHECK(valdrabus_as_str_in(STRING, 0, 0, 4, bytes(literals[0]), 4, 1, out, 1, &how, &first, &second, &place) == VALDRABUS_NO_ROOM);
+    for (row = 0; row < sizeof literals / sizeof literals[0]; row++) {
+        const uint8_t *text = bytes(literals[row]);
+        size_t len = strlen(literals[row]), less = len < 2 ? 0 : len - 2;
+        for (setting = 0; setting <= 1; setting++)
+            CHECK(valdrabus_as_str_in(STRING, 0, 0, (uint32_t)len, text, len, setting, enough, less, &how, &first, &second, &place) != VALDRABUS_NO_ROOM);
+        CHECK(valdrabus_as_temporal_text(VALDRABUS_KIND_DATE, 0, 0, (uint32_t)len, text, len, enough, less, &how, &first, &second, &place) != VALDRABUS_NO_ROOM);
+    }
+}
+
 /* The writers spell no value as an empty literal, and tell its length where there is no room. */
 static void writers(void)
 {
@@ -231,9 +254,10 @@ int main(void)
     numbers_and_bits();
     parts_and_values();
     blocks();
+    room();
     writers();
     packed();
     helpers();
-    printf("version, messages and NULL with the length 0: all %u checks hold\n", checks);
+    printf("version, messages, room, and NULL with the length 0: all %u checks hold\n", checks);
     return 0;
 }
