@@ -8,6 +8,7 @@ pub mod joining
 pub mod places
 pub mod dates
 pub mod packing
+pub mod room
 pub mod writing
 pub mod questions
 pub mod tables
