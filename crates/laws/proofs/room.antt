@@ -1,4 +1,5 @@
 -- Room: how long a value is at the most, of how long a text; and so when a buffer is never too short.
 pub mod Told
 pub mod Values
+pub mod Digits
 pub mod Asked

@@ -165,7 +165,7 @@ written-in : (n : ℕ) (z : Value) → AnswerIn n (asWritten z)
 written-in n (means v) = tt
 written-in n (fails p) = tt
 
-body-right : (β : ℕ) (s v : List ℕ) (x : Bool) → bitBody β 2 x s ≡ means v → x ≡ true
+pub body-right : (β : ℕ) (s v : List ℕ) (x : Bool) → bitBody β 2 x s ≡ means v → x ≡ true
 unfolding bitBody
 body-right β s v true e = refl
 body-right β s v false e = absurd (fails≢means 0 v e)

@@ -17,10 +17,14 @@ use Rattle.meaning.specs.declared.Refusal.the-variants.{WrongKind, MissingSourc
 use Rattle.meaning.specs.declared.Refusal.the-variants.{InvalidBitString, InvalidMoney, NoRoom, InvalidDate}
 use Rattle.meaning.specs.declared.Text.{Text}
 use Rattle.meaning.specs.declared.Text.the-variants as Text′
+use Rattle.meaning.specs.declared.Identifier.{Identifier}
+use Rattle.meaning.specs.declared.Identifier.the-variants as Identifier′
+use Rattle.meaning.specs.declared.PackedBits.{PackedBits}
+use Rattle.meaning.specs.declared.PackedBits.the-variants as Packed′
 use Rattle.meaning.specs.Bytes.{if_then_else_, part}
 use Rattle.meaning.specs.Chars.{utf8}
 use Rattle.meaning.specs.Reading.{Answer, borrowed, written, refused}
-use Rattle.meaning.specs.Answers.{byRoom, refusalNumber, textNumber}
+use Rattle.meaning.specs.Answers.{byRoom, refusalNumber, textNumber, packedNumber, identifierNumber}
 use Rattle.meaning.specs.Questions.{Tested, passes, barred, badSpan, sourceText, tested, toldAs, told}
 use Rattle.laws.proofs.questions.Asked.{Spans}
 use Rattle.laws.proofs.questions.Ranges.{span-range}
@@ -49,23 +53,49 @@ TextNeeds P m (Text′.Borrowed f u) = Unit {0}
 TextNeeds P m (Text′.Written n) = P n × (n ≤ m)
 TextNeeds P m (Text′.Refused r) = RefusalNeeds P m r
 
--- where each such length fits the buffer there is no 9
-pub refusal-never : (P : ℕ → Type 0) (m : ℕ) → ((n : ℕ) → P n → n ≤ m) → (r : Refusal) → RefusalNeeds P m r → refusalNumber r ≡ 9 → ⊥
-refusal-never P m h (NoRoom n) a e = let g = h n (a .0) in let k = a .1 in omega arith
-refusal-never P m h (WrongKind f k) a e = omega arith
-refusal-never P m h (MissingSource s) a e = omega arith
-refusal-never P m h (InvalidSourceRange s) a e = omega arith
-refusal-never P m h (NotUtf8 s) a e = omega arith
-refusal-never P m h (InvalidInteger s) a e = omega arith
-refusal-never P m h (InvalidString s p) a e = omega arith
-refusal-never P m h (InvalidBitString s) a e = omega arith
-refusal-never P m h (InvalidMoney s) a e = omega arith
-refusal-never P m h (InvalidDate s) a e = omega arith
+abbrev pub PackedNeeds : (ℕ → Type 0) → ℕ → PackedBits → Type 0
+PackedNeeds P m (Packed′.Written n b) = P n × (n ≤ m)
+PackedNeeds P m (Packed′.Refused r) = RefusalNeeds P m r
 
-pub text-never : (P : ℕ → Type 0) (m : ℕ) → ((n : ℕ) → P n → n ≤ m) → (a : Text) → TextNeeds P m a → textNumber a ≡ 9 → ⊥
-text-never P m h (Text′.Borrowed f u) x e = omega arith
-text-never P m h (Text′.Written n) x e = omega arith
-text-never P m h (Text′.Refused r) x e = refusal-never P m h r x e
+abbrev pub IdentifierNeeds : (ℕ → Type 0) → ℕ → Identifier → Type 0
+IdentifierNeeds P m (Identifier′.Borrowed f u) = Unit {0}
+IdentifierNeeds P m (Identifier′.Written n) = P n × (n ≤ m)
+IdentifierNeeds P m Identifier′.NotUtf8 = Unit {0}
+IdentifierNeeds P m Identifier′.InvalidString = Unit {0}
+IdentifierNeeds P m (Identifier′.NoRoom n) = P n × (m < n)
+
+-- where each such length fits the buffer there is no 9
+module _ (P : ℕ → Type 0) (m : ℕ) (fits : (n : ℕ) → P n → n ≤ m) where
+  no-room : (n : ℕ) → P n × (m < n) → ⊥
+  no-room n a = let g = fits n (a .0) in let k = a .1 in omega arith
+
+  refusal-never : (r : Refusal) → RefusalNeeds P m r → refusalNumber r ≡ 9 → ⊥
+  refusal-never (NoRoom n) a e = no-room n a
+  refusal-never (WrongKind f k) a e = omega arith
+  refusal-never (MissingSource s) a e = omega arith
+  refusal-never (InvalidSourceRange s) a e = omega arith
+  refusal-never (NotUtf8 s) a e = omega arith
+  refusal-never (InvalidInteger s) a e = omega arith
+  refusal-never (InvalidString s p) a e = omega arith
+  refusal-never (InvalidBitString s) a e = omega arith
+  refusal-never (InvalidMoney s) a e = omega arith
+  refusal-never (InvalidDate s) a e = omega arith
+
+  pub text-never : (a : Text) → TextNeeds P m a → textNumber a ≡ 9 → ⊥
+  text-never (Text′.Borrowed f u) x e = omega arith
+  text-never (Text′.Written n) x e = omega arith
+  text-never (Text′.Refused r) x e = refusal-never r x e
+
+  pub packed-never : (a : PackedBits) → PackedNeeds P m a → packedNumber a ≡ 9 → ⊥
+  packed-never (Packed′.Written n b) x e = omega arith
+  packed-never (Packed′.Refused r) x e = refusal-never r x e
+
+  pub identifier-never : (a : Identifier) → IdentifierNeeds P m a → identifierNumber a ≡ 9 → ⊥
+  identifier-never (Identifier′.Borrowed f u) x e = omega arith
+  identifier-never (Identifier′.Written n) x e = omega arith
+  identifier-never Identifier′.NotUtf8 x e = omega arith
+  identifier-never Identifier′.InvalidString x e = omega arith
+  identifier-never (Identifier′.NoRoom n) x e = no-room n x
 
 -- a length is told as written where there is room for it, and else as needed
 pub by-room : {A : Type 0} (Q : A → Type 0) (long short : ℕ → A) (n m : ℕ) → (n ≤ m → Q (long n)) → (m < n → Q (short n)) → Q (byRoom long short n m)
@@ -94,7 +124,7 @@ tested-by Q l S p b right e = go right (l .synthetic) (badSpan (l .span) S) (utf
     go true false false false h = b (NotUtf8 (l .span)) (omega arith)
     go true false false true h = p h
 
-low-needs : (P : ℕ → Type 0) (m : ℕ) (r : Refusal) → refusalNumber r ≤ 4 → RefusalNeeds P m r
+pub low-needs : (P : ℕ → Type 0) (m : ℕ) (r : Refusal) → refusalNumber r ≤ 4 → RefusalNeeds P m r
 low-needs P m (NoRoom n) h = absurd (omega arith)
 low-needs P m (WrongKind f k) h = tt
 low-needs P m (MissingSource s) h = tt

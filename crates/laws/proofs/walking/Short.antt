@@ -11,9 +11,9 @@ use Rattle.meaning.specs.Bytes.{if_then_else_, part, has, quote}
 use Rattle.meaning.specs.Chars.{Due, due, broken, fresh, push, pushes, whole}
 use Rattle.meaning.specs.Walk.{Step, keep, give, stop, Trace, ended, stopped, kept, gave, after, walk, size, stops, plain, value}
 use Rattle.meaning.specs.Steps.{standardStep, escapeStep, unicodeStep, checked, unlessBroken, gap}
-use Rattle.meaning.specs.Cutting.{segment, segmentBy, segmentStep, cut, continues}
+use Rattle.meaning.specs.Cutting.{opening, segmentAt, segment, segmentBy, segmentStep, cut, continues}
 use Rattle.meaning.specs.Spelling.{Spelling, standard, escape, unicode, dollar, unspelt, spelling}
-use Rattle.meaning.specs.Reading.{borrowed, written, refused, Value, means, fails, valueOf, answer, read-as, one, alone, joined, asWritten, read, meaning}
+use Rattle.meaning.specs.Reading.{borrowed, written, refused, Value, means, fails, valueOf, answer, read-as, one, onward, both, each, alone, joined, asWritten, read, meaning}
 use Rattle.laws.proofs.walking.Walks.{FitsIn, fits-size}
 use Rattle.laws.proofs.cutting.Openings.{apart-of-mark, mark-0}
 use Rattle.laws.proofs.joining.Joining.{fails≢means, both-means, value-written}
@@ -23,7 +23,7 @@ use Rattle.laws.proofs.walking.Passes.{courseBy, course-same}
 use Rattle.laws.proofs.places.Spelt.{Spelt, spelling-spelt}
 
 -- a walk's value is no longer than what it walked
-walk-short : (step : List ℕ → Step) → Steady step → (k : ℕ) (t : List ℕ) → k ≤ length t → k + length (value (walk step k t)) ≤ length t
+pub walk-short : (step : List ℕ → Step) → Steady step → (k : ℕ) (t : List ℕ) → k ≤ length t → k + length (value (walk step k t)) ≤ length t
 walk-short step ok zero [] h = omega arith
 walk-short step ok (suc k) [] h = absurd (omega arith)
 walk-short step ok (suc k) (b ∷ t) h = let r = walk-short step ok k t (omega arith) in omega arith
@@ -113,43 +113,57 @@ alone-bound σ t = go (has 0 t)
     go true = omega arith
     go false = as-bound σ t (spelling t) (spelling-body t) (spelling-spelt t)
 
--- A WHOLE TEXT. Its segments mean no more than what is left behind k bytes that are passed
+-- A WHOLE TEXT. Its segments, each read by an f whose values are no longer than what it reads, mean no more than what is left behind k bytes that are passed
 module _ (σ : Settings) where
   abbrev cutFrom : ℕ → List ℕ → Trace
   cutFrom k t = walk (segmentStep σ) k t
 
-  -- the first segment's marks count
-  first-short : (b : ℕ) (t v : List ℕ) → ((k : ℕ) (w : List ℕ) → joined σ (cutFrom k t) ≡ means w → length w ≤ length t - k)
-      → joined σ (cutFrom 0 (b ∷ t)) ≡ means v → length v + 2 ≤ suc (length t)
-  unfolding segmentStep
-  first-short b t v ih h = go (segment σ (b ∷ t)) h
-    where
-      go : (n : ℕ) → joined σ (after (segmentBy (b ∷ t) n) b (λ k. cutFrom k t)) ≡ means v → length v + 2 ≤ suc (length t)
-      go zero g = absurd (fails≢means 0 v g)
-      go (suc n) g =
-          let m : ℕ = n + gap (drop (suc n) (b ∷ t)) in
-          let s : List ℕ = take (suc n) (b ∷ t) in
-          let p = both-means (alone σ s) (joined σ (cutFrom m t)) (suc m) v g in
-          let l : length (p .0) + 2 ≤ length s = subst (λ (x : Value). Bound x (length s)) (p .2) (alone-bound σ s) in
-          omega (arith, l, ih m (p .1) (p .3), ap length (p .4), length-append (p .0) (p .1), length-take (suc n) (b ∷ t))
+  abbrev EachShort : (List ℕ → Value) → List ℕ → Type 0
+  EachShort f t = (k : ℕ) (v : List ℕ) → each f (cutFrom k t) ≡ means v → length v ≤ length t - k
 
-  joined-short : (k : ℕ) (t v : List ℕ) → joined σ (cutFrom k t) ≡ means v → length v ≤ length t - k
-  joined-short k [] v h = let z : [] ≡ v = cc in omega (arith, ap length z)
-  joined-short (suc k) (b ∷ t) v h = omega (arith, joined-short k t v h)
-  joined-short zero (b ∷ t) v h = omega (arith, first-short b t v (λ k w. joined-short k t w) h)
+  -- what the first segment has more than it means, d bytes, counts: it means x, and those behind it what they mean by f
+  pub first-short : (d n b : ℕ) (t v : List ℕ) (x : Value) (f : List ℕ → Value)
+      → ((w : List ℕ) → x ≡ means w → length w + d ≤ length (take (suc n) (b ∷ t))) → EachShort f t
+      → both x (onward (suc (n + gap (drop (suc n) (b ∷ t)))) (each f (cutFrom (n + gap (drop (suc n) (b ∷ t))) t))) ≡ means v
+      → length v + d ≤ suc (length t)
+  first-short d n b t v x f h ih e =
+      let m : ℕ = n + gap (drop (suc n) (b ∷ t)) in
+      let p = both-means x (each f (cutFrom m t)) (suc m) v e in
+      omega (arith, h (p .0) (p .2), ih m (p .1) (p .3), ap length (p .4), length-append (p .0) (p .1), length-take (suc n) (b ∷ t))
+
+  pub each-short : (f : List ℕ → Value) → ((s v : List ℕ) → f s ≡ means v → length v ≤ length s) → (t : List ℕ) → EachShort f t
+  unfolding segmentStep
+  each-short f ok [] k v h = let z : [] ≡ v = cc in omega (arith, ap length z)
+  each-short f ok (b ∷ t) (suc k) v h = omega (arith, each-short f ok t k v h)
+  each-short f ok (b ∷ t) zero v h = go (segment σ (b ∷ t)) (each-short f ok t) h
+    where
+      go : (n : ℕ) → EachShort f t → each f (after (segmentBy (b ∷ t) n) b (λ k. cutFrom k t)) ≡ means v → length v ≤ suc (length t) - 0
+      go zero ih g = absurd (fails≢means 0 v g)
+      go (suc n) ih g =
+          let s : List ℕ = take (suc n) (b ∷ t) in
+          omega (arith, first-short 0 n b t v (f s) f (λ w e. omega (arith, ok s w e)) ih g)
+
+  alone-short : (s v : List ℕ) → alone σ s ≡ means v → length v + 2 ≤ length s
+  alone-short s v e = subst (λ (x : Value). Bound x (length s)) e (alone-bound σ s)
 
   -- a value is shorter than its text by two bytes at least
   pub meaning-length : (t v : List ℕ) → meaning σ t ≡ means v → length v + 2 ≤ length t
-  unfolding read cut continues segment
+  unfolding read cut continues segment segmentStep
   meaning-length t v h = go (continues σ t) refl h
     where
+      first : (b : ℕ) (u : List ℕ) (n : ℕ) → joined σ (after (segmentBy (b ∷ u) n) b (λ k. cutFrom k u)) ≡ means v → length v + 2 ≤ suc (length u)
+      first b u zero g = absurd (fails≢means 0 v g)
+      first b u (suc n) g =
+          let s : List ℕ = take (suc n) (b ∷ u) in
+          first-short 2 n b u v (alone σ s) (alone σ) (alone-short s) (each-short (alone σ) (λ s w e. omega (arith, alone-short s w e)) u) g
+
       some : (u : List ℕ) → continues σ u ≡ true → joined σ (cutFrom 0 u) ≡ means v → length v + 2 ≤ length u
       some [] c g = absurd (false≢true c)
-      some (b ∷ u) c g = first-short b u v (λ k w. joined-short k u w) g
+      some (b ∷ u) c g = first b u (segmentAt σ (b ∷ u) (opening (b ∷ u))) g
 
       go : (x : Bool) → continues σ t ≡ x → valueOf t (if x then asWritten (joined σ (cutFrom 0 t)) else one σ t) ≡ means v → length v + 2 ≤ length t
       go true c g = some t c (sym (value-written t (joined σ (cutFrom 0 t))) ∙ g)
-      go false c g = subst (λ (x : Value). Bound x (length t)) g (alone-bound σ t)
+      go false c g = alone-short t v g
 
   -- so what is written of it, too
   pub read-length : (t v : List ℕ) → read σ t ≡ written v → length v + 2 ≤ length t

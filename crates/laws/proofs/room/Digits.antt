@@ -1,0 +1,131 @@
+-- How long a bit string's digits can be: shorter than the text by a letter and two marks at least, joined or not; so its packed bytes, of two digits each at
+-- the least, are fewer than half of the text's. And a number's decimal text has forty bytes at the most, or is shorter than the text. Assumes nothing.
+use mathlib.Core.Path.{_≡_, refl, ap, sym, _∙_}
+use mathlib.Core.Bool.{Bool, true, false, _||_, _&&_, not, false≢true}
+use mathlib.Core.List.{List, [], _∷_}
+use Prim.Native.Nat.{ℕ, zero, suc, _+_, _-_, _*_, _≤_, _<_}
+use Prim.Native.Char.{code}
+use native.Mathlib.Omega.{arith}
+use lib.Dec.{eqb}
+use lib.ListN.{length, take, drop, length-take, length-drop}
+use Rattle.meaning.specs.declared.Settings.{Settings}
+use Rattle.meaning.specs.Bytes.{if_then_else_, _!_, part, ascii, has, quote, allDigits}
+use Rattle.meaning.specs.Walk.{after, walk}
+use Rattle.meaning.specs.Steps.{gap}
+use Rattle.meaning.specs.Cutting.{segment, segmentBy, segmentStep, cut}
+use Rattle.meaning.specs.Reading.{borrowed, written, refused, Value, means, fails, valueOf, onward, both, each, asWritten}
+use Rattle.meaning.specs.Kinds.{bitBody, firstBits, laterBits, borrowedAs, bitsBy, bits}
+use Rattle.meaning.specs.Numbers.{Parsed, none, int, fits, within-bits, negatedBy, parsed, isMinus, strip, separated, baseOf, numberBody, radixValue}
+use Rattle.meaning.specs.Numbers.{printed, printedBy, decimalOf}
+use Rattle.meaning.specs.Packing.{bitsPer, bitsIn, packBits, packedLength}
+use Rattle.laws.proofs.basics.Halves.{printed-length}
+use Rattle.laws.proofs.basics.Tests.{eqb-sym}
+use Rattle.laws.proofs.walking.Short.{first-short, each-short}
+use Rattle.laws.proofs.cutting.Openings.{segment-of, segment-fits}
+use Rattle.laws.proofs.joining.Joining.{fails≢means, value-written}
+use Rattle.laws.proofs.packing.Gathered.{units-most, length-bitsIn, length-packBits}
+use Rattle.laws.proofs.packing.Segment.{letter-opens, body-right, bits-inside}
+use Rattle.laws.proofs.questions.Ranges.{AnswerIn}
+use Rattle.laws.proofs.room.Told.{Writes}
+use Rattle.laws.proofs.room.Values.{Less, writes-by}
+
+-- BITS. What a segment means is its bytes behind the opening and before the closing mark
+body-length : (β n : ℕ) (x : Bool) (s v : List ℕ) → bitBody β n x s ≡ means v → length v ≤ length s - 1 - n
+unfolding bitBody
+body-length β n x s v e = go (x && allDigits β (part n (length s - 1) s)) e
+  where
+    go : (y : Bool) → (if y then means (part n (length s - 1) s) else fails 0) ≡ means v → length v ≤ length s - 1 - n
+    go true h = let z : part n (length s - 1) s ≡ v = cc in omega (arith, ap length z, length-take (length s - 1 - n) (drop n s))
+    go false h = absurd (fails≢means 0 v h)
+
+later-short : (β : ℕ) (s v : List ℕ) → laterBits β s ≡ means v → length v ≤ length s
+later-short β s v e = omega (arith, body-length β 1 (eqb (s ! 0) quote) s v e)
+
+-- the first one has a letter before its mark
+first-letter : (σ : Settings) (β b n : ℕ) (u v : List ℕ) → segment σ (b ∷ u) ≡ suc n → firstBits β (take (suc n) (b ∷ u)) ≡ means v
+    → length v + 3 ≤ length (take (suc n) (b ∷ u))
+first-letter σ β b n u v q e =
+    let s = segment-of σ (b ∷ u) n q in
+    let o = letter-opens b u (s .0) (body-right β (take (suc n) (b ∷ u)) v (has b (ascii "BbXx")) e) (s .1) in
+    omega (
+      arith, s .3, o .0, segment-fits σ (b ∷ u) n q, length-take (suc n) (b ∷ u),
+      body-length β 2 (has b (ascii "BbXx")) (take (suc n) (b ∷ u)) v e,
+    )
+
+pub bits-length : (σ : Settings) (β : ℕ) (t v : List ℕ) → valueOf t (bits σ β t) ≡ means v → length v + 3 ≤ length t
+unfolding bits cut segmentStep
+bits-length σ β [] v e = absurd (fails≢means 0 v e)
+bits-length σ β (b ∷ u) v e = go (segment σ (b ∷ u)) refl (bits-inside σ β (b ∷ u)) e
+  where
+    t : List ℕ
+    t = b ∷ u
+
+    lone : (x : Bool) (y z : Value) → AnswerIn (length t) (if x then borrowedAs 2 (length t - 1) y else asWritten (both y z))
+        → (both y z ≡ means v → length v + 3 ≤ suc (length u))
+        → valueOf t (if x then borrowedAs 2 (length t - 1) y else asWritten (both y z)) ≡ means v → length v + 3 ≤ suc (length u)
+    lone true (means w) z i h g =
+        let p : part 2 (length t - 1) t ≡ v = cc in
+        omega (arith, i .ordered, ap length p, length-take (length t - 1 - 2) (drop 2 t))
+    lone true (fails p) z i h g = absurd (fails≢means p v g)
+    lone false y z i h g = h (sym (value-written t (both y z)) ∙ g)
+
+    go : (m : ℕ) → segment σ t ≡ m → AnswerIn (length t) (bitsBy β t (after (segmentBy t m) b (λ k. walk (segmentStep σ) k u)))
+        → valueOf t (bitsBy β t (after (segmentBy t m) b (λ k. walk (segmentStep σ) k u))) ≡ means v → length v + 3 ≤ suc (length u)
+    go zero q i g = absurd (fails≢means 0 v g)
+    go (suc n) q i g =
+        lone (eqb (length (take (suc n) t)) (length t)) (firstBits β (take (suc n) t)) _ i
+        (first-short σ 3 n b u v (firstBits β (take (suc n) t)) (laterBits β) (λ w. first-letter σ β b n u w q) (each-short σ (laterBits β) (later-short β) u)) g
+
+pub bits-writes : (σ : Settings) (β : ℕ) (t : List ℕ) → Writes (Less 3 (length t)) (bits σ β t)
+bits-writes σ β t = writes-by (Less 3 (length t)) (bits σ β t) (λ v e. bits-length σ β t v (ap (valueOf t) e))
+
+-- PACKED
+pub packed-half : (β : ℕ) (v : List ℕ) → 2 * length (packBits (bitsIn (bitsPer β) v)) ≤ length v + 1
+packed-half β v = go (eqb β 2)
+  where
+    go : (x : Bool) → 2 * length (packBits (bitsIn (if x then 1 else 4) v)) ≤ length v + 1
+    go true = omega (arith, length-packBits (bitsIn 1 v), ap packedLength (length-bitsIn 1 v), units-most 8 (omega arith) (1 * length v) .1)
+    go false = omega (arith, length-packBits (bitsIn 4 v), ap packedLength (length-bitsIn 4 v), units-most 8 (omega arith) (4 * length v) .1)
+
+-- NUMBERS: forty bytes, or fewer than k
+abbrev pub Forty : ℕ → ℕ → Type 0
+Forty k n = 40 < n → n < k
+
+strip-short : (t : List ℕ) → length (strip t) ≤ length t
+strip-short [] = omega arith
+strip-short (b ∷ t) = go (eqb b (code "_")) (strip-short t)
+  where
+    go : (x : Bool) → length (strip t) ≤ length t → length (if x then strip t else b ∷ strip t) ≤ suc (length t)
+    go true ih = omega arith
+    go false ih = omega arith
+
+-- a text that has a _ loses it
+strip-less : (t : List ℕ) → has (code "_") t ≡ true → length (strip t) < length t
+strip-less [] h = absurd (false≢true h)
+strip-less (b ∷ t) h = go (eqb b (code "_")) (rw (eqb-sym (code "_") b) at h) (strip-less t) (strip-short t)
+  where
+    go : (x : Bool) → (x || has (code "_") t) ≡ true → (has (code "_") t ≡ true → length (strip t) < length t) → length (strip t) ≤ length t
+        → length (if x then strip t else b ∷ strip t) < suc (length t)
+    go true g ih s = omega arith
+    go false g ih s = omega (arith, ih g)
+
+pub decimal-writes : (t : List ℕ) → Writes (Forty (length t)) (decimalOf t)
+unfolding decimalOf radixValue
+decimal-writes t = go (not (separated t)) (eqb (baseOf t) 10) (has (code "_") t) refl
+  where
+    radix : (z : Parsed) → Writes (Forty (length t)) (printedBy (within-bits 127 z))
+    radix none = tt
+    radix (int z) = by (fits 127 z) refl
+      where
+        by : (x : Bool) → fits 127 z ≡ x → Writes (Forty (length t)) (printedBy (if x then int z else none))
+        by true e = λ h. absurd (omega (arith, printed-length z e))
+        by false e = tt
+
+    go : (x y w : Bool) → has (code "_") t ≡ w
+        → Writes (Forty (length t)) (if x then refused 0
+        else if y then (if w then written (strip t) else borrowed 0 (length t))
+        else printedBy (within-bits 127 (negatedBy (isMinus t) (parsed 127 (baseOf t) (strip (numberBody t))))))
+    go true y w e = tt
+    go false true true e = λ h. strip-less t e
+    go false true false e = tt
+    go false false w e = radix (negatedBy (isMinus t) (parsed 127 (baseOf t) (strip (numberBody t))))
