@@ -3,3 +3,5 @@ pub mod Told
 pub mod Values
 pub mod Digits
 pub mod Asked
+pub mod Blocks
+pub mod Called

@@ -46,7 +46,7 @@ pub record Shows {σ : Settings} {t : List ℕ} (c : StringCall σ t) (v : List 
   pub number : textNumber (c .result) ≡ 0
   pub value : shown (c .source) (c .after) (c .result) ≡ v
 
-shows-by : {σ : Settings} {t : List ℕ} (c : StringCall σ t) (v : List ℕ)
+pub shows-by : {σ : Settings} {t : List ℕ} (c : StringCall σ t) (v : List ℕ)
     → Answered (c .source) v (stringQuestion (c .literal) (c .source) σ (c .lent)) → Shows c v
 shows-by c v a = record {
   number = rw (c .contract .answer) (a .number);
