@@ -8,4 +8,5 @@ pub mod PlaceWitnesses
 pub mod DateWitnesses
 pub mod PackControls
 pub mod PackWitnesses
+pub mod RoomWitnesses
 pub mod Starred
