@@ -1,6 +1,6 @@
--- What is promised, and what proves it: begin here. Each theorem is a sentence of the order or of documents 01 and 02, in their order. Its type says the sentence over
--- the definitions of `meaning`, and its body names the law that proves it, with the file that holds it. Where code carries a sentence, a comment names the
--- crate: its contracts cite the same definitions. Assumes nothing.
+-- What is promised, and what proves it: begin here. Each theorem is a sentence of the order or of documents 01 and 02, in their order; those of room, behind
+-- these, are what include/valdrabus.h says of buffers. Its type says the sentence over the definitions of `meaning`, and its body names the law that proves it,
+-- with the file that holds it. Where code carries a sentence, a comment names the crate: its contracts cite the same definitions. Assumes nothing.
 use mathlib.Core.Logic.{_⊎_, _↔_}
 use mathlib.Core.Path.{_≡_}
 use mathlib.Core.Bool.{Bool, true, false}
@@ -22,6 +22,7 @@ use Rattle.meaning.specs.declared.LiteralExpected.the-variants as Expected
 use Rattle.meaning.specs.declared.Refusal.the-variants.{WrongKind, NotUtf8, InvalidString, NoRoom, InvalidDate}
 use Rattle.meaning.specs.declared.Text.{Text}
 use Rattle.meaning.specs.declared.Text.the-variants as Text
+use Rattle.meaning.specs.declared.Identifier.{Identifier}
 use Rattle.meaning.specs.declared.Writing.the-variants as Writing
 use Rattle.meaning.specs.declared.CalendarDay.{CalendarDay}
 use Rattle.meaning.specs.declared.Day.the-variants as Day
@@ -43,9 +44,9 @@ use Rattle.meaning.specs.Kinds.{bits, token, noToken, temporalToken, temporal}
 use Rattle.meaning.specs.Reading.{Answer, written, refused, one, alone, read, means, fails, valueOf, meaning}
 use Rattle.meaning.specs.Numbers.{fits, printed}
 use Rattle.meaning.specs.Halves.{joinedHalves, negatedHigh, negatedLow, bitsOf, textOf}
-use Rattle.meaning.specs.Helpers.{uescapeLegal, escapeValid, unicodeValid}
+use Rattle.meaning.specs.Helpers.{uescapeLegal, escapeValid, unicodeValid, ident}
 use Rattle.meaning.specs.Answers.{Outcome, Meets, IsPart, textNumber, truthNumber, nullnessNumber, refusalNumber, datedNumber, kindCode, partShown}
-use Rattle.meaning.specs.Answers.{partPlace, shown, packedNumber, bitWritingNumber}
+use Rattle.meaning.specs.Answers.{partPlace, shown, identifierNumber, packedNumber, bitWritingNumber}
 use Rattle.meaning.specs.Reads.{Reads}
 use Rattle.meaning.specs.Questions.{badSpan, isString, isTemporal, bitBase, stringQuestion, decimalQuestion, bitsQuestion, temporalQuestion, i64Question, moneyQuestion}
 use Rattle.meaning.specs.Questions.{charsetQuestion, sourceQuestion, boolQuestion, nullQuestion, identifierQuestion}
@@ -158,6 +159,13 @@ use Rattle.laws.proofs.packing.Joined as PackJoined
 use Rattle.laws.proofs.packing.Joined.{Run, runs, runDigits}
 use Rattle.laws.proofs.packing.Called as PackCalled
 use Rattle.laws.proofs.packing.Called.{PackedCall, BitWriterCall}
+use Rattle.laws.proofs.room.Told.{spanned}
+use Rattle.laws.proofs.room.Values as RoomValues
+use Rattle.laws.proofs.room.Digits as RoomDigits
+use Rattle.laws.proofs.room.Asked as RoomAsked
+use Rattle.laws.proofs.room.Blocks as RoomBlocks
+use Rattle.laws.proofs.room.Blocks.{itemRoom, roomOf, spansOf}
+use Rattle.laws.proofs.room.Called as RoomCalled
 use Rattle.laws.proofs.tables.Starred as Starred
 use Rattle.laws.proofs.tables.Controls as Controls
 use Rattle.laws.proofs.tables.Controls.{Program, Telling, WritesAt, ShutOut}
@@ -1066,3 +1074,116 @@ pub packed-joined-calls : (r : BitStringRadix) (ds : List ℕ) → DigitsTo (2 ^
     → White tail → (x : PackedCall r (bitText r ds ++ runs ps tail)) (y : PackedCall r (bitText r (ds ++ runDigits ps))) → x .lent ≡ y .lent
     → Same (x .result) (y .result) (x .after) (y .after)
 packed-joined-calls = PackCalled.run-calls
+
+-- ROOM
+-- A string's value is never longer than its text less two bytes: in either mark, N, a charset's, E, U&, dollar, joined; at every setting, UTF-8 or not.
+-- (`RoomWitnesses`: a text of every spelling; and that no bound on a value can be lower, nor the room of a string, a block or packed bits, nor a number's 40 bytes)
+pub room : (σ : Settings) (t v : List ℕ) → meaning σ t ≡ means v → length v + 2 ≤ length t
+room = Short.meaning-length
+
+-- so 9 tells a length that the span holds with two bytes more; a buffer of the span's length less two never gets a 9, and every accepted text is shown there
+module _ (l : Literal) (S : List ℕ) (out : List ℕ) (σ : Settings) where
+  pub room-string-nine : (n : ℕ) → stringQuestion l S σ out .answer ≡ Text.Refused (NoRoom n) → (n + 2 ≤ spanned l) × (length out < n)
+  room-string-nine = RoomAsked.string-nine l S out σ
+
+  pub room-string : spanned l ≤ length out + 2 → textNumber (stringQuestion l S σ out .answer) ≡ 9 → ⊥
+  room-string = RoomAsked.string-never l S out σ
+
+pub room-string-shows : (l : Literal) (S t v : List ℕ) (σ : Settings) (out : List ℕ) → isString (l .kind) ≡ true → Spans l S t → Accepts σ t v
+    → length t ≤ length out + 2 → Answered S v (stringQuestion l S σ out)
+room-string-shows = RoomAsked.string-enough
+
+-- a temporal text's value is a string's in a part of the text
+pub room-temporal-value : (σ : Settings) (t v : List ℕ) → valueOf t (temporal σ t) ≡ means v → length v + 2 ≤ length t
+room-temporal-value = RoomValues.temporal-length
+
+module _ (l : Literal) (S : List ℕ) (out : List ℕ) where
+  pub room-temporal-nine : (n : ℕ) → temporalQuestion l S out .answer ≡ Text.Refused (NoRoom n) → (n + 2 ≤ spanned l) × (length out < n)
+  room-temporal-nine = RoomAsked.temporal-nine l S out
+
+  pub room-temporal : spanned l ≤ length out + 2 → textNumber (temporalQuestion l S out .answer) ≡ 9 → ⊥
+  room-temporal = RoomAsked.temporal-never l S out
+
+-- a block: behind the items `is` no more than their spans, each less two bytes, is taken (`roomOf`); so in a buffer as long as all of these no item gets a 9
+module _ (S : List ℕ) (used : ℕ) (room : List ℕ) (is : List Item) (i : Item) where
+  pub room-block-nine : askedBehind S used room is i .told .number ≡ 9 → askedBehind S used room is i .told .len + 2 ≤ i .end - i .start
+  room-block-nine = RoomBlocks.block-nine S (used + taken S room is) room is i
+
+  pub room-block : roomOf is + itemRoom i ≤ length room → askedBehind S used room is i .told .number ≡ 9 → ⊥
+  room-block = RoomBlocks.block-never S (used + taken S room is) room is i
+
+pub room-taken : (S room : List ℕ) (is : List Item) → taken S room is ≤ roomOf is
+room-taken = RoomBlocks.taken-room
+
+-- which is no more than the spans together
+pub room-spans : (is : List Item) → roomOf is ≤ spansOf is
+room-spans = RoomBlocks.room-spans
+
+-- an identifier's value: four bytes less, U& and two marks
+pub room-identifier-value : (t v : List ℕ) → valueOf t (ident t) ≡ means v → length v + 4 ≤ length t
+room-identifier-value = RoomValues.ident-length
+
+pub room-identifier : (t out : List ℕ) → length t ≤ length out + 4 → identifierNumber (identifierQuestion t out .answer) ≡ 9 → ⊥
+room-identifier = RoomAsked.identifier-enough
+
+-- a bit string's digits: three less, a letter and two marks; packed, half of the text's bytes are room enough. A number's text: forty bytes, or the text's length
+pub room-bits-value : (σ : Settings) (β : ℕ) (t v : List ℕ) → valueOf t (bits σ β t) ≡ means v → length v + 3 ≤ length t
+room-bits-value = RoomDigits.bits-length
+
+module _ (l : Literal) (S : List ℕ) (out : List ℕ) where
+  pub room-bits : spanned l ≤ length out + 3 → textNumber (bitsQuestion l S out .answer) ≡ 9 → ⊥
+  room-bits = RoomAsked.bits-never l S out
+
+  pub room-packed : spanned l ≤ 2 * length out + 3 → packedNumber (packedQuestion l S out .answer) ≡ 9 → ⊥
+  room-packed = RoomAsked.packed-enough l S out
+
+  pub room-decimal : 40 ≤ length out → spanned l ≤ length out + 1 → textNumber (decimalQuestion l S out .answer) ≡ 9 → ⊥
+  room-decimal = RoomAsked.decimal-never l S out
+
+-- the same of what calls return; of the C exports: `valdrabus`, `RoomExports`
+module _ {σ : Settings} {t : List ℕ} (c : StringCall σ t) where
+  pub room-calls : (v : List ℕ) → Shows c v → length v + 2 ≤ length t
+  room-calls = RoomCalled.string-shown-calls c
+
+  pub room-string-nine-calls : (n : ℕ) → c .result ≡ Text.Refused (NoRoom n) → (n + 2 ≤ length t) × (length (c .lent) < n)
+  room-string-nine-calls = RoomCalled.string-nine-calls c
+
+  pub room-string-calls : length t ≤ length (c .lent) + 2 → textNumber (c .result) ≡ 9 → ⊥
+  room-string-calls = RoomCalled.string-never-calls c
+
+  pub room-string-shows-calls : (v : List ℕ) → Accepts σ t v → length t ≤ length (c .lent) + 2 → Shows c v
+  room-string-shows-calls = RoomCalled.string-enough-calls c
+
+-- and a call that is lent what another on the same text told with a 9 writes just that
+pub room-again-calls : {σ : Settings} {t : List ℕ} (c d : StringCall σ t) (n : ℕ) → c .result ≡ Text.Refused (NoRoom n) → n ≤ length (d .lent)
+    → d .result ≡ Text.Written n
+room-again-calls = RoomCalled.string-again-calls
+
+module _ {t : List ℕ} (c : TemporalCall t) where
+  pub room-temporal-nine-calls : (n : ℕ) → c .result ≡ Text.Refused (NoRoom n) → (n + 2 ≤ length t) × (length (c .lent) < n)
+  room-temporal-nine-calls = RoomCalled.temporal-nine-calls c
+
+  pub room-temporal-calls : length t ≤ length (c .lent) + 2 → textNumber (c .result) ≡ 9 → ⊥
+  room-temporal-calls = RoomCalled.temporal-never-calls c
+
+-- of every item of a block call that is answered, behind the numbers a
+module _ (a : List ℕ) (k g s e : ℕ) (b S : List ℕ) (f : length a % 4 ≡ 0) (c : BlockCall (a ++ (k ∷ (g ∷ (s ∷ (e ∷ b))))) S) (z : c .result ≡ 0) where
+  pub room-block-nine-calls : take 4 (drop (length a) (c .told)) ! 0 ≡ 9 → take 4 (drop (length a) (c .told)) ! 3 + 2 ≤ e - s
+  room-block-nine-calls = RoomBlocks.block-nine-calls a k g s e b S f c z
+
+  pub room-block-calls : roomOf (itemsOf (a ++ (k ∷ (g ∷ (s ∷ (e ∷ b)))))) ≤ length (c .lent) → take 4 (drop (length a) (c .told)) ! 0 ≡ 9 → ⊥
+  room-block-calls = RoomBlocks.block-never-calls a k g s e b S f c z
+
+pub room-packed-calls : {r : BitStringRadix} {t : List ℕ} (c : PackedCall r t) → length t ≤ 2 * length (c .lent) + 3 → packedNumber (c .result) ≡ 9 → ⊥
+room-packed-calls = RoomCalled.packed-never-calls
+
+module _ (l : Literal) (S lent : List ℕ) (r : Text) (after : List ℕ) where
+  pub room-bits-calls : Meets (bitsQuestion l S lent) r after → spanned l ≤ length lent + 3 → textNumber r ≡ 9 → ⊥
+  room-bits-calls = RoomCalled.bits-never-calls l S lent r after
+
+  pub room-decimal-calls : Meets (decimalQuestion l S lent) r after → 40 ≤ length lent → spanned l ≤ length lent + 1 → textNumber r ≡ 9 → ⊥
+  room-decimal-calls = RoomCalled.decimal-never-calls l S lent r after
+
+pub room-identifier-calls : (t lent : List ℕ) (r : Identifier) (after : List ℕ) → Meets (identifierQuestion t lent) r after → length t ≤ length lent + 4
+    → identifierNumber r ≡ 9 → ⊥
+room-identifier-calls = RoomCalled.identifier-never-calls

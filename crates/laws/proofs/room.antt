@@ -2,6 +2,7 @@
 pub mod Told
 pub mod Values
 pub mod Digits
+pub mod Decimals
 pub mod Asked
 pub mod Blocks
 pub mod Called

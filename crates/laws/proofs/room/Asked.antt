@@ -1,6 +1,6 @@
 -- Room, of the questions: the length that one tells, as written or as needed, is bounded by its span; and so a buffer that is as long never gets a 9.
 -- Assumes nothing.
-use mathlib.Core.Path.{_≡_, refl, sym, subst}
+use mathlib.Core.Path.{_≡_, refl, subst}
 use mathlib.Core.Bool.{Bool, true, false}
 use mathlib.Core.List.{List}
 use Prim.Native.Nat.{ℕ, _+_, _-_, _*_, _≤_, _<_}
@@ -33,7 +33,8 @@ use Rattle.laws.proofs.walking.Short.{meaning-length}
 use Rattle.laws.proofs.room.Told.{Writes, TextNeeds, PackedNeeds, IdentifierNeeds, text-never, packed-never, identifier-never, by-room, tested-by, low-needs}
 use Rattle.laws.proofs.room.Told.{told-needs, spanned, span-long}
 use Rattle.laws.proofs.room.Values.{Less, read-writes, temporal-writes, ident-writes}
-use Rattle.laws.proofs.room.Digits.{bits-length, bits-writes, packed-half, Forty, decimal-writes}
+use Rattle.laws.proofs.room.Digits.{bits-length, bits-writes, packed-half}
+use Rattle.laws.proofs.room.Decimals.{Forty, decimal-writes}
 
 -- packed bytes are two digits each, or a last one; and a letter and two marks stand around the digits
 abbrev pub Half : ℕ → ℕ → Type 0

@@ -1,6 +1,6 @@
 -- [02 T-03] Room, of a block: an item takes no more than its span less two bytes, so a buffer as long as these together has room for every item. Of the block,
 -- and of what calls return. Assumes nothing.
-use mathlib.Core.Path.{_≡_, refl, ap, sym, _∙_}
+use mathlib.Core.Path.{_≡_, ap, sym, _∙_}
 use mathlib.Core.List.{List, [], _∷_, _++_}
 use Prim.Native.Nat.{ℕ, _+_, _-_, _%_, _≤_, _<_}
 use native.Mathlib.Omega.{arith}

@@ -17,7 +17,7 @@ use Rattle.meaning.specs.declared.Identifier.{Identifier}
 use Rattle.meaning.specs.Bytes.{if_then_else_}
 use Rattle.meaning.specs.Chars.{utf8}
 use Rattle.meaning.specs.Reading.{Answer, borrowed, written, refused, read}
-use Rattle.meaning.specs.Answers.{Outcome, Meets, textNumber, packedNumber, identifierNumber}
+use Rattle.meaning.specs.Answers.{Meets, textNumber, packedNumber, identifierNumber}
 use Rattle.meaning.specs.Questions.{toldAs, stringQuestion, decimalQuestion, bitsQuestion, identifierQuestion}
 use Rattle.laws.proofs.joining.JoiningLaw.{Accepts}
 use Rattle.laws.proofs.walking.Short.{meaning-length}

@@ -1,25 +1,19 @@
--- How long a bit string's digits can be: shorter than the text by a letter and two marks at least, joined or not; so its packed bytes, of two digits each at
--- the least, are fewer than half of the text's. And a number's decimal text has forty bytes at the most, or is shorter than the text. Assumes nothing.
+-- How long a bit string's digits can be: shorter than the text by a letter and two marks at least, joined or not; so its packed bytes, of two digits each but
+-- for a last one, are fewer than half of the text's. Assumes nothing.
 use mathlib.Core.Path.{_≡_, refl, ap, sym, _∙_}
-use mathlib.Core.Bool.{Bool, true, false, _||_, _&&_, not, false≢true}
+use mathlib.Core.Bool.{Bool, true, false, _&&_}
 use mathlib.Core.List.{List, [], _∷_}
-use Prim.Native.Nat.{ℕ, zero, suc, _+_, _-_, _*_, _≤_, _<_}
-use Prim.Native.Char.{code}
+use Prim.Native.Nat.{ℕ, zero, suc, _+_, _-_, _*_, _≤_}
 use native.Mathlib.Omega.{arith}
 use lib.Dec.{eqb}
-use lib.ListN.{length, take, drop, length-take, length-drop}
+use lib.ListN.{length, take, drop, length-take}
 use Rattle.meaning.specs.declared.Settings.{Settings}
 use Rattle.meaning.specs.Bytes.{if_then_else_, _!_, part, ascii, has, quote, allDigits}
 use Rattle.meaning.specs.Walk.{after, walk}
-use Rattle.meaning.specs.Steps.{gap}
 use Rattle.meaning.specs.Cutting.{segment, segmentBy, segmentStep, cut}
-use Rattle.meaning.specs.Reading.{borrowed, written, refused, Value, means, fails, valueOf, onward, both, each, asWritten}
+use Rattle.meaning.specs.Reading.{Value, means, fails, valueOf, both, asWritten}
 use Rattle.meaning.specs.Kinds.{bitBody, firstBits, laterBits, borrowedAs, bitsBy, bits}
-use Rattle.meaning.specs.Numbers.{Parsed, none, int, fits, within-bits, negatedBy, parsed, isMinus, strip, separated, baseOf, numberBody, radixValue}
-use Rattle.meaning.specs.Numbers.{printed, printedBy, decimalOf}
 use Rattle.meaning.specs.Packing.{bitsPer, bitsIn, packBits, packedLength}
-use Rattle.laws.proofs.basics.Halves.{printed-length}
-use Rattle.laws.proofs.basics.Tests.{eqb-sym}
 use Rattle.laws.proofs.walking.Short.{first-short, each-short}
 use Rattle.laws.proofs.cutting.Openings.{segment-of, segment-fits}
 use Rattle.laws.proofs.joining.Joining.{fails≢means, value-written}
@@ -48,7 +42,11 @@ first-letter σ β b n u v q e =
     let s = segment-of σ (b ∷ u) n q in
     let o = letter-opens b u (s .0) (body-right β (take (suc n) (b ∷ u)) v (has b (ascii "BbXx")) e) (s .1) in
     omega (
-      arith, s .3, o .0, segment-fits σ (b ∷ u) n q, length-take (suc n) (b ∷ u),
+      arith,
+      s .3,
+      o .0,
+      segment-fits σ (b ∷ u) n q,
+      length-take (suc n) (b ∷ u),
       body-length β 2 (has b (ascii "BbXx")) (take (suc n) (b ∷ u)) v e,
     )
 
@@ -86,46 +84,3 @@ packed-half β v = go (eqb β 2)
     go : (x : Bool) → 2 * length (packBits (bitsIn (if x then 1 else 4) v)) ≤ length v + 1
     go true = omega (arith, length-packBits (bitsIn 1 v), ap packedLength (length-bitsIn 1 v), units-most 8 (omega arith) (1 * length v) .1)
     go false = omega (arith, length-packBits (bitsIn 4 v), ap packedLength (length-bitsIn 4 v), units-most 8 (omega arith) (4 * length v) .1)
-
--- NUMBERS: forty bytes, or fewer than k
-abbrev pub Forty : ℕ → ℕ → Type 0
-Forty k n = 40 < n → n < k
-
-strip-short : (t : List ℕ) → length (strip t) ≤ length t
-strip-short [] = omega arith
-strip-short (b ∷ t) = go (eqb b (code "_")) (strip-short t)
-  where
-    go : (x : Bool) → length (strip t) ≤ length t → length (if x then strip t else b ∷ strip t) ≤ suc (length t)
-    go true ih = omega arith
-    go false ih = omega arith
-
--- a text that has a _ loses it
-strip-less : (t : List ℕ) → has (code "_") t ≡ true → length (strip t) < length t
-strip-less [] h = absurd (false≢true h)
-strip-less (b ∷ t) h = go (eqb b (code "_")) (rw (eqb-sym (code "_") b) at h) (strip-less t) (strip-short t)
-  where
-    go : (x : Bool) → (x || has (code "_") t) ≡ true → (has (code "_") t ≡ true → length (strip t) < length t) → length (strip t) ≤ length t
-        → length (if x then strip t else b ∷ strip t) < suc (length t)
-    go true g ih s = omega arith
-    go false g ih s = omega (arith, ih g)
-
-pub decimal-writes : (t : List ℕ) → Writes (Forty (length t)) (decimalOf t)
-unfolding decimalOf radixValue
-decimal-writes t = go (not (separated t)) (eqb (baseOf t) 10) (has (code "_") t) refl
-  where
-    radix : (z : Parsed) → Writes (Forty (length t)) (printedBy (within-bits 127 z))
-    radix none = tt
-    radix (int z) = by (fits 127 z) refl
-      where
-        by : (x : Bool) → fits 127 z ≡ x → Writes (Forty (length t)) (printedBy (if x then int z else none))
-        by true e = λ h. absurd (omega (arith, printed-length z e))
-        by false e = tt
-
-    go : (x y w : Bool) → has (code "_") t ≡ w
-        → Writes (Forty (length t)) (if x then refused 0
-        else if y then (if w then written (strip t) else borrowed 0 (length t))
-        else printedBy (within-bits 127 (negatedBy (isMinus t) (parsed 127 (baseOf t) (strip (numberBody t))))))
-    go true y w e = tt
-    go false true true e = λ h. strip-less t e
-    go false true false e = tt
-    go false false w e = radix (negatedBy (isMinus t) (parsed 127 (baseOf t) (strip (numberBody t))))

@@ -1,10 +1,10 @@
 -- [01 Numbers an answer can carry] "9: text would be written, and the buffer is shorter." What holds of the length of all that a reading writes holds of the
 -- length that the question tells, as written or as needed: once for every question that answers a text. So a buffer as long as such a length can be never gets
 -- a 9. Assumes nothing.
-use mathlib.Core.Path.{_≡_, refl, ap, sym, _∙_, subst}
+use mathlib.Core.Path.{_≡_, refl, ap, sym, _∙_}
 use mathlib.Core.Bool.{Bool, true, false}
 use mathlib.Core.List.{List}
-use Prim.Native.Nat.{ℕ, _+_, _-_, _≤_, _<_}
+use Prim.Native.Nat.{ℕ, _-_, _≤_, _<_}
 use native.Mathlib.Omega.{arith}
 use lib.Dec.{leb}
 use lib.ListN.{length, drop, length-take, length-drop}

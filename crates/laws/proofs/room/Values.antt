@@ -47,8 +47,12 @@ temporal-length σ t v = go (temporalToken t)
     go : (k : Token) → valueOf t (readToken σ t k) ≡ means v → length v + 2 ≤ length t
     go noToken e = absurd (fails≢means 0 v e)
     go (token f u) e =
-        omega (arith, length-take (u - f) (drop f t), length-drop f t,
-        meaning-length σ (part f u t) v (moved f u (read σ (part f u t)) (read-inside σ (part f u t)) e))
+        omega (
+          arith,
+          length-take (u - f) (drop f t),
+          length-drop f t,
+          meaning-length σ (part f u t) v (moved f u (read σ (part f u t)) (read-inside σ (part f u t)) e),
+        )
 
 pub temporal-writes : (σ : Settings) (t : List ℕ) → Writes (Less 2 (length t)) (temporal σ t)
 temporal-writes σ t = writes-by (Less 2 (length t)) (temporal σ t) (λ v e. temporal-length σ t v (ap (valueOf t) e))
@@ -92,7 +96,10 @@ ident-length t v = go (unicodeSpelling dquote t) (unicode-third dquote t) (unico
     body e f u i o c false false h =
         let z : value (walk (unicodeStep e dquote) 0 (part f u t)) ≡ v = cc in
         omega (
-          arith, ap length z, length-take (u - f) (drop f t), length-drop f t,
+          arith,
+          ap length z,
+          length-take (u - f) (drop f t),
+          length-drop f t,
           walk-short (unicodeStep e dquote) (unicode-steady e dquote refl) 0 (part f u t) (omega arith),
         )
 

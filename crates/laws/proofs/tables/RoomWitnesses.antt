@@ -22,7 +22,7 @@ use Rattle.meaning.specs.Kinds.{bitBody, bits, tokenStart, quoteToken, temporal
 use Rattle.meaning.specs.Helpers.{ident}
 use Rattle.meaning.specs.Numbers.{signLength, isMinus, baseBy, radixPrefix, parsed, separated, radixValue, digitsBy, digitsOf, decimalOf}
 use Rattle.meaning.specs.Packing.{bitsIn, packBits, packedQuestion}
-use Rattle.meaning.specs.Answers.{textNumber, packedNumber, filled}
+use Rattle.meaning.specs.Answers.{textNumber, filled}
 use Rattle.meaning.specs.Questions.{cutsCharacter, badSpan, sourceText, tested, stringQuestion, decimalQuestion}
 use Rattle.meaning.specs.Blocks.{itemsOf, itemAsked, badBlock, blockCall}
 use Rattle.laws.proofs.joining.JoiningLaw.{Accepts}
