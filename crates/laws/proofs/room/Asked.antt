@@ -7,7 +7,6 @@ use Prim.Native.Nat.{ℕ, _+_, _-_, _*_, _≤_, _<_}
 use native.Mathlib.Omega.{arith}
 use lib.Dec.{ltb}
 use lib.ListN.{length}
-use borrow.Author.Tests.{ltb-true, ltb-false}
 use Rattle.meaning.specs.declared.Settings.{Settings}
 use Rattle.meaning.specs.declared.Literal.{Literal}
 use Rattle.meaning.specs.declared.LiteralExpected.the-variants as Expected
@@ -34,7 +33,7 @@ use Rattle.laws.proofs.room.Told.{Writes, TextNeeds, PackedNeeds, Ident
 use Rattle.laws.proofs.room.Told.{told-needs, spanned, span-long}
 use Rattle.laws.proofs.room.Values.{Less, read-writes, temporal-writes, ident-writes}
 use Rattle.laws.proofs.room.Digits.{bits-length, bits-writes, packed-half}
-use Rattle.laws.proofs.room.Decimals.{Forty, decimal-writes}
+use Rattle.laws.proofs.room.Decimals.{Forty, forty-most, decimal-writes}
 
 -- packed bytes are two digits each, or a last one; and a letter and two marks stand around the digits
 abbrev pub Half : ℕ → ℕ → Type 0
@@ -112,14 +111,8 @@ module _ (l : Literal) (S out : List ℕ) where
       Expected.DecimalText
 
   pub decimal-never : 40 ≤ length out → spanned l ≤ length out + 1 → textNumber (decimalQuestion l S out .answer) ≡ 9 → ⊥
-  decimal-never f h = text-never (Forty (spanned l)) (length out) most (decimalQuestion l S out .answer) decimal-needs
-    where
-      most : (n : ℕ) → Forty (spanned l) n → n ≤ length out
-      most n k = go (ltb 40 n) refl
-        where
-          go : (x : Bool) → ltb 40 n ≡ x → n ≤ length out
-          go true e = omega (arith, k (ltb-true 40 n e))
-          go false e = omega (arith, ltb-false 40 n e)
+  decimal-never f h =
+      text-never (Forty (spanned l)) (length out) (λ n k. forty-most (spanned l) (length out) n f h k) (decimalQuestion l S out .answer) decimal-needs
 
 -- AN IDENTIFIER
 pub identifier-needs : (t out : List ℕ) → IdentifierNeeds (Less 4 (length t)) (length out) (identifierQuestion t out .answer)

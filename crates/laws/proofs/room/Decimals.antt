@@ -3,11 +3,12 @@
 use mathlib.Core.Path.{_≡_, refl}
 use mathlib.Core.Bool.{Bool, true, false, _||_, not, false≢true}
 use mathlib.Core.List.{List, [], _∷_}
-use Prim.Native.Nat.{ℕ, suc, _≤_, _<_}
+use Prim.Native.Nat.{ℕ, suc, _+_, _≤_, _<_}
 use Prim.Native.Char.{code}
 use native.Mathlib.Omega.{arith}
-use lib.Dec.{eqb}
+use lib.Dec.{eqb, ltb}
 use lib.ListN.{length}
+use borrow.Author.Tests.{ltb-true, ltb-false}
 use Rattle.meaning.specs.Bytes.{if_then_else_, has}
 use Rattle.meaning.specs.Reading.{borrowed, written, refused}
 use Rattle.meaning.specs.Numbers.{Parsed, none, int, fits, within-bits, negatedBy, parsed, isMinus, strip, separated, baseOf, numberBody, radixValue}
@@ -19,6 +20,14 @@ use Rattle.laws.proofs.room.Told.{Writes}
 -- forty bytes, or fewer than k
 abbrev pub Forty : ℕ → ℕ → Type 0
 Forty k n = 40 < n → n < k
+
+-- so m bytes hold it, where they are forty at least and no fewer than k less one
+pub forty-most : (k m n : ℕ) → 40 ≤ m → k ≤ m + 1 → Forty k n → n ≤ m
+forty-most k m n f h a = go (ltb 40 n) refl
+  where
+    go : (x : Bool) → ltb 40 n ≡ x → n ≤ m
+    go true e = omega (arith, a (ltb-true 40 n e))
+    go false e = omega (arith, ltb-false 40 n e)
 
 strip-short : (t : List ℕ) → length (strip t) ≤ length t
 strip-short [] = omega arith

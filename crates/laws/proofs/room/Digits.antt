@@ -77,7 +77,7 @@ bits-length σ β (b ∷ u) v e = go (segment σ (b ∷ u)) refl (bits-inside σ
 pub bits-writes : (σ : Settings) (β : ℕ) (t : List ℕ) → Writes (Less 3 (length t)) (bits σ β t)
 bits-writes σ β t = writes-by (Less 3 (length t)) (bits σ β t) (λ v e. bits-length σ β t v (ap (valueOf t) e))
 
--- PACKED
+-- PACKED: four bits a digit at the most
 pub packed-half : (β : ℕ) (v : List ℕ) → 2 * length (packBits (bitsIn (bitsPer β) v)) ≤ length v + 1
 packed-half β v = go (eqb β 2)
   where
