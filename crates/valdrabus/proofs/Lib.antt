@@ -10,8 +10,10 @@ mod BlockExports
 mod PlaceExports
 mod DateExports
 mod PackExports
+mod RoomExports
 mod Witnesses
 mod BlockWitnesses
 mod PlaceWitnesses
 mod DateWitnesses
 mod PackWitnesses
+mod RoomWitnesses
