@@ -17,7 +17,7 @@ pub const LONGEST_BUFFER: usize = 4_294_967_295;
 /// Each item gets the answer of [`Literal::as_str_in`](crate::Literal::as_str_in) with the room that those before it left in the buffer. Written texts stand there one behind the other. A
 /// borrowed or refused item takes no room, and no refusal ends the block: behind one that has no room, a shorter one may still be written. Answers past the items stay as they were lent.
 ///
-/// A buffer as long as the items' spans together always has room: no value is longer than its text less two bytes.
+/// A buffer as long as the items' spans together always has room, and two bytes less for each item suffice: no value is longer than its text less two bytes, whatever the spelling.
 ///
 /// ```
 /// use valdrabus::{Error, Item, Kind, Literal, Settings, Text, Told, read_block};
@@ -28,9 +28,9 @@ pub const LONGEST_BUFFER: usize = 4_294_967_295;
 /// let (mut answers, mut out) = ([Told::default(); 4], [0; 16]);
 ///
 /// let block = read_block(&items, row, &mut answers, &mut out)?;
-/// assert_eq!(block.get(0), Some(Ok(Text::Borrowed("Aspirin"))));
-/// assert_eq!(block.get(1), Some(Ok(Text::Written("Bob's balm"))));
-/// assert_eq!(block.get(2), Some(Ok(Text::Written("50 ml"))));
+/// assert!(matches!(block.get(0), Some(Ok(Text::Borrowed("Aspirin")))));
+/// assert!(matches!(block.get(1), Some(Ok(Text::Written("Bob's balm")))));
+/// assert!(matches!(block.get(2), Some(Ok(Text::Written("50 ml")))));
 /// assert_eq!(block.get(3).unwrap().unwrap_err().number(), 1);
 /// assert_eq!((block.len(), block.used()), (4, 15));
 /// # Ok::<(), Error>(())
@@ -38,8 +38,9 @@ pub const LONGEST_BUFFER: usize = 4_294_967_295;
 ///
 /// # Errors
 ///
-/// 15, for the whole call, if there are fewer answers than items or the buffer is longer than [`LONGEST_BUFFER`]; then neither answers nor buffer are changed. An item's own refusal stands in the
-/// block: 1, 2, 3, 6, 9.
+/// [`Error::BadBlock`] (15), for the whole call, if there are fewer answers than items or the buffer is longer than [`LONGEST_BUFFER`]; then neither answers nor buffer are changed. An
+/// item's own refusal stands in the block: [`Error::WrongKind`] (1), [`Error::MissingSource`] (2), [`Error::InvalidSourceRange`] (3), [`Error::InvalidString`] (6) with its
+/// [place](Error::place), [`Error::NoRoom`] (9).
 pub fn read_block<'s, 'b>(
     items: &'b [Item],
     source: &'s str,
@@ -60,13 +61,13 @@ pub fn read_block<'s, 'b>(
 ///
 /// let block = read_block_bytes(&items, dump, &mut answers, &mut [])?;
 /// assert_eq!(block.get(0).unwrap().unwrap_err().number(), 4);
-/// assert_eq!(block.get(1), Some(Ok(Text::Borrowed(&b"Aspirin"[..]))));
+/// assert!(matches!(block.get(1), Some(Ok(Text::Borrowed(b"Aspirin")))));
 /// # Ok::<(), valdrabus::Error>(())
 /// ```
 ///
 /// # Errors
 ///
-/// As [`read_block`]; an item can be refused by 4 as well.
+/// As [`read_block`]; an item can be refused by [`Error::NotUtf8`] (4) as well.
 pub fn read_block_bytes<'s, 'b>(
     items: &'b [Item],
     source: &'s [u8],
@@ -99,11 +100,11 @@ pub(crate) fn read<'s, 'b, T: Source + ?Sized>(
 /// let (mut answers, mut out) = ([Told::default(); 3], [0; 8]);
 ///
 /// let mut texts = read_block(&items, source, &mut answers, &mut out)?.iter();
-/// assert_eq!(texts.next(), Some(Ok(Text::Written("a'b"))));
+/// assert!(matches!(texts.next(), Some(Ok(Text::Written("a'b")))));
 /// let refused = texts.next().unwrap().unwrap_err();
 /// assert_eq!(refused.to_string(), "the text at 8..14 is not a readable string: reading stops at its byte 3 (number 6)");
 /// assert_eq!(refused.place_in_source(), Some(11));
-/// assert_eq!(texts.next(), Some(Ok(Text::Borrowed("c"))));
+/// assert!(matches!(texts.next(), Some(Ok(Text::Borrowed("c")))));
 /// # Ok::<(), valdrabus::Error>(())
 /// ```
 pub struct Block<'s, 'b, T: ?Sized = str> {
@@ -114,13 +115,15 @@ pub struct Block<'s, 'b, T: ?Sized = str> {
     pub(crate) out: &'b [u8],
 }
 
-impl<'s, 'b, T: ?Sized> Block<'s, 'b, T> {
+impl<T: ?Sized> Block<'_, '_, T> {
     /// How many items there are, refused ones among them.
+    #[must_use]
     pub const fn len(&self) -> usize {
         self.items.len()
     }
 
     /// Whether there is no item.
+    #[must_use]
     pub const fn is_empty(&self) -> bool {
         self.items.is_empty()
     }
@@ -136,11 +139,12 @@ impl<'s, 'b, T: ?Sized> Block<'s, 'b, T> {
     /// assert_eq!((used, &out), (4, b"it's...."));
     /// # Ok::<(), valdrabus::Error>(())
     /// ```
+    #[must_use]
     pub fn used(&self) -> usize {
         self.answers.iter().map(Told::taken).sum()
     }
 
-    /// How long a buffer must be for no item to be refused by 9, however long this one is; `usize::MAX` if it were longer still. A call takes no more than [`LONGEST_BUFFER`]: where more is
+    /// How long a buffer must be for no item to be refused by [`Error::NoRoom`] (9), however long this one is; `usize::MAX` if it were longer still. A call takes no more than [`LONGEST_BUFFER`]: where more is
     /// needed, ask for fewer items at once.
     ///
     /// ```
@@ -158,13 +162,14 @@ impl<'s, 'b, T: ?Sized> Block<'s, 'b, T> {
     /// assert_eq!((block.used(), block.needed()), (6, 6));
     /// # Ok::<(), valdrabus::Error>(())
     /// ```
+    #[must_use]
     pub fn needed(&self) -> usize {
         usize::try_from(Told::needed(self.answers)).unwrap_or(usize::MAX)
     }
 }
 
 impl<'s, 'b, T: Source + ?Sized> Block<'s, 'b, T> {
-    /// The answer of the item at a place, counted from 0; none past the items. Refusals: 1, 2, 3, 6, 9, over bytes 4 too.
+    /// The answer of the item at a place, counted from 0; none past the items. The refusals are those that [`read_block`] and [`read_block_bytes`] name.
     ///
     /// ```
     /// use valdrabus::{Error, Item, Kind, Literal, Span, Text, Told, read_block};
@@ -172,17 +177,19 @@ impl<'s, 'b, T: Source + ?Sized> Block<'s, 'b, T> {
     /// let items = [0..3, 3..9].map(|span| Item::from(Literal::new(Kind::String, span)));
     /// let mut answers = [Told::default(); 2];
     /// let block = read_block(&items, "'a''b'", &mut answers, &mut [])?;
-    /// assert_eq!(block.get(0), Some(Ok(Text::Borrowed("a"))));
+    /// assert!(matches!(block.get(0), Some(Ok(Text::Borrowed("a")))));
     /// assert_eq!(block.get(1), Some(Err(Error::InvalidSourceRange { span: Span::from(3..9) })));
     /// assert_eq!(block.get(2), None);
     /// # Ok::<(), Error>(())
     /// ```
+    #[must_use]
     pub fn get(&self, at: usize) -> Option<Result<Text<'s, 'b, T>, Error>> {
         let (literal, told) = (self.items.get(at)?.literal(), self.answers.get(at)?);
         Some(told.said(&literal).text(Some(&literal), self.source, self.out))
     }
 
     /// All answers, in the order of the items.
+    #[must_use]
     pub fn iter(&self) -> Texts<'s, 'b, T> {
         Texts { block: *self, places: 0..self.len() }
     }
@@ -231,7 +238,7 @@ impl<'s, 'b, T: Source + ?Sized> IntoIterator for &Block<'s, 'b, T> {
 /// let mut answers = [Told::default(); 2];
 /// let mut texts = read_block(&items, "'a','b'", &mut answers, &mut [])?.iter();
 /// assert_eq!(texts.len(), 2);
-/// assert_eq!(texts.next_back(), Some(Ok(Text::Borrowed("b"))));
+/// assert!(matches!(texts.next_back(), Some(Ok(Text::Borrowed("b")))));
 /// assert_eq!(texts.len(), 1);
 /// # Ok::<(), valdrabus::Error>(())
 /// ```

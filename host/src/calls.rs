@@ -286,8 +286,8 @@ pub(crate) enum Test {
     UnicodeIdent,
 }
 
-pub(crate) fn holds(test: Test, text: &[u8]) -> bool {
-    let ask = match test {
+pub(crate) fn holds(what: Test, text: &[u8]) -> bool {
+    let ask = match what {
         Test::UescapeArgument => sys::valdrabus_uescape_argument_is_legal,
         Test::EscapeString => sys::valdrabus_postgres_escape_string_is_valid,
         Test::UnicodeString => sys::valdrabus_unicode_escape_string_is_valid,

@@ -82,6 +82,7 @@ impl Date {
     /// assert_eq!(Date::new(1900, 2, 29), None);
     /// assert_eq!(Date::new(0, 1, 1), None);
     /// ```
+    #[must_use]
     pub fn new(year: u16, month: u8, day: u8) -> Option<Date> {
         // What has more digits than yyyy-mm-dd is no day; all else is asked.
         if year > 9999 || month > 99 || day > 99 { None } else { Date::of_text(&spelled(year, month, day)) }
@@ -94,6 +95,7 @@ impl Date {
     /// assert_eq!(Date::from_day_number(740_012), Date::new(2027, 1, 31));
     /// assert_eq!([0, 3_652_060].map(Date::from_day_number), [None; 2]);
     /// ```
+    #[must_use]
     pub fn from_day_number(number: u32) -> Option<Date> {
         match calls::date_of_day(number) {
             (0, [year, month, day]) => Date::of_numbers([year, month, day, number]),
@@ -102,16 +104,19 @@ impl Date {
     }
 
     /// The year, 1 to 9999.
+    #[must_use]
     pub const fn year(self) -> u16 {
         self.year
     }
 
     /// The month, 1 to 12.
+    #[must_use]
     pub const fn month(self) -> u8 {
         self.month
     }
 
     /// The day of the month, 1 to 31.
+    #[must_use]
     pub const fn day(self) -> u8 {
         self.day
     }
@@ -123,6 +128,7 @@ impl Date {
     /// let (sale, expiry) = (Date::new(2026, 11, 17).unwrap(), Date::new(2027, 1, 31).unwrap());
     /// assert_eq!(expiry.day_number() - sale.day_number(), 75);
     /// ```
+    #[must_use]
     pub const fn day_number(self) -> u32 {
         self.number
     }
@@ -134,6 +140,8 @@ impl Date {
     /// assert_eq!(Date::new(1970, 1, 1).map(Date::days_since_1970), Some(0));
     /// assert_eq!(Date::new(1969, 12, 31).map(Date::days_since_1970), Some(-1));
     /// ```
+    #[must_use]
+    #[allow(clippy::cast_possible_wrap, reason = "no number is over 3,652,059")]
     pub const fn days_since_1970(self) -> i32 {
         self.number as i32 - DAY_OF_1970
     }
@@ -152,7 +160,7 @@ impl Date {
         }
         let mut quoted = [b'\''; QUOTED];
         quoted[1..=LONG].copy_from_slice(text);
-        Date::of_literal(&Literal::new(Kind::Date, 0..QUOTED as u32), &quoted).ok()
+        Date::of_literal(&Literal::whole(Kind::Date, quoted)?, &quoted).ok()
     }
 
     /// The day by year, month, day and number as the archive tells them; none where they do not fit, which the archive's own never do.

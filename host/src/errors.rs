@@ -92,6 +92,7 @@ pub enum Error {
 
 impl Error {
     /// The refusal's number, 1 to 12 or 14 to 16, as `include/valdrabus.h` lists them.
+    #[must_use]
     pub const fn number(&self) -> u32 {
         match self {
             Error::WrongKind { .. } => 1,
@@ -113,6 +114,7 @@ impl Error {
     }
 
     /// The span of the literal that is refused, where the refusal speaks of one.
+    #[must_use]
     pub const fn span(&self) -> Option<Span> {
         match *self {
             Error::NotUtf8 { span } | Error::InvalidString { span, .. } => span,
@@ -141,6 +143,7 @@ impl Error {
     /// assert_eq!(place("'50' ' ml"), Some(5));
     /// assert_eq!(place("'50 ml"), Some(0));
     /// ```
+    #[must_use]
     pub const fn place(&self) -> Option<usize> {
         match *self {
             Error::InvalidString { place, .. } => place,
@@ -158,6 +161,7 @@ impl Error {
     /// assert_eq!((error.place(), error.place_in_source()), (Some(4), Some(9)));
     /// assert_eq!(&row[9..], "'s balm')");
     /// ```
+    #[must_use]
     pub const fn place_in_source(&self) -> Option<usize> {
         match *self {
             Error::InvalidString { span: Some(span), place: Some(place) } => (span.start as usize).checked_add(place),

@@ -14,11 +14,13 @@ use std::borrow::Cow;
 /// assert_eq!(split_radix_prefix("0x1F"), (16, "1F"));
 /// assert_eq!(split_radix_prefix("-0x1F"), (10, "-0x1F"));
 /// ```
+#[must_use]
 pub fn split_radix_prefix(text: &str) -> (u32, &str) {
     split(text)
 }
 
 /// [`split_radix_prefix`] over bytes.
+#[must_use]
 pub fn split_radix_prefix_bytes(text: &[u8]) -> (u32, &[u8]) {
     split(text)
 }
@@ -36,6 +38,7 @@ fn split<S: Source + ?Sized>(text: &S) -> (u32, &S) {
 /// assert!(uescape_argument_is_legal("'!'"));
 /// assert!(!uescape_argument_is_legal("'+'"));
 /// ```
+#[must_use]
 pub fn uescape_argument_is_legal(argument: impl AsRef<[u8]>) -> bool {
     calls::holds(Test::UescapeArgument, argument.as_ref())
 }
@@ -55,6 +58,7 @@ pub fn uescape_argument_is_legal(argument: impl AsRef<[u8]>) -> bool {
 /// assert_eq!(Literal::new(Kind::String, 0..8).to_str(joined)?, "ab");
 /// # Ok::<(), valdrabus::Error>(())
 /// ```
+#[must_use]
 pub fn postgres_escape_string_is_valid(text: impl AsRef<[u8]>) -> bool {
     calls::holds(Test::EscapeString, text.as_ref())
 }
@@ -68,6 +72,7 @@ pub fn postgres_escape_string_is_valid(text: impl AsRef<[u8]>) -> bool {
 /// assert!(!unicode_escape_string_is_valid(r"U&'\D800'"));
 /// assert!(unicode_escape_string_is_valid(r"U&'\D800' 'joined'"));
 /// ```
+#[must_use]
 pub fn unicode_escape_string_is_valid(text: impl AsRef<[u8]>) -> bool {
     calls::holds(Test::UnicodeString, text.as_ref())
 }
@@ -77,6 +82,7 @@ pub fn unicode_escape_string_is_valid(text: impl AsRef<[u8]>) -> bool {
 /// ```
 /// assert!(valdrabus::string_literal_embeds_nul("'a\0'"));
 /// ```
+#[must_use]
 pub fn string_literal_embeds_nul(text: impl AsRef<[u8]>) -> bool {
     calls::holds(Test::EmbedsNul, text.as_ref())
 }
@@ -87,24 +93,33 @@ pub fn string_literal_embeds_nul(text: impl AsRef<[u8]>) -> bool {
 /// assert!(valdrabus::is_unicode_ident("U&\"name\""));
 /// assert!(!valdrabus::is_unicode_ident("\"name\""));
 /// ```
+#[must_use]
 pub fn is_unicode_ident(text: impl AsRef<[u8]>) -> bool {
     calls::holds(Test::UnicodeIdent, text.as_ref())
 }
 
-/// A U& identifier's text. Refusals: 6, which has no place here, 9.
+/// A U& identifier's text.
 ///
 /// ```
 /// use valdrabus::{Text, materialize_unicode_ident};
 /// let mut out = [0; 8];
-/// assert_eq!(materialize_unicode_ident("U&\"plain\"", &mut out)?, Text::Borrowed("plain"));
-/// assert_eq!(materialize_unicode_ident("U&\"caf\\00e9\"", &mut out)?, Text::Written("café"));
+/// assert!(matches!(materialize_unicode_ident("U&\"plain\"", &mut out)?, Text::Borrowed("plain")));
+/// assert!(matches!(materialize_unicode_ident("U&\"caf\\00e9\"", &mut out)?, Text::Written("café")));
 /// # Ok::<(), valdrabus::Error>(())
 /// ```
+///
+/// # Errors
+///
+/// [`Error::InvalidString`] (6), which has no place here, [`Error::NoRoom`] (9).
 pub fn materialize_unicode_ident<'s, 'b>(text: &'s str, out: &'b mut [u8]) -> Result<Text<'s, 'b>, Error> {
     identifier(text, out)
 }
 
-/// [`materialize_unicode_ident`] over bytes. Refusals: 4, 6, 9.
+/// [`materialize_unicode_ident`] over bytes.
+///
+/// # Errors
+///
+/// [`Error::NotUtf8`] (4), and those of [`materialize_unicode_ident`].
 pub fn materialize_unicode_ident_bytes<'s, 'b>(text: &'s [u8], out: &'b mut [u8]) -> Result<Text<'s, 'b, [u8]>, Error> {
     identifier(text, out)
 }
@@ -113,12 +128,29 @@ fn identifier<'s, 'b, S: Source + ?Sized>(text: &'s S, out: &'b mut [u8]) -> Res
     calls::identifier(text.bytes(), out).text(None, text, out)
 }
 
-/// As [`materialize_unicode_ident`], allocated where it is not a part of the text. Refusal: 6.
+/// As [`materialize_unicode_ident`], allocated where it is not a part of the text.
 ///
 /// ```
 /// assert_eq!(valdrabus::to_unicode_ident("U&\"!0041\" UESCAPE '!'")?, "A");
 /// # Ok::<(), valdrabus::Error>(())
 /// ```
+///
+/// # Errors
+///
+/// [`Error::InvalidString`] (6), which has no place here.
 pub fn to_unicode_ident(text: &str) -> Result<Cow<'_, str>, Error> {
-    owned::cow(None, text, |out| calls::identifier(text.as_bytes(), out))
+    owned_identifier(text)
+}
+
+/// [`to_unicode_ident`] over bytes.
+///
+/// # Errors
+///
+/// [`Error::NotUtf8`] (4), and those of [`to_unicode_ident`].
+pub fn to_unicode_ident_bytes(text: &[u8]) -> Result<Cow<'_, [u8]>, Error> {
+    owned_identifier(text)
+}
+
+fn owned_identifier<S: Source + ?Sized>(text: &S) -> Result<Cow<'_, S>, Error> {
+    owned::cow(None, text, owned::ANY, |out| calls::identifier(text.bytes(), out))
 }

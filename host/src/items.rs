@@ -40,6 +40,7 @@ pub struct Item {
 
 impl Item {
     /// A literal at a setting. Every literal makes an item; whether it can be read is the block's answer.
+    #[must_use]
     pub const fn new(literal: Literal, settings: Settings) -> Item {
         let kind = match literal {
             Literal { kind: Kind::String, synthetic: true, .. } => NO_SOURCE,
@@ -52,7 +53,7 @@ impl Item {
     pub(crate) fn literal(&self) -> Literal {
         let span = Span { start: self.start, end: self.end };
         match Kind::of_code(self.kind) {
-            Some(kind) => Literal::new(kind, span),
+            Some(kind) => Literal::at(kind, span),
             None => Literal { span, ..Literal::synthetic(Kind::String) },
         }
     }

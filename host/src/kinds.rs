@@ -3,7 +3,7 @@
 use std::fmt;
 
 /// The `WITH` or `WITHOUT TIME ZONE` of a `TIME` or `TIMESTAMP`.
-#[derive(Clone, Copy, Debug, Default, PartialEq, Eq, Hash)]
+#[derive(Clone, Copy, Debug, Default, PartialEq, Eq, PartialOrd, Ord, Hash)]
 pub enum TimeZone {
     /// Nothing is said.
     #[default]
@@ -14,8 +14,9 @@ pub enum TimeZone {
     WithoutTimeZone,
 }
 
-/// The qualifier behind an `INTERVAL`.
-#[derive(Clone, Copy, Debug, PartialEq, Eq, Hash)]
+/// The qualifier behind an `INTERVAL`. A new dialect can bring a new case.
+#[derive(Clone, Copy, Debug, PartialEq, Eq, PartialOrd, Ord, Hash)]
+#[non_exhaustive]
 pub enum IntervalFields {
     /// `YEAR`
     Year,
@@ -68,7 +69,7 @@ pub enum IntervalFields {
 }
 
 /// The base of a bit string's digits.
-#[derive(Clone, Copy, Debug, PartialEq, Eq, Hash)]
+#[derive(Clone, Copy, Debug, PartialEq, Eq, PartialOrd, Ord, Hash)]
 pub enum BitStringRadix {
     /// 0 and 1
     Binary,
@@ -79,7 +80,10 @@ pub enum BitStringRadix {
 /// What a literal is said to be. It is taken as given: no text is ever asked which kind it has.
 ///
 /// Time zones and an interval's data decide no answer; they come back in [`Error::WrongKind`](crate::Error::WrongKind), but not from a block.
-#[derive(Clone, Copy, Debug, PartialEq, Eq, Hash)]
+///
+/// Kinds are ordered as they are listed here, and those of one case by its data, so `FALSE` before `TRUE`. A later version can add a kind.
+#[derive(Clone, Copy, Debug, PartialEq, Eq, PartialOrd, Ord, Hash)]
+#[non_exhaustive]
 pub enum Kind {
     /// A whole number, as `42` or `0x2A`.
     Integer,
@@ -119,56 +123,6 @@ pub enum Kind {
     },
     /// A price that begins with `$`.
     Money,
-}
-
-impl Kind {
-    /// The kind's code, 1 to 14, as `include/valdrabus.h` lists them.
-    ///
-    /// ```
-    /// use valdrabus::Kind;
-    /// assert_eq!(Kind::String.code(), 4);
-    /// assert_eq!(Kind::Boolean(false).code(), 6);
-    /// ```
-    pub const fn code(self) -> u32 {
-        match self {
-            Kind::Integer => 1,
-            Kind::Float => 2,
-            Kind::Decimal => 3,
-            Kind::String => 4,
-            Kind::Boolean(true) => 5,
-            Kind::Boolean(false) => 6,
-            Kind::Null => 7,
-            Kind::Date => 8,
-            Kind::Time { .. } => 9,
-            Kind::Timestamp { .. } => 10,
-            Kind::Interval { .. } => 11,
-            Kind::BitString { radix: BitStringRadix::Binary } => 12,
-            Kind::BitString { radix: BitStringRadix::Hex } => 13,
-            Kind::Money => 14,
-        }
-    }
-
-    /// The kind that has a code, without data.
-    pub(crate) fn of_code(code: u32) -> Option<Kind> {
-        const UNSPECIFIED: TimeZone = TimeZone::Unspecified;
-        Some(match code {
-            1 => Kind::Integer,
-            2 => Kind::Float,
-            3 => Kind::Decimal,
-            4 => Kind::String,
-            5 => Kind::Boolean(true),
-            6 => Kind::Boolean(false),
-            7 => Kind::Null,
-            8 => Kind::Date,
-            9 => Kind::Time { time_zone: UNSPECIFIED },
-            10 => Kind::Timestamp { time_zone: UNSPECIFIED },
-            11 => Kind::Interval { fields: None, precision: None },
-            12 => Kind::BitString { radix: BitStringRadix::Binary },
-            13 => Kind::BitString { radix: BitStringRadix::Hex },
-            14 => Kind::Money,
-            _ => return None,
-        })
-    }
 }
 
 impl fmt::Display for Kind {
@@ -216,30 +170,6 @@ pub enum Expected {
     Date,
 }
 
-impl Expected {
-    const ALL: [Expected; 9] = [
-        Expected::Integer,
-        Expected::DecimalText,
-        Expected::String,
-        Expected::Boolean,
-        Expected::Null,
-        Expected::Temporal,
-        Expected::BitString,
-        Expected::Money,
-        Expected::Date,
-    ];
-
-    /// The family's code, 1 to 9, as `include/valdrabus.h` lists them.
-    pub const fn code(self) -> u32 {
-        self as u32 + 1
-    }
-
-    /// The family that has a code.
-    pub(crate) fn of_code(code: usize) -> Option<Expected> {
-        Self::ALL.get(code.checked_sub(1)?).copied()
-    }
-}
-
 impl fmt::Display for Expected {
     fn fmt(&self, f: &mut fmt::Formatter<'_>) -> fmt::Result {
         f.write_str(match self {
@@ -253,26 +183,5 @@ impl fmt::Display for Expected {
             Expected::Money => "a money text",
             Expected::Date => "a date",
         })
-    }
-}
-
-#[cfg(test)]
-mod tests {
-    use super::*;
-
-    #[test]
-    fn a_kinds_code_gives_the_kind_back() {
-        for code in 1..=14 {
-            assert_eq!(Kind::of_code(code).map(Kind::code), Some(code));
-        }
-        assert_eq!([0, 15, u32::MAX].map(Kind::of_code), [None; 3]);
-    }
-
-    #[test]
-    fn a_familys_code_gives_the_family_back() {
-        for expected in Expected::ALL {
-            assert_eq!(Expected::of_code(expected.code() as usize), Some(expected));
-        }
-        assert_eq!([0, 10, usize::MAX].map(Expected::of_code), [None; 3]);
     }
 }

@@ -44,21 +44,30 @@
 #![deny(missing_docs)]
 #![deny(unsafe_op_in_unsafe_fn)]
 
+// The page that Cargo shows: its example is run with the others.
+#[cfg(doctest)]
+#[doc = include_str!("../README.md")]
+struct Readme;
+
 mod blocks;
 mod calls;
+mod codes;
 mod dates;
 mod errors;
 mod helpers;
 mod in_bytes;
 mod items;
 mod kinds;
+mod lent_texts;
 mod literal;
 mod owned;
 mod owned_blocks;
+mod owned_texts;
 mod packed;
 mod positions;
 mod questions;
 mod said;
+mod same_texts;
 mod settings;
 mod source;
 mod span;
@@ -68,11 +77,12 @@ mod texts;
 mod writer;
 
 pub use blocks::{Block, LONGEST_BUFFER, Texts, read_block, read_block_bytes};
+pub use codes::TryFromCodeError;
 pub use dates::{Date, ParseDateError};
 pub use errors::Error;
 pub use helpers::{
     is_unicode_ident, materialize_unicode_ident, materialize_unicode_ident_bytes, postgres_escape_string_is_valid,
-    split_radix_prefix, split_radix_prefix_bytes, string_literal_embeds_nul, to_unicode_ident,
+    split_radix_prefix, split_radix_prefix_bytes, string_literal_embeds_nul, to_unicode_ident, to_unicode_ident_bytes,
     uescape_argument_is_legal, unicode_escape_string_is_valid,
 };
 pub use in_bytes::InBytes;
@@ -83,7 +93,7 @@ pub use owned_blocks::{BlockBuf, to_block, to_block_bytes};
 pub use packed::{Packed, to_bit_literal, write_bit_literal};
 pub use positions::Position;
 pub use settings::Settings;
-pub use span::Span;
+pub use span::{Span, TryFromRangeError};
 pub use texts::Text;
 pub use writer::{
     LEAST_PART, LONGEST_VALUE, to_escape, to_literal, to_parts, to_unicode, write_escape, write_literal, write_parts,

@@ -7,9 +7,10 @@ use crate::source::Source;
 use crate::texts::Text;
 use std::fmt;
 
-/// As [`read_block`](crate::read_block), with memory of its own for answers and written texts, so that no item is refused by 9.
+/// As [`read_block`](crate::read_block), with memory of its own for answers and written texts, so that no item is refused by [`Error::NoRoom`] (9).
 ///
-/// It asks without a buffer first, which is all that rows of plain literals need; where texts are to be written, it asks again with a buffer that just holds them.
+/// It asks without a buffer first, which is all that rows of plain literals need; where texts are to be written, it asks again with a buffer that just holds them. That is never longer than the
+/// items' texts together, less two bytes for each: who lends such a buffer to [`read_block`](crate::read_block) asks once.
 ///
 /// ```
 /// use valdrabus::{Item, Kind, Literal, Text, to_block};
@@ -19,13 +20,15 @@ use std::fmt;
 ///
 /// let block = to_block(&items, list)?;
 /// let names: Vec<Text> = block.iter().collect::<Result<_, _>>()?;
-/// assert_eq!(names, [Text::Borrowed("Aspirin"), Text::Written("Bob's balm"), Text::Written("50 ml")]);
+/// assert_eq!(names, ["Aspirin", "Bob's balm", "50 ml"]);
+/// assert!(names[0].is_borrowed() && !names[1].is_borrowed());
 /// # Ok::<(), valdrabus::Error>(())
 /// ```
 ///
 /// # Errors
 ///
-/// 15, for the whole call, if the written texts need more than [`LONGEST_BUFFER`] bytes together. An item's own refusal stands in the block: 1, 2, 3, 6.
+/// [`Error::BadBlock`] (15), for the whole call, if the written texts need more than [`LONGEST_BUFFER`] bytes together. An item's own refusal stands in the block:
+/// [`Error::WrongKind`] (1), [`Error::MissingSource`] (2), [`Error::InvalidSourceRange`] (3), [`Error::InvalidString`] (6) with its [place](Error::place).
 pub fn to_block<'s>(items: &[Item], source: &'s str) -> Result<BlockBuf<'s>, Error> {
     owned(items, source)
 }
@@ -39,13 +42,13 @@ pub fn to_block<'s>(items: &[Item], source: &'s str) -> Result<BlockBuf<'s>, Err
 /// let block = to_block_bytes(&items, b"'caf\xE9', 'it''s'")?;
 /// let mut texts = block.iter();
 /// assert_eq!(texts.next().unwrap().unwrap_err().number(), 4);
-/// assert_eq!(texts.next(), Some(Ok(Text::Written(&b"it's"[..]))));
+/// assert!(matches!(texts.next(), Some(Ok(Text::Written(b"it's")))));
 /// # Ok::<(), valdrabus::Error>(())
 /// ```
 ///
 /// # Errors
 ///
-/// As [`to_block`]; an item can be refused by 4 as well.
+/// As [`to_block`]; an item can be refused by [`Error::NotUtf8`] (4) as well.
 pub fn to_block_bytes<'s>(items: &[Item], source: &'s [u8]) -> Result<BlockBuf<'s, [u8]>, Error> {
     owned(items, source)
 }
@@ -90,37 +93,42 @@ impl<'s, T: Source + ?Sized> BlockBuf<'s, T> {
     /// assert_eq!(block.as_block().used(), 4);
     /// # Ok::<(), valdrabus::Error>(())
     /// ```
+    #[must_use]
     pub fn as_block(&self) -> Block<'s, '_, T> {
         Block { items: &self.items, source: self.source, answers: &self.answers, out: &self.out }
     }
 
     /// How many items there are, refused ones among them.
+    #[must_use]
     pub fn len(&self) -> usize {
         self.items.len()
     }
 
     /// Whether there is no item.
+    #[must_use]
     pub fn is_empty(&self) -> bool {
         self.items.is_empty()
     }
 
-    /// The answer of the item at a place, counted from 0; none past the items. Refusals: 1, 2, 3, 6, over bytes 4 too.
+    /// The answer of the item at a place, counted from 0; none past the items. The refusals are those that [`to_block`] and [`to_block_bytes`] name.
     ///
     /// ```
     /// use valdrabus::{Item, Kind, Literal, Text, to_block};
     ///
     /// let items = [0..7, 7..9].map(|span| Item::from(Literal::new(Kind::String, span)));
     /// let block = to_block(&items, "'it''s''x")?;
-    /// assert_eq!(block.get(0), Some(Ok(Text::Written("it's"))));
+    /// assert!(matches!(block.get(0), Some(Ok(Text::Written("it's")))));
     /// assert_eq!(block.get(1).unwrap().unwrap_err().number(), 6);
     /// assert_eq!(block.get(2), None);
     /// # Ok::<(), valdrabus::Error>(())
     /// ```
+    #[must_use]
     pub fn get(&self, at: usize) -> Option<Result<Text<'s, '_, T>, Error>> {
         self.as_block().get(at)
     }
 
     /// All answers, in the order of the items.
+    #[must_use]
     pub fn iter(&self) -> Texts<'s, '_, T> {
         self.as_block().iter()
     }

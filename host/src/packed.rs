@@ -4,6 +4,7 @@ use crate::calls;
 use crate::errors::Error;
 use crate::kinds::BitStringRadix;
 use crate::literal::Literal;
+use crate::said::Stands;
 use std::fmt;
 
 /// Flags and keys fit, so that most bit strings are packed by one call.
@@ -43,11 +44,13 @@ pub struct Packed<'b> {
 
 impl<'b> Packed<'b> {
     /// The packed bytes: the bit count divided by eight, rounded up, is how many they are.
+    #[must_use]
     pub const fn bytes(self) -> &'b [u8] {
         self.bytes
     }
 
     /// How many bits they hold. A hex literal can have more than a `u32` counts.
+    #[must_use]
     pub const fn bits(self) -> u64 {
         self.bits
     }
@@ -55,9 +58,10 @@ impl<'b> Packed<'b> {
     /// The packed bits of a literal, or why it has none.
     pub(crate) fn of_literal(literal: &Literal, source: &[u8], out: &'b mut [u8]) -> Result<Packed<'b>, Error> {
         let (said, bits) = calls::as_packed_bits(literal, source, out);
-        said.accepted(Some(literal))?;
-        let bytes = out.get(..said.second).ok_or(Error::BadNumber)?;
-        Ok(Packed { bytes, bits })
+        match said.stands(Some(literal))? {
+            Stands::InBuffer(range) => Ok(Packed { bytes: out.get(range).ok_or(Error::BadNumber)?, bits }),
+            Stands::InSource(_) => Err(Error::BadNumber),
+        }
     }
 }
 
@@ -95,9 +99,6 @@ pub(crate) fn to_packed_bits(literal: &Literal, source: &[u8]) -> Result<(Vec<u8
 /// Packed bytes and how many bits they hold as `B'..'` or `X'..'`, digits in upper case. Packed again as a literal of that kind, the text gives the bytes and the
 /// count back; and a literal that is one segment, its letter in upper case and that of its kind, its digits in upper case, comes back as it was.
 ///
-/// Refusals, tested in this order: 12, where the bytes are more than [`LONGEST_VALUE`](crate::LONGEST_VALUE); 16, where they are not as many as the bits take,
-/// where an unused bit is set, or where hex digits are asked of a count that is no multiple of four; 9.
-///
 /// ```
 /// use valdrabus::{BitStringRadix, Error, write_bit_literal};
 /// let mut out = [0; 16];
@@ -109,6 +110,11 @@ pub(crate) fn to_packed_bits(literal: &Literal, source: &[u8]) -> Result<(Vec<u8
 /// assert_eq!(write_bit_literal([0x82], 7, BitStringRadix::Binary, &mut out[..9]), Err(Error::NoRoom { needed: 10 }));
 /// # Ok::<(), Error>(())
 /// ```
+///
+/// # Errors
+///
+/// Tested in this order: [`Error::OverLimit`] (12), where the bytes are more than [`LONGEST_VALUE`](crate::LONGEST_VALUE); [`Error::BadBits`] (16), where they are not as many as the bits
+/// take, where an unused bit is set, or where hex digits are asked of a count that is no multiple of four; [`Error::NoRoom`] (9).
 pub fn write_bit_literal(
     bytes: impl AsRef<[u8]>,
     bits: u64,
@@ -118,7 +124,7 @@ pub fn write_bit_literal(
     write(bytes.as_ref(), bits, radix, out)
 }
 
-/// As [`write_bit_literal`], into a text of its own. Refusals: 12, 16.
+/// As [`write_bit_literal`], into a text of its own.
 ///
 /// ```
 /// use valdrabus::{BitStringRadix, Kind, Literal, to_bit_literal};
@@ -129,6 +135,10 @@ pub fn write_bit_literal(
 /// assert_eq!(to_bit_literal(&bytes, bits, BitStringRadix::Binary)?, "B'1100001'");
 /// # Ok::<(), valdrabus::Error>(())
 /// ```
+///
+/// # Errors
+///
+/// [`Error::OverLimit`] (12), [`Error::BadBits`] (16), each as of [`write_bit_literal`].
 pub fn to_bit_literal(bytes: impl AsRef<[u8]>, bits: u64, radix: BitStringRadix) -> Result<String, Error> {
     let bytes = bytes.as_ref();
     // No text has fewer than three bytes, so a call without a buffer gives the length needed, or the refusal.

@@ -5,7 +5,7 @@ use std::fmt;
 
 /// A byte's line and column in a source, each counted from 1.
 ///
-/// A line ends with LF, CR LF or CR. A column is a character; every byte but 80 to BF hex begins one, in a source that is not UTF-8 throughout too. It is shown as `line 3, column 7`.
+/// A line ends with LF, CR LF or CR. A column is a character; every byte but 80 to BF hex begins one, in a source that is not UTF-8 throughout too. It is shown as `line 3, column 7`, and ordered as it stands in the source.
 ///
 /// ```
 /// use valdrabus::Position;
@@ -14,7 +14,7 @@ use std::fmt;
 /// assert_eq!(position, Position { line: 2, column: 7 });
 /// assert_eq!(position.to_string(), "line 2, column 7");
 /// ```
-#[derive(Clone, Copy, Debug, PartialEq, Eq, Hash)]
+#[derive(Clone, Copy, Debug, PartialEq, Eq, PartialOrd, Ord, Hash)]
 pub struct Position {
     /// How many lines there are up to the byte's, its own included.
     pub line: usize,
@@ -34,6 +34,7 @@ impl Position {
     /// assert_eq!(Position::of("é\nb", 4), Some(Position { line: 2, column: 2 }));
     /// assert_eq!(Position::of("é\nb", 5), None);
     /// ```
+    #[must_use]
     pub fn of(source: impl AsRef<[u8]>, byte: usize) -> Option<Position> {
         let source = source.as_ref();
         if byte > source.len() {
@@ -73,7 +74,8 @@ fn begins_character(source: &[u8], at: usize) -> bool {
 /// By lines and columns of the source that was asked.
 impl Error {
     /// The line and column at which to look: [where reading stops](Error::place_in_source), or, for another refusal of a literal's text, where the literal begins. None if the refusal speaks of no
-    /// text in the source (1, 2, 3, 9 and those of bare text and values), or the source is another one that ends before.
+    /// text in the source ([`Error::WrongKind`], [`Error::MissingSource`], [`Error::InvalidSourceRange`], [`Error::NoRoom`] and those of bare text and values), or the source is another one that
+    /// ends before.
     ///
     /// ```
     /// use valdrabus::{Kind, Literal, Position};
@@ -85,6 +87,7 @@ impl Error {
     /// let count = Literal::new(Kind::Integer, 16..18).as_i64(dump).unwrap_err();
     /// assert_eq!(count.position(dump), Some(Position { line: 2, column: 2 }));
     /// ```
+    #[must_use]
     pub fn position(&self, source: impl AsRef<[u8]>) -> Option<Position> {
         let byte = match self {
             Error::MissingSource { .. } | Error::InvalidSourceRange { .. } => return None,
@@ -109,6 +112,7 @@ impl Error {
     /// let error = Literal::new(Kind::String, 4..16).to_str(row).unwrap_err();
     /// assert_eq!(error.in_source(row).to_string(), error.to_string());
     /// ```
+    #[must_use]
     pub fn in_source(&self, source: impl AsRef<[u8]>) -> impl fmt::Display {
         let source = source.as_ref();
         let spans_lines = (1..source.len()).any(|at| begins_line(source, at));

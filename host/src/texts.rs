@@ -1,28 +1,36 @@
 //! An answer that is a text.
 
-use std::borrow::Cow;
+use std::borrow::{Borrow, Cow};
 use std::fmt;
 use std::ops::Deref;
 
 /// A text: a part of the source (`'s`), or written into the buffer (`'b`). So a borrowed text outlives the buffer, which can be lent again.
 ///
-/// It dereferences to the text itself.
+/// It dereferences to the text itself, and is equal to it, ordered and hashed as it is. Where it stands makes no difference to that; [`is_borrowed`](Text::is_borrowed), or a
+/// `match`, tells. It goes into a `Cow`, which borrows from the source still, and into a `String` of its own.
 ///
 /// ```
+/// use std::borrow::Cow;
 /// use valdrabus::{Kind, Literal, Text};
 ///
 /// let source = "'plain' , 'it''s'";
 /// let mut out = [0; 16];
 ///
 /// let plain = Literal::new(Kind::String, 0..7).as_str(source, &mut out)?;
-/// assert_eq!(plain, Text::Borrowed("plain"));
+/// assert_eq!(plain, "plain");
+/// assert!(matches!(plain, Text::Borrowed("plain")));
+/// let plain: Cow<str> = plain.into();
 ///
 /// let quoted = Literal::new(Kind::String, 10..17).as_str(source, &mut out)?;
-/// assert_eq!(quoted, Text::Written("it's"));
+/// assert_eq!(quoted, "it's");
+/// assert!(matches!(quoted, Text::Written("it's")));
 /// assert!(quoted.starts_with("it"));
+///
+/// assert!(matches!(plain, Cow::Borrowed("plain")));
+/// assert_eq!(String::from(quoted), "it's");
 /// # Ok::<(), valdrabus::Error>(())
 /// ```
-#[derive(Debug, PartialEq, Eq, Hash)]
+#[derive(Debug)]
 pub enum Text<'s, 'b, T: ?Sized = str> {
     /// A part of the source; nothing is written for it.
     Borrowed(&'s T),
@@ -30,13 +38,38 @@ pub enum Text<'s, 'b, T: ?Sized = str> {
     Written(&'b T),
 }
 
-impl<'s, T: ?Sized> Text<'s, '_, T> {
+impl<'s, 'b, T: ?Sized> Text<'s, 'b, T> {
     /// Whether the text is a part of the source.
+    #[must_use]
     pub const fn is_borrowed(&self) -> bool {
         matches!(self, Text::Borrowed(_))
     }
 
+    /// The text as a reference, good for as long as source and buffer both are. What a `&` of this value gives ends with the value.
+    ///
+    /// ```
+    /// use valdrabus::{Error, Kind, Literal};
+    ///
+    /// fn name<'a>(row: &'a str, out: &'a mut [u8]) -> Result<&'a str, Error> {
+    ///     Ok(Literal::new(Kind::String, 1..14).as_str(row, out)?.into_ref())
+    /// }
+    ///
+    /// assert_eq!(name("('Bob''s balm')", &mut [0; 16])?, "Bob's balm");
+    /// # Ok::<(), Error>(())
+    /// ```
+    #[must_use]
+    pub const fn into_ref<'a>(self) -> &'a T
+    where
+        's: 'a,
+        'b: 'a,
+    {
+        match self {
+            Text::Borrowed(text) | Text::Written(text) => text,
+        }
+    }
+
     /// The text on its own: borrowed from the source still, or copied out of the buffer.
+    #[must_use]
     pub fn into_cow(self) -> Cow<'s, T>
     where
         T: ToOwned,
@@ -61,16 +94,50 @@ impl<T: ?Sized> Deref for Text<'_, '_, T> {
     type Target = T;
 
     fn deref(&self) -> &T {
-        match self {
-            Text::Borrowed(text) => text,
-            Text::Written(text) => text,
-        }
+        self.into_ref()
     }
 }
 
 impl<T: ?Sized> AsRef<T> for Text<'_, '_, T> {
     fn as_ref(&self) -> &T {
         self
+    }
+}
+
+/// Texts are found in a map by what they are.
+///
+/// ```
+/// use std::collections::HashMap;
+/// use valdrabus::{Item, Kind, Literal, to_block};
+///
+/// let items = [0..6, 7..13].map(|span| Item::from(Literal::new(Kind::String, span)));
+/// let block = to_block(&items, "'Balm' 'it''s'")?;
+/// let rows: HashMap<_, _> = block.iter().flatten().zip(1..).collect();
+/// assert_eq!(rows.get("Balm"), Some(&1));
+/// # Ok::<(), valdrabus::Error>(())
+/// ```
+impl<T: ?Sized> Borrow<T> for Text<'_, '_, T> {
+    fn borrow(&self) -> &T {
+        self
+    }
+}
+
+/// As [`into_cow`](Text::into_cow).
+impl<'s, T: ToOwned + ?Sized> From<Text<'s, '_, T>> for Cow<'s, T> {
+    fn from(text: Text<'s, '_, T>) -> Cow<'s, T> {
+        text.into_cow()
+    }
+}
+
+impl From<Text<'_, '_>> for String {
+    fn from(text: Text<'_, '_>) -> String {
+        text.into_ref().to_owned()
+    }
+}
+
+impl From<Text<'_, '_, [u8]>> for Vec<u8> {
+    fn from(text: Text<'_, '_, [u8]>) -> Vec<u8> {
+        text.into_ref().to_owned()
     }
 }
 

@@ -10,7 +10,7 @@ pub const LONGEST_VALUE: usize = 268_435_456;
 /// The smallest part size: every character fits a part.
 pub const LEAST_PART: usize = 4;
 
-/// A value as one plain literal. What it writes reads back as the value at the same setting. Refusals: 12, 4, 11, 9, tested in this order.
+/// A value as one plain literal. What it writes reads back as the value at the same setting.
 ///
 /// ```
 /// use valdrabus::{Settings, write_literal};
@@ -19,12 +19,16 @@ pub const LEAST_PART: usize = 4;
 /// assert_eq!(write_literal("a\0b", Settings::MYSQL, &mut out)?, r"'a\0b'");
 /// # Ok::<(), valdrabus::Error>(())
 /// ```
+///
+/// # Errors
+///
+/// Tested in this order: [`Error::OverLimit`] (12), [`Error::NotUtf8`] (4), [`Error::HoldsNul`] (11), [`Error::NoRoom`] (9).
 pub fn write_literal(value: impl AsRef<[u8]>, settings: Settings, out: &mut [u8]) -> Result<&str, Error> {
     write(value.as_ref(), Spelling::Plain(settings), out)
 }
 
 /// A value in parts of at most `part_size` bytes of the value, cut between characters, with one line feed between each two, as PostgreSQL wants it. The parts read back as the whole value at the same
-/// setting. Refusals: 12, 4, 11, 9, tested in this order.
+/// setting.
 ///
 /// ```
 /// use valdrabus::{Settings, write_parts};
@@ -44,6 +48,10 @@ pub fn write_literal(value: impl AsRef<[u8]>, settings: Settings, out: &mut [u8]
 /// assert_eq!(Literal::whole(Kind::String, &row).expect("a short row").to_str(&row)?, "Paracetamol 500 mg");
 /// # Ok::<(), valdrabus::Error>(())
 /// ```
+///
+/// # Errors
+///
+/// Tested in this order: [`Error::OverLimit`] (12), [`Error::NotUtf8`] (4), [`Error::HoldsNul`] (11), [`Error::NoRoom`] (9).
 pub fn write_parts(
     value: impl AsRef<[u8]>,
     part_size: usize,
@@ -53,24 +61,32 @@ pub fn write_parts(
     write(value.as_ref(), Spelling::Parts(part_size, settings), out)
 }
 
-/// As [`write_literal`], into a text of its own. Refusals: 12, 4, 11.
+/// As [`write_literal`], into a text of its own.
 ///
 /// ```
 /// use valdrabus::{Settings, to_literal};
 /// assert_eq!(to_literal(r"5\10 ml", Settings::MYSQL)?, r"'5\\10 ml'");
 /// # Ok::<(), valdrabus::Error>(())
 /// ```
+///
+/// # Errors
+///
+/// Tested in this order: [`Error::OverLimit`] (12), [`Error::NotUtf8`] (4), [`Error::HoldsNul`] (11).
 pub fn to_literal(value: impl AsRef<[u8]>, settings: Settings) -> Result<String, Error> {
     written(value.as_ref(), Spelling::Plain(settings))
 }
 
-/// As [`write_parts`], into a text of its own. Refusals: 12, 4, 11.
+/// As [`write_parts`], into a text of its own.
 ///
 /// ```
 /// use valdrabus::{Settings, to_parts};
 /// assert_eq!(to_parts("Bob's balm", 5, Settings::STANDARD)?, "'Bob''s'\n' balm'");
 /// # Ok::<(), valdrabus::Error>(())
 /// ```
+///
+/// # Errors
+///
+/// Tested in this order: [`Error::OverLimit`] (12), [`Error::NotUtf8`] (4), [`Error::HoldsNul`] (11).
 pub fn to_parts(value: impl AsRef<[u8]>, part_size: usize, settings: Settings) -> Result<String, Error> {
     written(value.as_ref(), Spelling::Parts(part_size, settings))
 }
@@ -78,7 +94,7 @@ pub fn to_parts(value: impl AsRef<[u8]>, part_size: usize, settings: Settings) -
 /// A value as `E'..'`: backslash and quote are doubled, the codes 08, 09, 0A, 0C and 0D are `\b`, `\t`, `\n`, `\f` and `\r`, the others below 20 hex a backslash and three octal digits. All else stands as it
 /// is, 7F hex and characters that are not ASCII too. So the text has no byte below 20 hex, and no line feed among them.
 ///
-/// What it writes reads back as the value at both settings, so none is given. For `n` bytes of the value it has at most `4 * n + 3`. Refusals: 12, 4, 11 (any NUL), 9, tested in this order.
+/// What it writes reads back as the value at both settings, so none is given. For `n` bytes of the value it has at most `4 * n + 3`.
 ///
 /// ```
 /// use valdrabus::{Error, write_escape};
@@ -89,6 +105,10 @@ pub fn to_parts(value: impl AsRef<[u8]>, part_size: usize, settings: Settings) -
 /// assert_eq!(write_escape("\n", &mut out[..4]), Err(Error::NoRoom { needed: 5 }));
 /// # Ok::<(), Error>(())
 /// ```
+///
+/// # Errors
+///
+/// Tested in this order: [`Error::OverLimit`] (12), [`Error::NotUtf8`] (4), [`Error::HoldsNul`] (11) for any NUL, [`Error::NoRoom`] (9).
 pub fn write_escape(value: impl AsRef<[u8]>, out: &mut [u8]) -> Result<&str, Error> {
     write(value.as_ref(), Spelling::Escape, out)
 }
@@ -96,7 +116,7 @@ pub fn write_escape(value: impl AsRef<[u8]>, out: &mut [u8]) -> Result<&str, Err
 /// A value as `U&'..'`: backslash and quote are doubled, and a character outside 20 to 7E hex is a backslash and four upper-case hex digits, or above FFFF a backslash, `+` and six. So the text has bytes
 /// 20 to 7E hex alone.
 ///
-/// What it writes reads back as the value at both settings, so none is given. For `n` bytes of the value it has at most `5 * n + 4`. Refusals: 12, 4, 11 (any NUL), 9, tested in this order.
+/// What it writes reads back as the value at both settings, so none is given. For `n` bytes of the value it has at most `5 * n + 4`.
 ///
 /// ```
 /// use valdrabus::{Error, write_unicode};
@@ -107,11 +127,15 @@ pub fn write_escape(value: impl AsRef<[u8]>, out: &mut [u8]) -> Result<&str, Err
 /// assert_eq!(write_unicode("é", &mut out[..8]), Err(Error::NoRoom { needed: 9 }));
 /// # Ok::<(), Error>(())
 /// ```
+///
+/// # Errors
+///
+/// Tested in this order: [`Error::OverLimit`] (12), [`Error::NotUtf8`] (4), [`Error::HoldsNul`] (11) for any NUL, [`Error::NoRoom`] (9).
 pub fn write_unicode(value: impl AsRef<[u8]>, out: &mut [u8]) -> Result<&str, Error> {
     write(value.as_ref(), Spelling::Unicode, out)
 }
 
-/// As [`write_escape`], into a text of its own. Refusals: 12, 4, 11.
+/// As [`write_escape`], into a text of its own.
 ///
 /// ```
 /// use valdrabus::{Error, to_escape};
@@ -119,11 +143,15 @@ pub fn write_unicode(value: impl AsRef<[u8]>, out: &mut [u8]) -> Result<&str, Er
 /// assert_eq!(to_escape(b"\xFF\0"), Err(Error::NotUtf8 { span: None }));
 /// # Ok::<(), Error>(())
 /// ```
+///
+/// # Errors
+///
+/// Tested in this order: [`Error::OverLimit`] (12), [`Error::NotUtf8`] (4), [`Error::HoldsNul`] (11) for any NUL.
 pub fn to_escape(value: impl AsRef<[u8]>) -> Result<String, Error> {
     written(value.as_ref(), Spelling::Escape)
 }
 
-/// As [`write_unicode`], into a text of its own. Refusals: 12, 4, 11.
+/// As [`write_unicode`], into a text of its own.
 ///
 /// ```
 /// use valdrabus::{Error, to_unicode};
@@ -131,6 +159,10 @@ pub fn to_escape(value: impl AsRef<[u8]>) -> Result<String, Error> {
 /// assert_eq!(to_unicode(b"\xFF\0"), Err(Error::NotUtf8 { span: None }));
 /// # Ok::<(), Error>(())
 /// ```
+///
+/// # Errors
+///
+/// Tested in this order: [`Error::OverLimit`] (12), [`Error::NotUtf8`] (4), [`Error::HoldsNul`] (11) for any NUL.
 pub fn to_unicode(value: impl AsRef<[u8]>) -> Result<String, Error> {
     written(value.as_ref(), Spelling::Unicode)
 }

@@ -4,6 +4,7 @@ mod common;
 
 use common::{Asked, items, list};
 use std::alloc::{GlobalAlloc, Layout, System};
+use std::borrow::Cow;
 use std::cell::Cell;
 use valdrabus::*;
 
@@ -135,6 +136,51 @@ fn packed_bits_allocate_nothing() {
     assert_eq!((owned, made), (Ok((vec![0x82], 7)), 1));
     let (owned, made) = counted(|| to_bit_literal([0x82], 7, radix));
     assert_eq!((owned.as_deref(), made), (Ok("B'1000001'"), 1));
+}
+
+/// A plain literal of any length allocates nothing; a written one its value, once and no longer than it is. One of up to 128 bytes comes out of a buffer on the stack.
+#[test]
+fn owned_strings_allocate_what_they_hold() {
+    for long in [0, 1, 127, 128, 129, 130, 131, 5_000] {
+        let (plain, written) = ("x".repeat(long), "x".repeat(long) + "'");
+        let (source, quoted) = (format!("'{plain}'"), format!("'{plain}'''"));
+        let literals = [&source, &quoted].map(|text| Literal::whole(Kind::String, text).expect("a short text"));
+        let (borrowed, made) = counted(|| literals[0].to_str(&source));
+        assert!(matches!(borrowed, Ok(Cow::Borrowed(text)) if text == plain && made == 0), "{long} bytes");
+        for settings in [Settings::STANDARD, Settings::MYSQL] {
+            let (value, made) = counted(|| literals[1].to_str_in(&quoted, settings).map(Cow::into_owned));
+            assert_eq!((value.as_deref(), made), (Ok(&*written), 1), "{long} bytes");
+            assert_eq!(value.map(|value| value.capacity()), Ok(long + 1), "{long} bytes");
+        }
+        let (bytes, made) = counted(|| literals[1].in_bytes(quoted.as_bytes()).to_str().map(Cow::into_owned));
+        assert_eq!((bytes.as_deref(), made), (Ok(written.as_bytes()), 1), "{long} bytes");
+    }
+}
+
+/// One `String` for all names of a list grows to the longest of them, and not again.
+#[test]
+fn a_string_used_again_allocates_no_more_than_it_grows() {
+    let (text, rows, long) = wholesale();
+    let name_len = |name: &mut String| {
+        rows.iter().map(|row| row.literal.read_str_in(&text, row.settings, name).expect("a name").len()).sum::<usize>()
+    };
+    let mut name = String::new();
+    let (one_by_one, made) = counted(|| name_len(&mut name));
+    assert!(one_by_one == long && (1..=8).contains(&made), "{made} allocations");
+    assert_eq!(counted(|| name_len(&mut name)), (long, 0));
+}
+
+/// What the capacity holds is not allocated for, though the text is longer than the capacity; nor is a refusal.
+#[test]
+fn a_capacity_that_holds_the_value_suffices() {
+    let source = r"E'\u0041\u0042\u0043' 'Balm' 'Balm";
+    let [escaped, plain, unended] = [0..21, 22..28, 29..34].map(|span| Literal::new(Kind::String, span));
+    let mut name = String::with_capacity(4);
+    assert_eq!(name.capacity(), 4);
+    assert_eq!(counted(|| escaped.read_str(source, &mut name).map(str::len)), (Ok(3), 0));
+    assert_eq!(counted(|| plain.read_str(source, &mut name).map(str::len)), (Ok(4), 0));
+    assert_eq!(counted(|| unended.read_str(source, &mut name).map_err(|why| why.number())), (Err(6), 0));
+    assert_eq!((&*name, name.capacity()), ("Balm", 4));
 }
 
 #[test]

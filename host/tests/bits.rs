@@ -129,10 +129,10 @@ fn packing_refuses_as_the_bits_question_does() {
         assert_eq!(asked(kind, text), refused);
         assert_eq!(Literal { synthetic: true, ..whole(kind, text) }.to_packed_bits(text), refused, "1 before 2");
     }
-    let nowhere = Literal { synthetic: true, ..Literal::new(HEX, Span { start: 4, end: 0 }) };
+    let nowhere = Literal { synthetic: true, ..Literal::at(HEX, Span { start: 4, end: 0 }) };
     assert_eq!(nowhere.to_packed_bits(text), Err(Error::MissingSource { span: nowhere.span }));
     for (start, end) in [(4, 0), (0, 5), (5, 5)] {
-        let literal = Literal::new(BINARY, Span { start, end });
+        let literal = Literal::at(BINARY, Span { start, end });
         assert_eq!(literal.to_packed_bits(text), Err(Error::InvalidSourceRange { span: literal.span }));
     }
     let broken = Literal::new(BINARY, 0..4).in_bytes(b"B'\xFF'");

@@ -6,12 +6,12 @@ mod common;
 #[path = "../compare/src/rng.rs"]
 mod rng;
 
-use common::{Asked, KINDS, LENT, items, list, place, table, unhex, whole};
+use common::{Asked, KINDS, LENT, items, list, place, table, told, unhex, whole};
 use rng::Rng;
 use valdrabus::*;
 
 fn strings<const N: usize>(spans: [(u32, u32); N]) -> [Item; N] {
-    spans.map(|(start, end)| Literal::new(Kind::String, Span { start, end }).into())
+    spans.map(|(start, end)| Literal::at(Kind::String, Span { start, end }).into())
 }
 
 /// Answers as no row has them, at each place another: borrowed from further on than a row's source goes.
@@ -72,7 +72,7 @@ fn fours(text: &str) -> Option<Vec<Four>> {
 fn item([kind, setting, start, end]: Four) -> Option<Item> {
     let kind = *KINDS.get((kind as usize).checked_sub(1)?)?;
     let settings = *[Settings::STANDARD, Settings::MYSQL].get(setting as usize)?;
-    Some(Item::new(Literal::new(kind, Span { start, end }), settings))
+    Some(Item::new(Literal::at(kind, Span { start, end }), settings))
 }
 
 /// A call's answers by their numbers. Source and buffer are given by where they begin.
@@ -171,7 +171,7 @@ fn number_15_for_a_buffer_that_is_too_long() {
     let mut answers = stale(1);
     let block =
         read_block(&items, "'a' 'b'", &mut answers, &mut out[..LONGEST_BUFFER]).expect("just as long as it may be");
-    assert_eq!(block.get(0), Some(Ok(Text::Written("ab"))));
+    assert!(matches!(block.get(0), Some(Ok(Text::Written("ab")))));
 }
 
 /// A row of the list, one in three of another kind, setting or span, or in no source.
@@ -196,9 +196,9 @@ fn as_singles(asked: &[Asked], source: &[u8], room: usize) {
     let items = items(asked);
     let block = read_block_bytes(&items, source, &mut answers, &mut out).expect("a block");
     let mut used = 0;
-    for (told, asked) in block.into_iter().zip(asked) {
+    for (given, asked) in block.into_iter().zip(asked) {
         let due = asked.literal.in_bytes(source).as_str_in(asked.settings, &mut due_out[used..]);
-        assert_eq!(told, due, "{asked:?} with {} bytes left", room - used);
+        assert_eq!(told(given), told(due), "{asked:?} with {} bytes left", room - used);
         used += due.map_or(0, |text| if text.is_borrowed() { 0 } else { text.len() });
     }
     assert_eq!(block.used(), used);
@@ -231,8 +231,8 @@ fn a_list_as_one_block() {
         as_singles(&rows, text.as_bytes(), room);
     }
     let block = to_block(&items(&rows), &text).expect("a block");
-    for (told, row) in block.iter().zip(&rows) {
-        assert_eq!(told.expect("a name").into_cow(), row.literal.to_str_in(&text, row.settings).expect("a name"));
+    for (name, row) in block.iter().zip(&rows) {
+        assert_eq!(name.expect("a name"), row.literal.to_str_in(&text, row.settings).expect("a name"));
     }
 }
 
@@ -252,7 +252,7 @@ fn a_buffer_as_long_as_all_spans_has_room() {
 #[test]
 fn a_string_in_no_source_is_refused_by_2_and_any_other_kind_by_1() {
     let span = Span { start: 7, end: 5 };
-    let nowhere = |kind| Literal { synthetic: true, ..Literal::new(kind, span) };
+    let nowhere = |kind| Literal { synthetic: true, ..Literal::at(kind, span) };
     let source = "'it''s'";
     let literals = [nowhere(Kind::String), Literal::new(Kind::String, 0..7), nowhere(Kind::Date)];
     for settings in [Settings::STANDARD, Settings::MYSQL] {
@@ -260,10 +260,10 @@ fn a_string_in_no_source_is_refused_by_2_and_any_other_kind_by_1() {
         let (mut answers, mut out) = ([Told::default(); 3], [LENT; 8]);
         let block = read_block(&items, source, &mut answers, &mut out).expect("a block");
         assert_eq!(block.get(0), Some(Err(Error::MissingSource { span })));
-        assert_eq!(block.get(1), Some(Ok(Text::Written("it's"))));
+        assert!(matches!(block.get(1), Some(Ok(Text::Written("it's")))));
         assert_eq!(block.get(2), Some(Err(Error::WrongKind { expected: Expected::String, actual: Kind::Date })));
-        for (told, literal) in block.iter().zip(literals) {
-            assert_eq!(told, literal.as_str_in(source, settings, &mut [0; 8]));
+        for (given, literal) in block.iter().zip(literals) {
+            assert_eq!(told(given), told(literal.as_str_in(source, settings, &mut [0; 8])));
         }
     }
     assert_eq!(Item::from(Literal::synthetic(Kind::Null)), Literal::new(Kind::Null, 0..0).into());
@@ -311,11 +311,11 @@ fn an_item_has_the_place_of_a_single_call() {
         for room in 0..9 {
             let (mut answers, mut out) = ([Told::default(); 5], vec![LENT; room]);
             let block = read_block(&items, source, &mut answers, &mut out).expect("a block");
-            for ((told, literal), place) in block.iter().zip(literals).zip(places) {
-                assert_eq!(told.err().and_then(|error| error.place()), place, "{literal:?}");
+            for ((given, literal), place) in block.iter().zip(literals).zip(places) {
+                assert_eq!(given.err().and_then(|error| error.place()), place, "{literal:?}");
                 let in_source = place.map(|place| literal.span.start as usize + place);
-                assert_eq!(told.err().and_then(|error| error.place_in_source()), in_source, "{literal:?}");
-                assert!(place.is_none() || told == literal.as_str_in(source, settings, &mut []));
+                assert_eq!(given.err().and_then(|error| error.place_in_source()), in_source, "{literal:?}");
+                assert!(place.is_none() || given == literal.as_str_in(source, settings, &mut []));
             }
         }
     }
@@ -330,7 +330,7 @@ fn answers_from_either_end_and_from_a_place_on() {
     assert!(block.iter().rev().eq([3, 2, 1, 0].map(|at| block.get(at).expect("an item"))));
 
     let mut texts = block.iter();
-    assert_eq!(texts.nth(1), Some(Ok(Text::Borrowed("b"))));
+    assert!(matches!(texts.nth(1), Some(Ok(Text::Borrowed("b")))));
     assert_eq!((texts.len(), names(texts.clone())), (2, "cd".to_string()));
     assert_eq!(format!("{texts:?}"), r#"[Ok(Borrowed("c")), Ok(Borrowed("d"))]"#);
     assert_eq!((texts.nth(2), texts.next(), texts.next_back()), (None, None, None));
@@ -354,7 +354,7 @@ fn an_empty_block() {
     let shown = block.as_block();
     assert_eq!((shown.len(), shown.is_empty(), shown.used(), shown.needed()), (0, true, 0, 0));
     let empty_texts = to_block(&strings([(0, 5), (0, 5)]), "'' ''").expect("a block");
-    assert!(empty_texts.iter().all(|text| text == Ok(Text::Written(""))));
+    assert!(empty_texts.iter().all(|text| matches!(text, Ok(Text::Written("")))));
 }
 
 #[test]

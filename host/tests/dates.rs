@@ -154,8 +154,8 @@ fn number_1_for_every_other_kind() {
 #[test]
 fn numbers_2_3_and_4_come_before_the_text() {
     let text = "'2024-01-02'";
-    let of = |start, end, source: &[u8]| Literal::new(Kind::Date, Span { start, end }).in_bytes(source).as_date();
-    let nowhere = Literal { synthetic: true, ..Literal::new(Kind::Date, Span { start: 12, end: 0 }) };
+    let of = |start, end, source: &[u8]| Literal::at(Kind::Date, Span { start, end }).in_bytes(source).as_date();
+    let nowhere = Literal { synthetic: true, ..Literal::at(Kind::Date, Span { start: 12, end: 0 }) };
     assert_eq!(nowhere.as_date(text), Err(Error::MissingSource { span: nowhere.span }));
     let outside = |start, end| Err(Error::InvalidSourceRange { span: Span { start, end } });
     assert_eq!(of(12, 0, text.as_bytes()), outside(12, 0));

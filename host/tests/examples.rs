@@ -7,7 +7,9 @@ use std::borrow::Cow;
 use valdrabus::*;
 
 fn string(source: &str, backslash: bool) -> Result<Cow<'_, str>, u32> {
-    whole(Kind::String, source).to_str_in(source, Settings { backslash }).map_err(|error| error.number())
+    whole(Kind::String, source)
+        .to_str_in(source, Settings::STANDARD.with_backslash(backslash))
+        .map_err(|error| error.number())
 }
 
 fn integer(source: &str) -> Result<i64, u32> {
@@ -93,7 +95,7 @@ fn the_readmes_example_of_a_block() -> Result<(), Error> {
 
     let rows = "'Aspirin' 'Bob''s balm' 'unended";
     let items = [0..9, 10..23, 24..32].map(|span| Item::new(Literal::new(Kind::String, span), Settings::STANDARD));
-    for name in to_block(&items, rows)?.iter() {
+    for name in &to_block(&items, rows)? {
         names.push(format!("{name:?}"));
     }
 

@@ -3,6 +3,7 @@
 mod common;
 
 use common::whole;
+use std::borrow::Cow;
 use valdrabus::*;
 
 #[test]
@@ -80,10 +81,13 @@ fn nul_and_identifiers() {
 #[test]
 fn identifier_texts() {
     let mut out = [0; 4];
-    assert_eq!(materialize_unicode_ident("U&\"a''b\"", &mut out), Ok(Text::Borrowed("a''b")));
-    assert_eq!(materialize_unicode_ident("U&\"a\"\"b\"", &mut out), Ok(Text::Written("a\"b")));
-    assert_eq!(materialize_unicode_ident_bytes(b"U&\"\\0041\"", &mut out), Ok(Text::Written(&b"A"[..])));
+    assert!(matches!(materialize_unicode_ident("U&\"a''b\"", &mut out), Ok(Text::Borrowed("a''b"))));
+    assert!(matches!(materialize_unicode_ident("U&\"a\"\"b\"", &mut out), Ok(Text::Written("a\"b"))));
+    assert!(matches!(materialize_unicode_ident_bytes(b"U&\"\\0041\"", &mut out), Ok(Text::Written(b"A"))));
     assert_eq!(to_unicode_ident("U&\"\\0000\"").unwrap_err().number(), 6);
     let long = format!("U&\"{}\"", "\\00e9".repeat(200));
     assert_eq!(to_unicode_ident(&long).unwrap(), "é".repeat(200));
+    assert_eq!(to_unicode_ident_bytes(long.as_bytes()).unwrap(), "é".repeat(200).as_bytes());
+    assert!(matches!(to_unicode_ident_bytes(b"U&\"a\""), Ok(Cow::Borrowed(b"a"))));
+    assert_eq!(to_unicode_ident_bytes(b"U&\"\xFF\"").unwrap_err().number(), 4);
 }

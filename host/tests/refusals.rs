@@ -38,7 +38,7 @@ fn number_1_gives_the_family_and_the_kind_with_its_data() {
 
 #[test]
 fn number_2_comes_before_any_look_at_the_span() {
-    let literal = Literal { synthetic: true, ..Literal::new(Kind::String, Span { start: 7, end: 5 }) };
+    let literal = Literal { synthetic: true, ..Literal::at(Kind::String, Span { start: 7, end: 5 }) };
     let error = refused(9, |out| literal.as_str("'a'", out).err());
     assert_eq!(error, Error::MissingSource { span: Span { start: 7, end: 5 } });
     assert_eq!(error.number(), 2);
@@ -51,7 +51,7 @@ fn number_3_for_spans_that_do_not_fit() {
         [(2, 1, "'a'"), (0, 4, "'a'"), (4, 4, "'a'"), (2, 4, "'é'"), (0, 2, "'é'"), (u32::MAX, u32::MAX, "")]
     {
         let span = Span { start, end };
-        let error = refused(9, |out| Literal::new(Kind::String, span).as_str(source, out).err());
+        let error = refused(9, |out| Literal::at(Kind::String, span).as_str(source, out).err());
         assert_eq!((error, error.number()), (Error::InvalidSourceRange { span }, 3));
     }
 }
@@ -61,7 +61,7 @@ fn number_4_in_bytes_and_in_values_that_are_written() {
     let literal = Literal::new(Kind::String, 1..4);
     let error = refused(9, |out| literal.in_bytes(b"x'\xFF'").as_str(out).err());
     assert_eq!((error, error.number()), (Error::NotUtf8 { span: Some(Span { start: 1, end: 4 }) }, 4));
-    assert_eq!(literal.in_bytes(b"\xFF'a'").as_str(&mut []), Ok(Text::Borrowed(&b"a"[..])));
+    assert!(matches!(literal.in_bytes(b"\xFF'a'").as_str(&mut []), Ok(Text::Borrowed(b"a"))));
 
     let bare = Error::NotUtf8 { span: None };
     assert_eq!(refused(9, |out| write_literal(b"\xFF", Settings::STANDARD, out).err()), bare);
@@ -238,7 +238,7 @@ fn number_9_gives_the_length_needed() {
 
 #[test]
 fn a_borrowed_answer_needs_no_room() {
-    assert_eq!(whole(Kind::String, "'ab'").as_str("'ab'", &mut []), Ok(Text::Borrowed("ab")));
+    assert!(matches!(whole(Kind::String, "'ab'").as_str("'ab'", &mut []), Ok(Text::Borrowed("ab"))));
 }
 
 #[test]
@@ -260,7 +260,7 @@ fn the_longest_value_is_read_and_a_longer_one_is_not() {
 
 #[test]
 fn the_order_of_the_tests() {
-    let odd = Literal { synthetic: true, ..Literal::new(Kind::Integer, Span { start: 9, end: 2 }) };
+    let odd = Literal { synthetic: true, ..Literal::at(Kind::Integer, Span { start: 9, end: 2 }) };
     assert_eq!(odd.in_bytes(b"\xFF").as_str(&mut []).unwrap_err().number(), 1);
     assert_eq!(Literal::new(Kind::String, 1..9).in_bytes(b"\xFF\xFF").as_str(&mut []).unwrap_err().number(), 3);
     assert_eq!(write_parts(b"\xFF\0", 3, Settings::STANDARD, &mut []).unwrap_err().number(), 12);

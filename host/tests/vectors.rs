@@ -30,7 +30,7 @@ fn rows(name: &str) -> Vec<Row> {
 fn row(mut columns: Vec<String>) -> Row {
     columns.truncate(9);
     let [id, question, kind, setting, start, end, source, room, answer] = columns.try_into().expect("nine columns");
-    let setting = Settings { backslash: setting == "1" };
+    let setting = Settings::STANDARD.with_backslash(setting == "1");
     Row { id, question, kind, setting, start, end, source: unhex(&source), room, answer }
 }
 
@@ -228,22 +228,43 @@ fn in_text(row: &Row, text: &str, out: &mut [u8]) -> Option<String> {
     })
 }
 
-/// The row asked for bytes of its own, or of any bytes for a text.
-fn allocated_bits(row: &Row) -> Option<String> {
-    match row.question.trim_end_matches("/synthetic") {
-        "pack" => {
-            let text = std::str::from_utf8(&row.source).ok()?;
-            Some(row.literal().to_packed_bits(text).map_or_else(refused, |(bytes, bits)| packed(&bytes, bits)))
-        }
+/// The row asked over bytes for bytes of its own, or of any bytes for a text.
+fn allocated_in_bytes(row: &Row) -> Option<String> {
+    let source = &row.source[..];
+    let asked = || row.literal().in_bytes(source);
+    let answer = match row.question.trim_end_matches("/synthetic") {
+        "string" => asked().to_str_in(row.setting),
+        "plain" => asked().to_str(),
+        "decimal" => asked().to_decimal_text(),
+        "bits" => asked().to_bit_text(),
+        "temporal" => asked().to_temporal_text(),
+        "ident" => to_unicode_ident_bytes(source),
+        "pack" => return Some(told_packed(asked().to_packed_bits())),
         "unpack" if !row.answer.starts_with("r 9") => {
             let (bits, radix) = row.bits();
-            Some(to_bit_literal(&row.source, bits, radix).map_or_else(refused, |text| written(&text)))
+            to_bit_literal(source, bits, radix).map(|text| Cow::Owned(text.into_bytes()))
         }
-        _ => None,
+        _ => return None,
+    };
+    Some(told_cow(source, answer))
+}
+
+fn told_packed(answer: Result<(Vec<u8>, u64), Error>) -> String {
+    answer.map_or_else(refused, |(bytes, bits)| packed(&bytes, bits))
+}
+
+fn told_cow<T>(source: &[u8], answer: Result<Cow<'_, T>, Error>) -> String
+where
+    T: AsRef<[u8]> + ToOwned<Owned: AsRef<[u8]>> + ?Sized,
+{
+    match answer {
+        Ok(Cow::Borrowed(part)) => borrowed(source, part.as_ref()),
+        Ok(Cow::Owned(text)) => format!("w {}", hex(text.as_ref())),
+        Err(error) => refused(error),
     }
 }
 
-/// The row asked for a text of its own.
+/// The row asked over text for a text of its own.
 fn allocated(row: &Row, text: &str) -> Option<String> {
     let answer = match row.question.trim_end_matches("/synthetic") {
         "string" => row.literal().to_str_in(text, row.setting),
@@ -252,6 +273,7 @@ fn allocated(row: &Row, text: &str) -> Option<String> {
         "bits" => row.literal().to_bit_text(text),
         "temporal" => row.literal().to_temporal_text(text),
         "ident" => to_unicode_ident(text),
+        "pack" => return Some(told_packed(row.literal().to_packed_bits(text))),
         _ if row.answer.starts_with("r 9") => return None,
         "writer" => match row.start.parse() {
             Ok(size) => to_parts(text, size, row.setting),
@@ -262,11 +284,7 @@ fn allocated(row: &Row, text: &str) -> Option<String> {
         "unicode" => to_unicode(text).map(Cow::Owned),
         _ => return None,
     };
-    Some(match answer {
-        Ok(Cow::Borrowed(part)) => borrowed(text.as_bytes(), part.as_bytes()),
-        Ok(Cow::Owned(text)) => written(&text),
-        Err(error) => refused(error),
-    })
+    Some(told_cow(text.as_bytes(), answer))
 }
 
 fn replay(name: &str) -> usize {
@@ -282,7 +300,7 @@ fn replay(name: &str) -> usize {
                 assert_eq!((said, &out), (answer, &buffer), "{name} {} in text", row.id);
             }
         }
-        if let Some(said) = text.and_then(|text| allocated(&row, text)).or_else(|| allocated_bits(&row)) {
+        for said in text.and_then(|text| allocated(&row, text)).into_iter().chain(allocated_in_bytes(&row)) {
             assert_eq!(said, row.answer, "{name} {} allocated", row.id);
         }
         asked += 1;

@@ -144,7 +144,7 @@ impl Case {
 
     /// The value of a string at a place.
     pub fn value(&self, place: &Place) -> Cow<'_, str> {
-        let settings = Settings { backslash: place.setting == 1 };
+        let settings = Settings::STANDARD.with_backslash(place.setting == 1);
         Literal::new(Kind::String, place.start..place.end).to_str_in(&self.source, settings).expect("a string")
     }
 

@@ -5,7 +5,7 @@
 pub mod places;
 
 use places::Place;
-use valdrabus::{BitStringRadix, Item, Kind, Literal, Settings, TimeZone};
+use valdrabus::{BitStringRadix, Error, Item, Kind, Literal, Settings, Span, Text, TimeZone};
 
 /// What a buffer holds before a call, so that a changed byte shows.
 pub const LENT: u8 = 0xA5;
@@ -68,6 +68,11 @@ pub fn place(whole: *const u8, part: &[u8]) -> usize {
     part.as_ptr().addr() - whole.addr()
 }
 
+/// An answer with whether it is borrowed, which equality of texts does not look at.
+pub fn told<'t, T: ?Sized>(answer: Result<Text<'t, 't, T>, Error>) -> Result<(bool, &'t T), Error> {
+    answer.map(|text| (text.is_borrowed(), text.into_ref()))
+}
+
 /// What an item is made of.
 #[derive(Clone, Copy, Debug)]
 pub struct Asked {
@@ -87,7 +92,7 @@ pub fn list(name: &str) -> (String, Vec<Asked>) {
     (list, rows)
 }
 
-fn asked(place: Place) -> Asked {
-    let [start, end] = [place.bytes.start, place.bytes.end].map(|at| at.try_into().expect("a short list"));
-    Asked { literal: Literal::new(Kind::String, start..end), settings: place.settings }
+fn asked(Place { bytes, settings, .. }: Place) -> Asked {
+    let span = Span::try_from(bytes).expect("a short list");
+    Asked { literal: Literal::at(Kind::String, span), settings }
 }
