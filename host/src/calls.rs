@@ -2,6 +2,10 @@
 //!
 //! What the header asks of a caller, Rust's references give: a slice's pointer is never null and is valid for the slice's length, also when that is 0; a `&mut` is
 //! aligned, valid for writing and overlaps nothing else that is borrowed. No function keeps a pointer. The `SAFETY` comments name this as "slices".
+#![allow(
+    clippy::borrow_as_ptr,
+    reason = "the SAFETY comments rest on references, which become pointers in the call itself"
+)]
 
 use crate::items::{INVALID_STRING, Item, Told};
 use crate::kinds::{BitStringRadix, Kind};

@@ -3,7 +3,7 @@
 mod common;
 
 use BitStringRadix::{Binary, Hex};
-use common::{BINARY, HEX, KINDS, LENT, whole};
+use common::{BINARY, HEX, KINDS, LENT, inside, whole};
 use std::collections::HashSet;
 use valdrabus::*;
 
@@ -13,7 +13,7 @@ fn asked(kind: Kind, text: &str) -> Result<(Vec<u8>, u64), Error> {
     let literal = whole(kind, text);
     let answer = literal.to_packed_bits(text);
     let source = format!("é'{text}'1'");
-    let inside = Literal::new(kind, 3..3 + text.len() as u32);
+    let inside = inside(kind, 3, text);
     let needed = answer.as_ref().map_or(0, |(bytes, _)| bytes.len());
     for room in [needed, needed + 5] {
         let due = answer.clone().map(|(bytes, bits)| ([&bytes[..], &vec![LENT; room - needed]].concat(), bits));
@@ -60,7 +60,7 @@ fn packed(digits: &str, radix: BitStringRadix) -> (Vec<u8>, u64) {
     let spell = |digit| if radix == Hex { format!("{:04b}", value(digit)) } else { digit.to_string() };
     let mut bits: String = digits.chars().map(spell).collect();
     let count = bits.len() as u64;
-    while !bits.len().is_multiple_of(8) {
+    while bits.len() % 8 != 0 {
         bits.push('0');
     }
     let byte = |at| u8::from_str_radix(&bits[at..at + 8], 2).expect("eight bits");
@@ -119,7 +119,7 @@ fn packed_bytes_as_literals() {
 #[test]
 fn packing_refuses_as_the_bits_question_does() {
     for text in ["", "B", "B'", "B'1", "'1'", "B'2'", "B'F'", "B'1''1'", "B'1' B'1'", "B'1' \"1\"", "B'1'x", "B '1'"] {
-        let span = Span { start: 0, end: text.len() as u32 };
+        let span = whole(BINARY, text).span;
         assert_eq!(asked(BINARY, text), Err(Error::InvalidBitString { span }), "{text:?}");
         assert_eq!(whole(BINARY, text).to_bit_text(text).unwrap_err(), Error::InvalidBitString { span });
     }
@@ -215,7 +215,8 @@ fn packed_bits_are_compared_and_shown() {
 /// Forms that the documentation names: PostgreSQL sends a count of four bytes and then these bytes, and MySQL fills up on the left.
 #[test]
 fn other_packings() {
-    let sent = |bits: u64, bytes: &[u8]| [&(bits as u32).to_be_bytes()[..], bytes].concat();
+    let count = |bits: u64| u32::try_from(bits).expect("few bits").to_be_bytes();
+    let sent = |bits, bytes: &[u8]| [&count(bits)[..], bytes].concat();
     let (bytes, bits) = asked(BINARY, "B'1000001'").unwrap();
     assert_eq!(sent(bits, &bytes), [0, 0, 0, 7, 0x82]);
     assert_eq!(u64::from(bytes[0]) >> (8 - bits), 0x41);
@@ -258,7 +259,7 @@ fn bytes_and_count_come_back() {
     for bytes in (0..=u8::MAX).flat_map(|byte| [vec![byte], vec![0x5A, byte]]) {
         for (bits, radix) in (0..=17).flat_map(|bits| [(bits, Binary), (bits, Hex)]) {
             let unused = (8 * bytes.len() as u64).checked_sub(bits).filter(|unused| *unused < 8);
-            let good = unused.is_some_and(|unused| bytes[bytes.len() - 1].trailing_zeros() as u64 >= unused);
+            let good = unused.is_some_and(|unused| u64::from(bytes[bytes.len() - 1].trailing_zeros()) >= unused);
             match to_bit_literal(&bytes, bits, radix) {
                 Ok(text) => {
                     assert_eq!(

@@ -2,7 +2,8 @@
 
 mod common;
 
-use common::{KINDS, whole};
+use common::{KINDS, inside, whole};
+use std::borrow::Cow;
 use std::collections::HashSet;
 use std::fmt::Write;
 use valdrabus::*;
@@ -18,7 +19,7 @@ fn asked(text: &str) -> Result<Date, Error> {
     assert_eq!(literal.in_bytes(text.as_bytes()).as_date(), answer, "{text:?}");
 
     let source = format!("é'{text}'2024-01-02'");
-    let inside = Literal::new(Kind::Date, 3..3 + text.len() as u32);
+    let inside = inside(Kind::Date, 3, text);
     let moved = inside.as_date(&source);
     let told = |answer: Result<Date, Error>| answer.map_err(|error| (error.number(), error.place()));
     assert_eq!(told(moved), told(answer), "{text:?}");
@@ -106,7 +107,7 @@ fn number_14_for_a_value_that_is_no_date() {
     ] {
         let text = format!("'{value}'");
         let error = asked(&text).expect_err(&text);
-        assert_eq!(error, Error::InvalidDate { span: Span { start: 0, end: text.len() as u32 } });
+        assert_eq!(error, Error::InvalidDate { span: whole(Kind::Date, text).span });
         assert_eq!((error.number(), error.place(), error.place_in_source()), (14, None, None));
     }
 }
@@ -129,8 +130,8 @@ fn number_6_comes_before_14_with_its_place() {
         ("'2024-01-02\0'", 0),
         ("DATE 'a'b'", 7),
     ] {
-        let span = Some(Span { start: 0, end: text.len() as u32 });
-        let temporal = whole(Kind::Date, text).to_temporal_text(text).map(|text| text.into_owned());
+        let span = Some(whole(Kind::Date, text).span);
+        let temporal = whole(Kind::Date, text).to_temporal_text(text).map(Cow::into_owned);
         assert_eq!(asked(text), Err(Error::InvalidString { span, place: Some(place) }), "{text:?}");
         assert_eq!(temporal, Err(Error::InvalidString { span, place: Some(place) }), "{text:?}");
     }

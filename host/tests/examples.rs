@@ -60,7 +60,7 @@ fn a_borrowed_text_outlives_the_buffer_and_leaves_it() {
         assert_eq!(out, [LENT; 16]);
         name
     };
-    assert!(std::ptr::eq(name, &source[1..8]));
+    assert_eq!((name, name.as_ptr()), ("Aspirin", source[1..].as_ptr()));
 }
 
 #[test]

@@ -70,7 +70,7 @@ fn many_numbers_in_four_buffers() {
     };
     for _ in 0..20_000 {
         let bits = u128::from(next()) << 64 | u128::from(next());
-        let number = (bits as i128) >> (next() % 127);
+        let number = i128::from_ne_bytes(bits.to_ne_bytes()) >> (next() % 127);
         let shown = number.to_string();
         for text in spelled(number) {
             for len in [0, shown.len() - 1, shown.len(), shown.len() + 7] {

@@ -1,5 +1,6 @@
 //! What the safe functions never meet: numbers that name nothing, what is lent of dates and of packed bits, items that are not in fours, and the view. Through the C functions
 //! themselves.
+#![allow(clippy::borrow_as_ptr, reason = "as in src/calls.rs")]
 
 use valdrabus::sys;
 

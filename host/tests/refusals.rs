@@ -2,7 +2,7 @@
 
 mod common;
 
-use common::{BINARY, HEX, LENT, whole};
+use common::{BINARY, HEX, LENT, inside, whole};
 use valdrabus::*;
 
 /// The refusal of a call on a lent buffer, which must leave the buffer alone.
@@ -116,7 +116,7 @@ fn place(text: &str, settings: Settings) -> Option<usize> {
     assert_eq!(literal.to_str_in(text, settings), Err(error));
 
     let source = format!("é'{text}'");
-    let inside = Literal::new(Kind::String, 3..3 + text.len() as u32);
+    let inside = inside(Kind::String, 3, text);
     let moved = refused(9, |out| inside.as_str_in(&source, settings, out).err());
     assert_eq!((moved.place(), moved.span()), (error.place(), Some(inside.span)));
     assert_eq!(moved.place_in_source(), error.place().map(|place| 3 + place));
@@ -155,8 +155,7 @@ fn the_place_of_number_6() {
 #[test]
 fn the_place_of_number_6_in_a_temporal_text() {
     for (text, due) in [("DATE 'a'b'", 7), ("DATE", 0), (r"DATE E'\400'", 7), ("x'\0'", 1), ("DATE 'a' 'b", 9)] {
-        let (source, end) = (format!("é{text}é"), 2 + text.len() as u32);
-        let literal = Literal::new(Kind::Date, 2..end);
+        let (source, literal) = (format!("é{text}é"), inside(Kind::Date, 2, text));
         let error = refused(9, |out| literal.as_temporal_text(&source, out).err());
         assert_eq!(error, Error::InvalidString { span: Some(literal.span), place: Some(due) }, "{text:?}");
         assert_eq!(literal.to_temporal_text(&source), Err(error));

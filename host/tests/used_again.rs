@@ -5,8 +5,6 @@ mod common;
 use common::{list, table, unhex, whole};
 use valdrabus::*;
 
-const BOTH: [Settings; 2] = [Settings::STANDARD, Settings::MYSQL];
-
 /// What a text of each of these capacities, holding what fits of "before", has behind the call: the value or what it held, and nothing else.
 fn replaces(literal: Literal, source: &[u8], settings: Settings, name: &str) {
     let asked = literal.in_bytes(source);
@@ -33,7 +31,9 @@ fn the_strings_of_the_vectors() {
         for row in table(file).iter().filter(|row| row[1].starts_with("string")) {
             let (source, [start, end]) = (unhex(&row[6]), [&row[4], &row[5]].map(|at| at.parse().expect("a place")));
             let literal = Literal::at(Kind::String, Span { start, end });
-            BOTH.iter().for_each(|&settings| replaces(literal, &source, settings, &row[0]));
+            for settings in [Settings::STANDARD, Settings::MYSQL] {
+                replaces(literal, &source, settings, &row[0]);
+            }
             count += 1;
         }
     }

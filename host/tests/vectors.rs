@@ -75,9 +75,11 @@ impl Row {
 
     /// The lengths of the buffers to lend. A borrowed answer and a refusal need none, and must leave any. A value that is written is also lent just what it needs, and a byte less.
     fn lengths(&self) -> Vec<usize> {
-        match (self.room.parse::<isize>(), self.value()) {
-            (Ok(room), Some(value)) if self.is_writers() => vec![room as usize, value.len(), value.len() - 1],
-            (Ok(room), _) if self.is_writers() => vec![room as usize],
+        if self.is_writers() {
+            let room = self.room.parse().expect("a length");
+            return self.value().map_or(vec![room], |value| vec![room, value.len(), value.len() - 1]);
+        }
+        match (self.room.parse(), self.value()) {
             (Ok(room), Some(value)) => vec![value.len().checked_add_signed(room).expect("a length")],
             _ => vec![0, 64],
         }

@@ -7,7 +7,7 @@ use std::fmt::Write;
 pub fn report(list: &[u8], rows: &[Row<'_>]) -> String {
     let (mut text, mut counts) = (String::new(), (0, 0, 0));
     for (row, flags) in rows.iter().filter_map(|row| Some((row, row.flags.as_ref().ok()?))) {
-        let hex: String = flags.bytes.iter().map(|byte| format!("{byte:02X}")).collect();
+        let hex = hex(&flags.bytes);
         writeln!(text, "{:4} bits  {hex:8}  {:14}  {}", flags.bits, flags.literal, row.name)
             .expect("a String takes all");
         counts = (counts.0 + 1, counts.1 + flags.bits, counts.2 + flags.bytes.len());
@@ -20,6 +20,13 @@ pub fn report(list: &[u8], rows: &[Row<'_>]) -> String {
     let refused = rows.len() - packed;
     writeln!(text, "{packed} packed, {bits} bits in {bytes} bytes; {refused} refused").expect("a String takes all");
     text
+}
+
+fn hex(bytes: &[u8]) -> String {
+    bytes.iter().fold(String::new(), |mut text, byte| {
+        write!(text, "{byte:02X}").expect("a String takes all");
+        text
+    })
 }
 
 /// Why a row is refused, by line and column of the list.

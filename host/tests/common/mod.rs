@@ -45,6 +45,11 @@ pub fn whole(kind: Kind, source: impl AsRef<[u8]>) -> Literal {
     Literal::whole(kind, source).expect("a short text")
 }
 
+/// A literal of this text, which stands at a place of a longer source.
+pub fn inside(kind: Kind, start: usize, text: &str) -> Literal {
+    Literal::at(kind, Span::try_from(start..start + text.len()).expect("a short text"))
+}
+
 /// A file of the repository, by its path from this crate.
 pub fn read(path: &str) -> String {
     let path = format!("{}/{path}", env!("CARGO_MANIFEST_DIR"));
