@@ -4,11 +4,11 @@
 //! literal *means*, so that a table can be keyed by it:
 //!
 //! ```
+//! use std::borrow::Cow;
 //! use valdrabus::{Error, Kind, Literal};
 //!
-//! fn key(literal: &str) -> Result<String, Error> {
-//!     let whole = Literal::whole(Kind::String, literal).expect("a row is shorter than 4 GiB");
-//!     Ok(whole.to_str(literal)?.into_owned())
+//! fn key(literal: &str) -> Result<Cow<'_, str>, Error> {
+//!     Literal::whole(Kind::String, literal).expect("a row below 4 GiB").to_str(literal)
 //! }
 //!
 //! let spellings = ["'Crème 5 g'", "'Crème' ' 5 g'", r"E'Cr\xC3\xA8me 5 g'", r"U&'Cr\00E8me 5 g'", "$$Crème 5 g$$"];
@@ -25,8 +25,9 @@
 //!
 //! # Where to look
 //!
-//! - [`Literal`]: a kind and a span; the questions are its methods. [`InBytes`]: the same over bytes that may not be UTF-8.
-//! - [`Text`]: an answer that is a part of the source, or written into the buffer that was lent.
+//! - [`Literal`]: a [`Kind`] and a [`Span`]; the questions are its methods, those on strings at [`Settings`] that a dump goes by. [`InBytes`]: the same over bytes that may not be UTF-8.
+//! - [`Text`]: an answer that is a part of the source, or written into the buffer that was lent. A buffer as long as a string's text always serves. [`Literal::to_str`] needs none, and
+//!   [`Literal::read_str`] takes a `String` that is used again.
 //! - [`Date`]: the day of a date literal, [`Literal::as_date`], with its number: for sorting, and for other crates' dates.
 //! - [`Packed`]: a bit string's bits eight to a byte, [`Literal::as_packed_bits`], and how many they are. [`write_bit_literal`], [`to_bit_literal`]: back to `B'..'` or `X'..'`.
 //! - [`read_block`]: many string literals of one source in one call, each an [`Item`]; [`Block`] shows their answers. [`to_block`]: the same with memory of its own.

@@ -30,11 +30,11 @@ fn parameter(c: &str) -> String {
     }
 }
 
-/// A name and a list of parameters, up to the bracket that closes it.
+/// A name and a list of parameters, up to the bracket that closes it. C says `void` for none.
 fn split(declaration: &str) -> (&str, impl Iterator<Item = &str>) {
     let (name, rest) = declaration.split_once('(').expect("parameters");
     let (parameters, _) = rest.split_once(')').expect("their end");
-    (name, parameters.split(',').map(str::trim).filter(|parameter| !parameter.is_empty()))
+    (name, parameters.split(',').map(str::trim).filter(|parameter| !matches!(*parameter, "" | "void")))
 }
 
 /// A declaration begins a line with the type that is returned.
