@@ -4,43 +4,62 @@
 //! block FILE
 //! ```
 //!
-//! It says how many items the call had and how many of them were borrowed from the list, written into the buffer and refused; then which rows are refused and why, by their places in the list, with
-//! a mark under the character where reading stops, and which products are doubled, with their lines. Lists are those of the example `keys`, which reads them row by row.
-//!
-//! The status is 0 if each row has a key, 1 if a row is refused, 2 if the list cannot be read or not just one is named.
+//! It says how many items the call had and how many of them were borrowed from the list, written into the buffer and refused; then which rows are refused and
+//! why, by their places in the list, with a mark where each cannot be read, and which products are doubled, with their lines. Lists and statuses are those of
+//! the example `keys`, which reads row by row.
 
+#[path = "../keys/counts.rs"]
+mod counts;
+mod help;
 #[allow(dead_code)] // the rows are read here by one call
 #[path = "../keys/list.rs"]
 mod list;
 mod one_call;
+#[path = "../shared/one_list.rs"]
+mod one_list;
+#[path = "../shared/out.rs"]
+mod out;
 #[path = "../keys/places.rs"]
 mod places;
-#[allow(dead_code)] // keys can be shown in other ways too
+#[path = "../keys/pointed.rs"]
+mod pointed;
+#[path = "../keys/products.rs"]
+mod products;
+#[allow(dead_code)] // one list is read here, at the setting of each row
 #[path = "../keys/report.rs"]
 mod report;
-mod request;
+#[allow(dead_code)] // keys can be shown in other ways too
+#[path = "../keys/shown.rs"]
+mod shown;
 
-use report::Look;
-use std::io::{self, Write};
+use counts::Counts;
+use one_list::Asked;
+use out::{Failure, Said};
+use report::Which;
+use shown::Look;
+use std::path::Path;
 use std::process::ExitCode;
 
-/// Says all of the list that is named; whether each row has a key.
-fn run() -> Result<bool, String> {
-    let file = request::list(std::env::args_os().skip(1))?;
-    let list = std::fs::read(&file).map_err(|why| format!("{}: {why}\n{}", file.display(), request::USAGE))?;
-    let reading = one_call::read(&list).map_err(|why| format!("{}: {why}", file.display()))?;
-    let (refused, doubles) = (report::refused(&reading.rows), report::doubles(&reading.rows, Look::Marked));
-    write!(io::stdout(), "{reading}\n{refused}{doubles}").map_err(|why| why.to_string())?;
-    Ok(refused.is_empty())
+/// Says all of the list that is named.
+fn block(file: &Path) -> Result<Said, Failure> {
+    let place = |why: &dyn std::fmt::Display| format!("{}: {why}", file.display());
+    let text = std::fs::read(file).map_err(|why| format!("{}\n{}", place(&why), help::USAGE))?;
+    let reading = one_call::read(&text).map_err(|why| place(&why))?;
+    let lists = std::slice::from_ref(&reading.list);
+    let products = products::products(lists);
+    let counts = Counts::of(lists, &products);
+    let refused = report::rows(&reading.list.rows, Which::Doubtful, Look::Marked);
+    let doubled = report::doubled(&products, Look::Marked, false);
+    Ok(Said { text: format!("{reading}\n{refused}{doubled}{counts}\n"), status: counts.status() })
+}
+
+fn run() -> Result<Said, Failure> {
+    match one_list::asked(std::env::args_os().skip(1), help::USAGE)? {
+        Asked::Help => Ok(Said { text: help::HELP.to_owned(), status: 0 }),
+        Asked::List(file) => block(&file),
+    }
 }
 
 fn main() -> ExitCode {
-    match run() {
-        Ok(true) => ExitCode::SUCCESS,
-        Ok(false) => ExitCode::from(1),
-        Err(why) => {
-            eprintln!("block: {why}");
-            ExitCode::from(2)
-        }
-    }
+    out::end("block", run())
 }

@@ -1,14 +1,14 @@
 //! A list read by one call.
 
-use crate::list::Row;
+use crate::list::{Key, List, Row};
 use crate::places::{Place, places};
 use std::borrow::Cow;
 use std::fmt;
 use valdrabus::{Item, Kind, Literal, Settings, Text, Told, read_block_bytes};
 
-/// The rows of a list with their keys, and how many bytes were written for them.
+/// A list with the keys of its rows, and how many bytes were written for them.
 pub struct Reading<'s> {
-    pub rows: Vec<Row<'s>>,
+    pub list: List<'s>,
     pub used: usize,
 }
 
@@ -21,8 +21,13 @@ pub fn read(list: &[u8]) -> Result<Reading<'_>, String> {
     let (mut answers, mut buffer) = (vec![Told::default(); items.len()], vec![0; list.len()]);
     let block = read_block_bytes(&items, list, &mut answers, &mut buffer).map_err(|why| why.to_string())?;
     let keys = block.iter().map(|text| text.map(Text::into_cow));
-    let row = |(place, key): (&Place, _)| Row { line: place.line, text: &list[place.bytes.clone()], key };
-    Ok(Reading { rows: places.iter().zip(keys).map(row).collect(), used: block.used() })
+    let rows = places.iter().zip(keys).map(|(place, key)| row(list, place, key)).collect();
+    Ok(Reading { list: List { name: String::new(), rows }, used: block.used() })
+}
+
+/// The call asks at one setting alone: what a row is at the other is not known.
+fn row<'s>(list: &'s [u8], place: &Place, key: Key<'s>) -> Row<'s> {
+    Row { line: place.line, text: &list[place.bytes.clone()], settings: place.settings, key, other: None }
 }
 
 fn item(place: &Place) -> Option<Item> {
@@ -32,11 +37,11 @@ fn item(place: &Place) -> Option<Item> {
 
 impl fmt::Display for Reading<'_> {
     fn fmt(&self, f: &mut fmt::Formatter<'_>) -> fmt::Result {
-        let count = |which: fn(&Row<'_>) -> bool| self.rows.iter().filter(|row| which(row)).count();
+        let count = |which: fn(&Row<'_>) -> bool| self.list.rows.iter().filter(|row| which(row)).count();
         write!(
             f,
             "{} items in one call: {} borrowed, {} written into {} bytes, {} refused",
-            self.rows.len(),
+            self.list.rows.len(),
             count(|row| matches!(row.key, Ok(Cow::Borrowed(_)))),
             count(|row| matches!(row.key, Ok(Cow::Owned(_)))),
             self.used,

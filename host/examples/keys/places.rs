@@ -1,5 +1,8 @@
 //! The rows of a list: where they stand, and the setting of each.
 
+#[path = "../shared/lines.rs"]
+pub mod lines;
+
 use std::ops::Range;
 use valdrabus::Settings;
 
@@ -21,30 +24,24 @@ enum Line {
 
 /// Finds each row. A setting that cannot be read is an error, since it decides all rows behind it.
 pub fn places(list: &[u8], mut settings: Settings) -> Result<Vec<Place>, String> {
-    let (mut places, mut start) = (Vec::new(), 0);
-    for (at, whole) in list.split(|&byte| byte == b'\n').enumerate() {
-        let line = whole.strip_suffix(b"\r").unwrap_or(whole);
-        match read(line) {
+    let mut places = Vec::new();
+    for (at, bytes) in lines::lines(list).enumerate() {
+        let text = &list[bytes.clone()];
+        match read(text) {
             Line::Setting(next) => settings = next,
-            Line::NoSetting => {
-                return Err(format!(
-                    "line {}: {:?} is neither -- backslash on nor -- backslash off",
-                    at + 1,
-                    String::from_utf8_lossy(line)
-                ));
-            }
+            Line::NoSetting => return Err(no_setting(at + 1, text)),
             Line::Passed => {}
-            Line::Row => places.push(Place { line: at + 1, bytes: start..start + line.len(), settings }),
+            Line::Row => places.push(Place { line: at + 1, bytes, settings }),
         }
-        start += whole.len() + 1;
     }
     Ok(places)
 }
 
-/// Case and spaces do not count in a setting. In a row they do.
+/// Case and blanks around it do not count in a setting. In a row they do.
 fn read(line: &[u8]) -> Line {
-    let Some(comment) = line.trim_ascii().strip_prefix(b"--") else {
-        return if line.is_empty() { Line::Passed } else { Line::Row };
+    let text = line.trim_ascii();
+    let Some(comment) = text.strip_prefix(b"--") else {
+        return if text.is_empty() { Line::Passed } else { Line::Row };
     };
     match comment.trim_ascii().to_ascii_lowercase().as_slice() {
         b"backslash on" => Line::Setting(Settings::MYSQL),
@@ -52,4 +49,8 @@ fn read(line: &[u8]) -> Line {
         other if other.starts_with(b"backslash") => Line::NoSetting,
         _ => Line::Passed,
     }
+}
+
+fn no_setting(line: usize, text: &[u8]) -> String {
+    format!("line {line}: {:?} is neither -- backslash on nor -- backslash off", String::from_utf8_lossy(text))
 }

@@ -1,120 +1,80 @@
-//! What is said of a list's rows.
+//! What is said of lists, line by line.
 
-use crate::list::Row;
-use std::collections::HashMap;
+use crate::counts::Counts;
+use crate::list::{List, Row, opposite};
+use crate::pointed::pointed_out;
+use crate::products::{Product, Spot};
+use crate::shown::{Look, marked, shown};
 use std::fmt::Write;
-use valdrabus::{to_escape, to_unicode};
+use valdrabus::Settings;
 
-/// How keys are shown.
+/// Which rows are shown.
 #[derive(Clone, Copy, Debug, PartialEq, Eq)]
-pub enum Look {
-    /// As they are, control characters by their numbers, between marks.
-    Marked,
-    /// As `E'..'`; as `U&'..'` where that would leave a control character as it is.
-    Escape,
-    /// As `U&'..'`.
-    Unicode,
+pub enum Which {
+    All,
+    /// Those that have no key, or depend on the setting.
+    Doubtful,
 }
 
-/// How many characters of a refused row are shown on each side of the place where reading stops: a terminal's line holds them.
-const SHOWN: usize = 40;
-
-/// Each row's line and key, or why it has none; then where reading stops, if it does inside the row.
-pub fn keys(rows: &[Row<'_>], look: Look) -> String {
-    lines(rows.iter(), look)
+impl Which {
+    pub fn shows(self, row: &Row<'_>) -> bool {
+        self == Which::All || row.key.is_err() || row.other.is_some()
+    }
 }
 
-/// The same of the rows that have no key.
-pub fn refused(rows: &[Row<'_>]) -> String {
-    lines(rows.iter().filter(|row| row.key.is_err()), Look::Marked)
-}
-
-fn lines<'r>(rows: impl Iterator<Item = &'r Row<'r>>, look: Look) -> String {
+/// The rows of all lists, each list's behind its name where there are several.
+pub fn lists(lists: &[List<'_>], which: Which, look: Look) -> String {
     let mut text = String::new();
-    for row in rows {
+    for list in lists {
+        if lists.len() > 1 {
+            writeln!(text, "{}", marked(list.name.as_bytes())).expect("a String takes all");
+        }
+        text += &rows(&list.rows, which, look);
+    }
+    text
+}
+
+/// Each row's line, key and literal, or why it has no key and where it cannot be read; then its answer at the other setting, where that matters.
+pub fn rows(rows: &[Row<'_>], which: Which, look: Look) -> String {
+    let mut text = String::new();
+    for row in rows.iter().filter(|row| which.shows(row)) {
         let said = match &row.key {
-            Ok(key) => shown(key, look),
-            Err(error) => format!("refused: {error}{}", pointed_out(row.text, error.place()).unwrap_or_default()),
+            Ok(key) => format!("{}\t{}", shown(key, look), marked(row.text)),
+            Err(error) => format!("refused: {error}{}", pointed_out(row.text, error).unwrap_or_default()),
         };
-        writeln!(text, "{:6}  {said}", row.line).expect("a String takes all");
+        writeln!(text, "{:6}  {said}{}", row.line, other(row, look)).expect("a String takes all");
     }
     text
 }
 
-/// Two lines more for a row that is refused at a place: what stands there and around it, and a mark under the character at the place. None where there is no such place.
-fn pointed_out(row: &[u8], place: Option<usize>) -> Option<String> {
-    let (before, behind) = std::str::from_utf8(row).ok()?.split_at_checked(place?)?;
-    let from = before.char_indices().nth_back(SHOWN - 1).map_or(0, |(at, _)| at);
-    let to = behind.char_indices().nth(SHOWN).map_or(behind.len(), |(at, _)| at);
-    let left_out = |some: bool| if some { "…" } else { "" };
-    let before = left_out(from > 0).to_owned() + &marked(&before.as_bytes()[from..]);
-    let behind = marked(&behind.as_bytes()[..to]) + left_out(to < behind.len());
-    let blanks = " ".repeat(before.chars().count());
-    Some(format!("\n{:8}{before}{behind}\n{:8}{blanks}^", "", ""))
+/// A line more for a row that depends on the setting.
+fn other(row: &Row<'_>, look: Look) -> String {
+    let Some(there) = &row.other else { return String::new() };
+    let setting = if opposite(row.settings) == Settings::MYSQL { "on" } else { "off" };
+    let said = there.as_ref().map_or_else(|_| "refused".to_owned(), |key| shown(key, look));
+    format!("\n{:8}with backslash {setting}: {said}", "")
 }
 
-/// The keys that stand in several rows, with their lines; then the counts.
-pub fn doubles(rows: &[Row<'_>], look: Look) -> String {
-    let products = products(rows);
-    let doubled = products.iter().filter(|(_, lines)| lines.len() > 1);
+/// The products that stand in several rows.
+pub fn doubled(products: &[Product<'_>], look: Look, several: bool) -> String {
     let mut text = String::new();
-    let mut count = 0;
-    for (key, lines) in doubled {
-        let lines: Vec<String> = lines.iter().map(usize::to_string).collect();
-        writeln!(text, "doubled: {}, on lines {}", shown(key, look), lines.join(", ")).expect("a String takes all");
-        count += 1;
+    for product in products.iter().filter(|product| product.is_doubled()) {
+        writeln!(text, "doubled: {}, {}", shown(product.key, look), on_lines(&product.rows, several))
+            .expect("a String takes all");
     }
-    let counted: usize = products.iter().map(|(_, lines)| lines.len()).sum();
-    let refused = rows.len() - counted;
-    writeln!(
-        text,
-        "{counted} products with doubles, {} without; {count} doubled; {refused} rows refused",
-        products.len()
-    )
-    .expect("a String takes all");
     text
 }
 
-/// Each key with its lines, in the order of first lines.
-fn products<'r>(rows: &'r [Row<'_>]) -> Vec<(&'r [u8], Vec<usize>)> {
-    let mut place = HashMap::new();
-    let mut products: Vec<(&[u8], Vec<usize>)> = Vec::new();
-    for row in rows {
-        let Ok(key) = &row.key else { continue };
-        let key: &[u8] = key;
-        let at = *place.entry(key).or_insert(products.len());
-        if at == products.len() {
-            products.push((key, Vec::new()));
-        }
-        products[at].1.push(row.line);
-    }
-    products
+/// The last line.
+pub fn summary(counts: &Counts) -> String {
+    format!("{counts}; rows that depend on the setting: {}\n", counts.depending)
 }
 
-/// A key as it can stand in a line. One that cannot be spelled, since it holds a NUL, is marked, behind words that no literal begins with: no two keys are shown by the same text.
-fn shown(key: &[u8], look: Look) -> String {
-    let spelled = match look {
-        Look::Marked => return marked(key),
-        Look::Escape if !leaves_control(key) => to_escape(key),
-        Look::Escape | Look::Unicode => to_unicode(key),
+/// Where rows stand, by their lines, and their lists' names where there are several.
+pub fn on_lines(rows: &[Spot<'_>], several: bool) -> String {
+    let spot = |row: &Spot<'_>| {
+        if several { format!("{}:{}", marked(row.file.as_bytes()), row.line) } else { row.line.to_string() }
     };
-    spelled.unwrap_or_else(|_| format!("no literal: {}", marked(key)))
-}
-
-/// Whether a key holds a control character that E leaves as it is: 7F to 9F hex.
-fn leaves_control(key: &[u8]) -> bool {
-    String::from_utf8_lossy(key).chars().any(|next| next.is_control() && next >= '\x7F')
-}
-
-/// Control characters by their numbers, between marks. The opening mark is shown so too, so that no two keys look alike.
-fn marked(key: &[u8]) -> String {
-    let mut text = String::new();
-    for next in String::from_utf8_lossy(key).chars() {
-        if next.is_control() || next == '‹' {
-            write!(text, "‹{:02X}›", u32::from(next)).expect("a String takes all");
-        } else {
-            text.push(next);
-        }
-    }
-    text
+    let places: Vec<String> = rows.iter().map(spot).collect();
+    format!("on {} {}", if rows.len() == 1 { "line" } else { "lines" }, places.join(", "))
 }

@@ -1,37 +1,36 @@
 //! What the command line asks for.
 
-use crate::report::Look;
+use crate::help::USAGE;
+use crate::report::Which;
+use crate::shown::Look;
 use std::ffi::{OsStr, OsString};
 use std::path::PathBuf;
 use valdrabus::Settings;
 
-pub const USAGE: &str = "\
-keys [--backslash] [--doubles] [--spell escape|unicode] [--] [FILE ..]
-  --backslash  reads with MySQL's backslash escapes from the first line on
-  --doubles    leaves out the keys themselves; rows that are refused are shown
-  --spell      shows each key as a literal, E'..' (escape) or U&'..' (unicode); one with a NUL has none
-  --           ends the options
-  FILE         a list; - is standard input, which is read too where no FILE is given
-A list has a string literal on each line. A name in parts goes on one line, with a space for each line feed, if it holds none; else as E'..' or U&'..'.
-A row that is no readable string is shown with a mark, ^, under the character where reading stops.
-Status: 0 if each row has a key, 1 if a row is refused, 2 if a list cannot be read.";
+pub enum Asked {
+    Help,
+    Keys(Request),
+}
 
 pub struct Request {
     pub settings: Settings,
-    pub doubles_only: bool,
+    pub which: Which,
+    pub json: bool,
     pub look: Look,
     pub files: Vec<PathBuf>,
 }
 
 /// What is asked by these words, the program's own name left out. No file is standard input, as the file `-` is.
-pub fn request(words: impl IntoIterator<Item = OsString>) -> Result<Request, String> {
+pub fn asked(words: impl IntoIterator<Item = OsString>) -> Result<Asked, String> {
     let mut request =
-        Request { settings: Settings::STANDARD, doubles_only: false, look: Look::Marked, files: Vec::new() };
+        Request { settings: Settings::STANDARD, which: Which::All, json: false, look: Look::Marked, files: Vec::new() };
     let mut words = words.into_iter();
     while let Some(word) = words.next() {
         match word.as_encoded_bytes() {
+            b"--help" => return Ok(Asked::Help),
             b"--backslash" => request.settings = Settings::MYSQL,
-            b"--doubles" => request.doubles_only = true,
+            b"--doubles" => request.which = Which::Doubtful,
+            b"--json" => request.json = true,
             b"--spell" => request.look = look(words.next().as_deref())?,
             b"--" => request.files.extend(words.by_ref().map(PathBuf::from)),
             [b'-', _, ..] => return Err(format!("no option {}\n{USAGE}", PathBuf::from(word).display())),
@@ -41,7 +40,7 @@ pub fn request(words: impl IntoIterator<Item = OsString>) -> Result<Request, Str
     if request.files.is_empty() {
         request.files.push("-".into());
     }
-    Ok(request)
+    Ok(Asked::Keys(request))
 }
 
 /// The look that the word behind `--spell` names.

@@ -1,0 +1,53 @@
+//! The built examples, run as their users run them.
+#![allow(dead_code)] // each test uses a part
+
+use std::ffi::OsStr;
+use std::io::Write;
+use std::path::{Path, PathBuf};
+use std::process::{Command, Stdio};
+
+/// How a program ended, and what it said.
+#[derive(Debug, PartialEq)]
+pub struct Ran {
+    pub status: Option<i32>,
+    pub out: String,
+    pub error: String,
+}
+
+/// An example, which `cargo test` builds before it runs tests. A test that is named to it alone runs the example as it was built last.
+pub fn program(name: &str) -> Command {
+    let test = std::env::current_exe().expect("a test's own path");
+    let built = test.parent().and_then(Path::parent).expect("a test stands in PROFILE/deps");
+    let path = built.join("examples").join(name);
+    assert!(path.is_file(), "{} is not built: cargo build --examples, in the same profile", path.display());
+    Command::new(path)
+}
+
+/// Runs an example with this on its standard input.
+pub fn run(name: &str, words: &[impl AsRef<OsStr>], input: &[u8]) -> Ran {
+    let mut command = program(name);
+    command.args(words).stdin(Stdio::piped()).stdout(Stdio::piped()).stderr(Stdio::piped());
+    let mut child = command.spawn().expect("an example that can be run");
+    // A program that reads no input has closed it by now, or will.
+    let _ = child.stdin.take().expect("a pipe").write_all(input);
+    ended(child.wait_with_output().expect("a program that ends"))
+}
+
+/// Runs an example whose output goes somewhere else.
+pub fn run_into(name: &str, words: &[impl AsRef<OsStr>], out: impl Into<Stdio>) -> Ran {
+    let mut command = program(name);
+    command.args(words).stdin(Stdio::null()).stdout(out);
+    ended(command.output().expect("a program that ends"))
+}
+
+fn ended(output: std::process::Output) -> Ran {
+    let text = |bytes| String::from_utf8(bytes).expect("UTF-8");
+    Ran { status: output.status.code(), out: text(output.stdout), error: text(output.stderr) }
+}
+
+/// A file of a test's own, for what cannot stand in the repository.
+pub fn file(name: &str, bytes: &[u8]) -> PathBuf {
+    let path = Path::new(env!("CARGO_TARGET_TMPDIR")).join(name);
+    std::fs::write(&path, bytes).unwrap_or_else(|why| panic!("{}: {why}", path.display()));
+    path
+}
