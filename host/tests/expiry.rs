@@ -1,6 +1,12 @@
 //! The example `expiry`: a stock list by its days.
 
 mod common;
+#[allow(dead_code)] // what --help says is tested where it is run
+#[path = "../examples/expiry/help.rs"]
+mod help;
+#[allow(dead_code)] // how the program ends is tested where it is run
+#[path = "../examples/shared/out.rs"]
+mod out;
 #[path = "../examples/expiry/report.rs"]
 mod report;
 #[path = "../examples/expiry/request.rs"]
@@ -8,8 +14,10 @@ mod request;
 #[path = "../examples/expiry/stock.rs"]
 mod stock;
 
-use common::read;
-use request::{Failure, Request, USAGE};
+use common::{places::lines, read};
+use help::USAGE;
+use out::Failure;
+use request::{Asked, Request};
 use std::ffi::OsString;
 use std::os::unix::ffi::OsStringExt;
 use stock::Refused;
@@ -109,20 +117,34 @@ fn a_byte_order_mark_before_the_first_line_is_passed_over() {
 }
 
 #[test]
+fn lines_end_with_lf_cr_lf_or_cr() {
+    for end in ["\n", "\r\n", "\r"] {
+        let list = format!("a\t'2024-01-02'{end}{end}b\t'2024-01-03'{end}c\t'2024-01-32'");
+        let lines: Vec<usize> =
+            stock::rows(list.as_bytes()).expect("a short list").iter().map(|row| row.line).collect();
+        assert_eq!(lines, [1, 3, 4], "{end:?}");
+        assert!(said(list.as_bytes(), "2024-01-03").contains(", line 4, column 3\n1 expired by "), "{end:?}");
+    }
+}
+
+#[test]
 fn the_command_line() {
-    let asked = |words: &[&str]| request::request(words.iter().map(OsString::from));
+    let asked = |words: &[&str]| request::asked(words.iter().map(OsString::from));
     let day = Date::new(2027, 1, 31).expect("a day");
-    assert_eq!(asked(&["2027-01-31", "a b.txt"]), Ok(Request { day, file: "a b.txt".into() }));
-    let refused = |status, why: &str| Err(Failure { status, why: format!("{why}\n{USAGE}") });
+    let expiry = |file: OsString| Ok(Asked::Expiry(Request { day, file: file.into() }));
+    assert_eq!(asked(&["2027-01-31", "a b.txt"]), expiry("a b.txt".into()));
+    assert_eq!(asked(&["--help"]), Ok(Asked::Help));
+    assert_eq!(asked(&["no day", "a", "--help"]), Ok(Asked::Help));
+    let refused = |status, why: &str| Err(Failure { why: format!("{why}\n{USAGE}"), status });
     assert_eq!(asked(&[]), refused(2, "a day and a list are to be named, and not 0 words"));
     assert_eq!(asked(&["2027-01-31"]), refused(2, "a day and a list are to be named, and not 1 word"));
     assert_eq!(asked(&["2027-01-31", "a", "b"]), refused(2, "a day and a list are to be named, and not 3 words"));
-    assert_eq!(asked(&["--help"]), refused(2, "no option --help"));
+    assert_eq!(asked(&["--helps"]), refused(2, "no option --helps"));
     assert_eq!(asked(&["2027-01-31", "-"]), refused(2, "no option -"));
     for word in ["2027-02-29", "31.01.2027", "2027-01-31 ", "today", ""] {
         let why = format!("{word}: not a date, yyyy-mm-dd from 0001-01-01 to 9999-12-31");
         assert_eq!(asked(&[word, "a"]), refused(3, &why));
     }
     let name = OsString::from_vec(b"\xFF.txt".to_vec());
-    assert_eq!(request::request(["2027-01-31".into(), name.clone()]), Ok(Request { day, file: name.into() }));
+    assert_eq!(request::asked(["2027-01-31".into(), name.clone()]), expiry(name));
 }

@@ -1,5 +1,6 @@
 //! The rows of a stock list, each with its day.
 
+use crate::lines::lines;
 use std::borrow::Cow;
 use std::ops::Range;
 use valdrabus::{Date, Error, Kind, Literal};
@@ -19,24 +20,11 @@ pub enum Refused {
     Literal(Error),
 }
 
-/// What some editors put before a text: U+FEFF in UTF-8.
-const BYTE_ORDER_MARK: &[u8] = b"\xEF\xBB\xBF";
-
 /// Finds each row and asks for its day, the literal being a part of the list; none where the list is longer than a span can say. The list is read as bytes: a
 /// literal that is not UTF-8 is refused, and the others are read.
 pub fn rows(list: &[u8]) -> Option<Vec<Row<'_>>> {
-    u32::try_from(list.len()).ok()?;
-    let text = list.strip_prefix(BYTE_ORDER_MARK).unwrap_or(list);
-    // Rows count from the list's start, the mark included, so that a refusal's bytes are those of the file.
-    let (mut rows, mut start) = (Vec::new(), list.len() - text.len());
-    for (at, whole) in text.split(|&byte| byte == b'\n').enumerate() {
-        let line = whole.strip_suffix(b"\r").unwrap_or(whole);
-        if is_row(line) {
-            rows.push(row(list, at + 1, start..start + line.len()));
-        }
-        start += whole.len() + 1;
-    }
-    Some(rows)
+    let rows = lines(list).enumerate().filter(|(_, line)| is_row(&list[line.clone()]));
+    rows.map(|(at, line)| row(list, at + 1, line)).collect()
 }
 
 /// Whether a line is a row: neither blank nor a comment, which can have blanks before it.
@@ -46,14 +34,12 @@ fn is_row(line: &[u8]) -> bool {
 }
 
 /// The row that stands at these bytes of the list. The first tab ends the name.
-fn row(list: &[u8], line: usize, bytes: Range<usize>) -> Row<'_> {
+fn row(list: &[u8], line: usize, bytes: Range<usize>) -> Option<Row<'_>> {
     let text = &list[bytes.clone()];
-    match text.iter().position(|&byte| byte == b'\t') {
-        Some(tab) => {
-            let literal = Literal::new(Kind::Date, (bytes.start + tab + 1) as u32..bytes.end as u32);
-            let expiry = literal.in_bytes(list).as_date().map_err(Refused::Literal);
-            Row { line, name: String::from_utf8_lossy(&text[..tab]), expiry }
-        }
-        None => Row { line, name: String::from_utf8_lossy(text), expiry: Err(Refused::NoTab) },
-    }
+    let Some(tab) = text.iter().position(|&byte| byte == b'\t') else {
+        return Some(Row { line, name: String::from_utf8_lossy(text), expiry: Err(Refused::NoTab) });
+    };
+    let span = u32::try_from(bytes.start + tab + 1).ok()?..u32::try_from(bytes.end).ok()?;
+    let expiry = Literal::new(Kind::Date, span).in_bytes(list).as_date().map_err(Refused::Literal);
+    Some(Row { line, name: String::from_utf8_lossy(&text[..tab]), expiry })
 }

@@ -4,44 +4,44 @@
 //! flags FILE
 //! ```
 //!
-//! FILE has a product on each line: its name, a tab, and its flags as an SQL bit string, `B'..'` or `X'..'`, joined from parts too. Lines that are no rows are
-//! those of the example `keys`.
+//! FILE has a product on each line: its name, a tab, and its flags as an SQL bit string, `B'..'` or `X'..'`, joined from parts too. Lines, and those that are no
+//! rows, are those of the example `keys`.
 //!
 //! It prints for each product how many bits its flags have, their packed bytes in hex, and the literal that these are written as; then the rows that are
-//! refused, with the number of the refusal, by line and column of the list; then how many there are of each.
-//!
-//! The status is 0 if each row has flags, 1 if a row is refused, 2 if the list cannot be read or not just one is named.
+//! refused, with the number of the refusal, by line and column of the list; then how many there are of each. `flags --help` says what the statuses mean.
 
+mod help;
+#[path = "../shared/one_list.rs"]
+mod one_list;
+#[path = "../shared/out.rs"]
+mod out;
 #[allow(dead_code)] // no bit string has a setting
 #[path = "../keys/places.rs"]
 mod places;
 mod report;
 mod rows;
 
-use std::io::{self, Write};
+use one_list::Asked;
+use out::{Failure, Said};
 use std::path::Path;
 use std::process::ExitCode;
 
-const USAGE: &str = "usage: flags FILE (a list: a name, a tab and an SQL bit string on each line)";
-
-/// Says all of the list that is named; whether each row has flags.
-fn run() -> Result<bool, String> {
-    let words: Vec<_> = std::env::args_os().skip(1).collect();
-    let [file] = &words[..] else { return Err(format!("one list is to be named, and not {}\n{USAGE}", words.len())) };
-    let unread = |why: String| format!("{}: {why}\n{USAGE}", Path::new(file).display());
+/// Says all of the list that is named.
+fn flags(file: &Path) -> Result<Said, Failure> {
+    let unread = |why: String| format!("{}: {why}\n{}", file.display(), help::USAGE);
     let list = std::fs::read(file).map_err(|why| unread(why.to_string()))?;
     let rows = rows::rows(&list).map_err(unread)?;
-    io::stdout().write_all(report::report(&list, &rows).as_bytes()).map_err(|why| why.to_string())?;
-    Ok(rows.iter().all(|row| row.flags.is_ok()))
+    let status = u8::from(rows.iter().any(|row| row.flags.is_err()));
+    Ok(Said { text: report::report(&list, &rows), status })
+}
+
+fn run() -> Result<Said, Failure> {
+    match one_list::asked(std::env::args_os().skip(1), help::USAGE)? {
+        Asked::Help => Ok(Said { text: help::HELP.to_owned(), status: 0 }),
+        Asked::List(file) => flags(&file),
+    }
 }
 
 fn main() -> ExitCode {
-    match run() {
-        Ok(true) => ExitCode::SUCCESS,
-        Ok(false) => ExitCode::from(1),
-        Err(why) => {
-            eprintln!("flags: {why}");
-            ExitCode::from(2)
-        }
-    }
+    out::end("flags", run())
 }

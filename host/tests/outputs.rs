@@ -1,0 +1,125 @@
+//! How the examples end where their output is not taken: with a status, and with no panic.
+
+#[path = "common/run.rs"]
+mod run;
+
+use run::{Ran, file, run, run_into};
+use std::fs::File;
+use std::process::{ChildStdin, Command, Stdio};
+
+/// Each program with words by which it has something to say, and its status where that is taken.
+const PROGRAMS: [(&str, &[&str], i32); 5] = [
+    ("keys", &["lists/wholesale.txt"], 3),
+    ("keys", &["--json", "lists/wholesale.txt"], 3),
+    ("block", &["lists/wholesale.txt"], 3),
+    ("expiry", &["2027-01-31", "lists/expiry.txt"], 1),
+    ("flags", &["lists/flags.txt"], 1),
+];
+
+fn each(hold: impl Fn(&str, &[&str], i32)) {
+    for (name, words, status) in PROGRAMS {
+        hold(name, words, status);
+        hold(name, &["--help"], 0);
+    }
+}
+
+#[test]
+fn an_output_that_is_taken() {
+    each(|name, words, status| {
+        let Ran { status: ended, out, error } = run(name, words, b"");
+        assert_eq!((ended, out.is_empty(), &error[..]), (Some(status), false, ""), "{name} {words:?}");
+    });
+}
+
+/// The end to write to of a pipe whose reader has ended.
+fn closed_pipe() -> ChildStdin {
+    let mut reader = Command::new("true").stdin(Stdio::piped()).spawn().expect("a program that reads nothing");
+    let writer = reader.stdin.take().expect("a pipe");
+    reader.wait().expect("a program that ends");
+    writer
+}
+
+/// Quiet: who closed it wants no more, as `head` does.
+#[test]
+fn a_pipe_that_nobody_reads() {
+    each(|name, words, _| {
+        let due = Ran { status: Some(141), out: String::new(), error: String::new() };
+        assert_eq!(run_into(name, words, closed_pipe()), due, "{name} {words:?}");
+    });
+}
+
+/// A device that takes nothing, and a file that is open for reading alone.
+#[test]
+fn an_output_that_cannot_be_written() {
+    let open = |path: &str, write: bool| File::options().read(!write).write(write).open(path).expect("a file");
+    for (path, write, why) in [
+        ("/dev/full", true, "No space left on device (os error 28)"),
+        ("lists/README.md", false, "Bad file descriptor (os error 9)"),
+    ] {
+        each(|name, words, _| {
+            let error = format!("{name}: the output cannot be written: {why}\n");
+            let due = Ran { status: Some(2), out: String::new(), error };
+            assert_eq!(run_into(name, words, open(path, write)), due, "{name} {words:?} {path}");
+        });
+    }
+}
+
+/// What is said goes to a file whole, and behind what stands there.
+#[test]
+fn an_output_into_a_file() {
+    each(|name, words, status| {
+        let path = file(&format!("outputs {name}"), b"before\n");
+        let out = File::options().append(true).open(&path).expect("a file");
+        assert_eq!(run_into(name, words, out).status, Some(status));
+        let kept = std::fs::read_to_string(path).expect("UTF-8");
+        assert_eq!(kept.strip_prefix("before\n"), Some(&run(name, words, b"").out[..]), "{name} {words:?}");
+    });
+}
+
+/// A standard error that cannot be written either changes no status.
+#[test]
+fn an_error_that_cannot_be_written() {
+    for (name, words, _) in PROGRAMS {
+        let full = || File::options().write(true).open("/dev/full").expect("a file");
+        let mut command = run::program(name);
+        command.args(words).stdout(full()).stderr(full());
+        assert_eq!(command.status().expect("a program that ends").code(), Some(2), "{name} {words:?}");
+    }
+}
+
+#[test]
+fn a_list_that_cannot_be_read() {
+    for (name, words) in [("keys", &[][..]), ("block", &[]), ("expiry", &["2027-01-31"]), ("flags", &[])] {
+        for (list, why) in [
+            ("lists/none", "No such file or directory (os error 2)"),
+            ("lists", "Is a directory (os error 21)"),
+            ("Cargo.toml/none", "Not a directory (os error 20)"),
+        ] {
+            let ran = run(name, &[words, &[list]].concat(), b"'a'\n");
+            assert_eq!((ran.status, &ran.out[..]), (Some(2), ""), "{name} {list}");
+            assert!(ran.error.starts_with(&format!("{name}: {list}: {why}\n")), "{}", ran.error);
+        }
+        let ran = run(name, &["--no-option"], b"");
+        assert_eq!((ran.status, &ran.out[..]), (Some(2), ""), "{name}");
+        assert!(ran.error.starts_with(&format!("{name}: no option --no-option\nusage: {name} ")), "{}", ran.error);
+    }
+}
+
+/// Each says its usage and every status that it has, on lines that a terminal holds.
+#[test]
+fn help() {
+    for (name, statuses) in [
+        ("keys", &["0", "1", "2", "3", "141"][..]),
+        ("block", &["0", "1", "2", "3", "141"]),
+        ("expiry", &["0", "1", "2", "3", "141"]),
+        ("flags", &["0", "1", "2", "141"]),
+    ] {
+        let ran = run(name, &["--help"], b"");
+        assert!(ran.out.contains(&format!("\nusage: {name} ")), "{}", ran.out);
+        let (_, told) = ran.out.split_once("\nStatus:\n").expect("statuses");
+        let numbers: Vec<&str> =
+            told.lines().filter_map(|line| line[2..].split(' ').next()).filter(|number| !number.is_empty()).collect();
+        assert_eq!(numbers, statuses, "{name}");
+        assert!(ran.out.lines().all(|line| line.chars().count() <= 110), "{name}");
+    }
+}
