@@ -3,8 +3,9 @@
 #[path = "common/run.rs"]
 mod run;
 
-use run::{Ran, file, run};
+use run::{Ran, file, program, run, start};
 use std::os::unix::ffi::OsStrExt;
+use std::process::Stdio;
 
 /// What `keys` says of a list on its standard input, and its status.
 fn keys(words: &[&str], list: impl AsRef<[u8]>) -> (Option<i32>, String) {
@@ -139,7 +140,8 @@ fn a_standard_input_that_cannot_be_read() {
     let written = std::fs::File::create(file("keys written", b"")).expect("a file");
     let folder = std::fs::File::open("lists").expect("a folder");
     for (input, why) in [(folder, "Is a directory (os error 21)"), (written, "Bad file descriptor (os error 9)")] {
-        let output = run::program("keys").stdin(input).output().expect("a program that ends");
+        let child = start(program("keys").stdin(input).stdout(Stdio::piped()).stderr(Stdio::piped()));
+        let output = child.wait_with_output().expect("a program that ends");
         assert_eq!((output.status.code(), &output.stdout[..]), (Some(2), &b""[..]));
         assert_eq!(String::from_utf8_lossy(&output.stderr), format!("keys: -: {why}\n"));
     }

@@ -229,6 +229,13 @@ fn a_row_that_depends_on_the_setting_is_marked() {
             assert!(listed(row.as_bytes(), settings).rows[0].other.is_none(), "{row} {settings:?}");
         }
     }
+    // Refused at either, if not at the same place.
+    let [off, on] = [Settings::STANDARD, Settings::MYSQL].map(|settings| {
+        let row = listed(br"'a\'b'c'", settings).rows.pop().expect("a row");
+        assert!(row.other.is_none(), "{settings:?}");
+        row.key.expect_err("a refusal").place()
+    });
+    assert_ne!(off, on);
 }
 
 #[test]

@@ -3,9 +3,8 @@
 #[path = "common/run.rs"]
 mod run;
 
-use run::{Ran, file, run, run_into};
+use run::{Ran, closed_pipe, file, program, run, run_into, start};
 use std::fs::File;
-use std::process::{ChildStdin, Command, Stdio};
 
 /// Each program with words by which it has something to say, and its status where that is taken.
 const PROGRAMS: [(&str, &[&str], i32); 5] = [
@@ -29,14 +28,6 @@ fn an_output_that_is_taken() {
         let Ran { status: ended, out, error } = run(name, words, b"");
         assert_eq!((ended, out.is_empty(), &error[..]), (Some(status), false, ""), "{name} {words:?}");
     });
-}
-
-/// The end to write to of a pipe whose reader has ended.
-fn closed_pipe() -> ChildStdin {
-    let mut reader = Command::new("true").stdin(Stdio::piped()).spawn().expect("a program that reads nothing");
-    let writer = reader.stdin.take().expect("a pipe");
-    reader.wait().expect("a program that ends");
-    writer
 }
 
 /// Quiet: who closed it wants no more, as `head` does.
@@ -81,9 +72,8 @@ fn an_output_into_a_file() {
 fn an_error_that_cannot_be_written() {
     for (name, words, _) in PROGRAMS {
         let full = || File::options().write(true).open("/dev/full").expect("a file");
-        let mut command = run::program(name);
-        command.args(words).stdout(full()).stderr(full());
-        assert_eq!(command.status().expect("a program that ends").code(), Some(2), "{name} {words:?}");
+        let mut child = start(program(name).args(words).stdout(full()).stderr(full()));
+        assert_eq!(child.wait().expect("a program that ends").code(), Some(2), "{name} {words:?}");
     }
 }
 

@@ -4,7 +4,8 @@
 use std::ffi::OsStr;
 use std::io::Write;
 use std::path::{Path, PathBuf};
-use std::process::{Command, Stdio};
+use std::process::{Child, ChildStdin, Command, Stdio};
+use std::sync::{Mutex, PoisonError};
 
 /// How a program ended, and what it said.
 #[derive(Debug, PartialEq)]
@@ -23,11 +24,27 @@ pub fn program(name: &str) -> Command {
     Command::new(path)
 }
 
+/// Starts one program at a time: one that is started by another thread meanwhile would have the ends of this one's pipes open for a moment, and a pipe that
+/// nobody reads would have a reader.
+pub fn start(command: &mut Command) -> Child {
+    static ONE: Mutex<()> = Mutex::new(());
+    let _one = ONE.lock().unwrap_or_else(PoisonError::into_inner);
+    command.spawn().expect("a program that can be run")
+}
+
+/// The end to write to of a pipe whose reader has ended.
+pub fn closed_pipe() -> ChildStdin {
+    let mut reader = start(Command::new("true").stdin(Stdio::piped()));
+    let writer = reader.stdin.take().expect("a pipe");
+    reader.wait().expect("a program that ends");
+    writer
+}
+
 /// Runs an example with this on its standard input.
 pub fn run(name: &str, words: &[impl AsRef<OsStr>], input: &[u8]) -> Ran {
     let mut command = program(name);
     command.args(words).stdin(Stdio::piped()).stdout(Stdio::piped()).stderr(Stdio::piped());
-    let mut child = command.spawn().expect("an example that can be run");
+    let mut child = start(&mut command);
     // A program that reads no input has closed it by now, or will.
     let _ = child.stdin.take().expect("a pipe").write_all(input);
     ended(child.wait_with_output().expect("a program that ends"))
@@ -36,8 +53,8 @@ pub fn run(name: &str, words: &[impl AsRef<OsStr>], input: &[u8]) -> Ran {
 /// Runs an example whose output goes somewhere else.
 pub fn run_into(name: &str, words: &[impl AsRef<OsStr>], out: impl Into<Stdio>) -> Ran {
     let mut command = program(name);
-    command.args(words).stdin(Stdio::null()).stdout(out);
-    ended(command.output().expect("a program that ends"))
+    command.args(words).stdin(Stdio::null()).stdout(out).stderr(Stdio::piped());
+    ended(start(&mut command).wait_with_output().expect("a program that ends"))
 }
 
 fn ended(output: std::process::Output) -> Ran {
