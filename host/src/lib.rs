@@ -100,3 +100,8 @@ pub use writer::{
     LEAST_PART, LONGEST_VALUE, to_escape, to_literal, to_parts, to_unicode, write_escape, write_literal, write_parts,
     write_unicode,
 };
+
+/// The repository's first page: its example is run with the others.
+#[cfg(doctest)]
+#[doc = include_str!("../../README.md")]
+struct FirstPage;

@@ -1,6 +1,7 @@
 //! The C functions of `include/valdrabus.h`, as they are. The crate's root wraps them; what each does, and what a caller owes, stands in the header.
 
 unsafe extern "C" {
+    pub fn valdrabus_version() -> u32;
     pub fn valdrabus_as_str_in(
         kind: u32,
         synthetic: u32,

@@ -68,3 +68,40 @@ fn sys_is_the_header() {
     assert_eq!(of_header(), of_sys());
     assert!(of_sys().contains_key("valdrabus_as_str_in"));
 }
+
+/// What the header defines a name to be, without the marks of a text.
+fn defined<'a>(header: &'a str, name: &str) -> &'a str {
+    let lines = header.lines().filter_map(|line| line.strip_prefix("#define ")?.strip_prefix(name)?.strip_prefix(' '));
+    lines.map(|text| text.trim_matches('"')).next().expect("a definition")
+}
+
+#[test]
+fn crate_header_and_archive_are_of_one_version() {
+    let header = read("../include/valdrabus.h");
+    let [major, minor, patch] =
+        ["MAJOR", "MINOR", "PATCH"].map(|part| defined(&header, &format!("VALDRABUS_VERSION_{part}")));
+    assert_eq!(defined(&header, "VALDRABUS_VERSION_TEXT"), env!("CARGO_PKG_VERSION"));
+    assert_eq!(format!("{major}.{minor}.{patch}"), env!("CARGO_PKG_VERSION"));
+    let [major, minor, patch] = [major, minor, patch].map(|part| part.parse::<u32>().expect("a number"));
+    // SAFETY: it is lent nothing.
+    assert_eq!(unsafe { valdrabus::sys::valdrabus_version() }, major * 10_000 + minor * 100 + patch);
+}
+
+/// The sentences of `valdrabus_message`, each behind its case.
+#[test]
+fn messages_are_the_crates_where_these_have_no_data() {
+    use valdrabus::Error;
+    let header = read("../include/valdrabus.h");
+    let span = valdrabus::Span { start: 0, end: 0 };
+    for error in [
+        Error::MissingSource { span },
+        Error::NotUtf8 { span: None },
+        Error::HoldsNul,
+        Error::OverLimit,
+        Error::BadBits,
+    ] {
+        let said = error.to_string();
+        let (sentence, _) = said.split_once(" (number ").expect("a number");
+        assert!(header.contains(&format!("return \"{sentence}\";")), "{sentence}");
+    }
+}
