@@ -84,7 +84,7 @@ pub enum Error {
         /// The literal's span.
         span: Span,
     },
-    /// 15: a block with fewer answers than items, or with a buffer that is, or would have to be, longer than [`LONGEST_BUFFER`](crate::LONGEST_BUFFER).
+    /// 15: a block with fewer answers than items, or with a buffer that is, or would have to be, longer than [`LONGEST_BUFFER`].
     BadBlock,
     /// 16: bytes that are no packed bits of that count: not as many bytes as the bits take, an unused bit that is set, or a count that is no multiple of four for `X'..'`.
     BadBits,

@@ -3,6 +3,7 @@
 use crate::calls::{self, Test};
 use crate::errors::Error;
 use crate::owned;
+use crate::room;
 use crate::source::Source;
 use crate::texts::Text;
 use std::borrow::Cow;
@@ -98,7 +99,7 @@ pub fn is_unicode_ident(text: impl AsRef<[u8]>) -> bool {
     calls::holds(Test::UnicodeIdent, text.as_ref())
 }
 
-/// A U& identifier's text.
+/// A U& identifier's text. A buffer as long as the text given always has room.
 ///
 /// ```
 /// use valdrabus::{Text, materialize_unicode_ident};
@@ -152,5 +153,5 @@ pub fn to_unicode_ident_bytes(text: &[u8]) -> Result<Cow<'_, [u8]>, Error> {
 }
 
 fn owned_identifier<S: Source + ?Sized>(text: &S) -> Result<Cow<'_, S>, Error> {
-    owned::cow(None, text, owned::ANY, |out| calls::identifier(text.bytes(), out))
+    owned::cow(None, text, room::identifier(text.bytes()), |out| calls::identifier(text.bytes(), out))
 }

@@ -6,6 +6,7 @@ use crate::errors::Error;
 use crate::literal::Literal;
 use crate::owned;
 use crate::packed::{self, Packed};
+use crate::room;
 use crate::settings::Settings;
 use crate::texts::Text;
 use std::borrow::Cow;
@@ -166,7 +167,7 @@ impl<'s> InBytes<'s> {
     /// [`Error::NotUtf8`] (4), and those of [`Literal::to_str_in`].
     pub fn to_str_in(&self, settings: Settings) -> Result<Cow<'s, [u8]>, Error> {
         let ask = |out: &mut [u8]| calls::as_str_in(&self.literal, self.source, settings, out);
-        owned::cow(Some(&self.literal), self.source, owned::room(&self.literal), ask)
+        owned::cow(Some(&self.literal), self.source, room::string(&self.literal), ask)
     }
 
     /// As [`Literal::to_decimal_text`].
@@ -234,6 +235,6 @@ impl<'s> InBytes<'s> {
 
     fn owned_text(&self, question: TextQuestion) -> Result<Cow<'s, [u8]>, Error> {
         let ask = |out: &mut [u8]| calls::text(question, &self.literal, self.source, out);
-        owned::cow(Some(&self.literal), self.source, owned::ANY, ask)
+        owned::cow(Some(&self.literal), self.source, room::text(question, &self.literal), ask)
     }
 }

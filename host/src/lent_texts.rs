@@ -60,7 +60,8 @@ impl Literal {
         calls::as_str_in(self, source.as_bytes(), settings, out).text(Some(self), source, out)
     }
 
-    /// A number's decimal text: in base ten its own without `_`, otherwise unchecked; behind a radix prefix the value, printed. 40 bytes hold every printed value.
+    /// A number's decimal text: in base ten its own without `_`, otherwise unchecked; behind a radix prefix the value, printed. 40 bytes hold every printed
+    /// value, and a buffer of at least 40 that is as long as the literal's text always has room.
     ///
     /// ```
     /// use valdrabus::{Kind, Literal, Text};
@@ -79,7 +80,7 @@ impl Literal {
         self.text(TextQuestion::Decimal, source, out)
     }
 
-    /// A bit string's digits.
+    /// A bit string's digits. A buffer as long as the literal's text always has room.
     ///
     /// ```
     /// use valdrabus::{BitStringRadix, Kind, Literal};
@@ -124,7 +125,7 @@ impl Literal {
         Packed::of_literal(self, source.as_bytes(), out)
     }
 
-    /// What the quoted token of a date, time, timestamp or interval means, with backslash escapes off.
+    /// What the quoted token of a date, time, timestamp or interval means, with backslash escapes off. A buffer as long as the literal's text always has room.
     ///
     /// ```
     /// use valdrabus::{Kind, Literal};

@@ -67,6 +67,7 @@ mod owned_texts;
 mod packed;
 mod positions;
 mod questions;
+mod room;
 mod said;
 mod same_texts;
 mod settings;

@@ -2,24 +2,17 @@
 
 use crate::errors::Error;
 use crate::literal::Literal;
+use crate::room;
 use crate::said::{Said, Stands};
 use crate::source::Source;
 use crate::texts::Text;
 use std::borrow::{Borrow, Cow};
 use std::ops::Range;
 
-/// Product names and numbers fit, so that most written answers take one call.
+/// Product names and numbers fit, so that most written answers take one call: no string of up to two bytes more is ever asked twice.
 const SMALL: usize = 128;
 
-/// The room that always serves a string literal: its text's length less two bytes, by the law `room` of the theorems. So no text of up to [`SMALL`] bytes and two is asked twice.
-pub(crate) const fn room(literal: &Literal) -> usize {
-    literal.span.long().saturating_sub(2)
-}
-
-/// No law is used of this question's length.
-pub(crate) const ANY: usize = usize::MAX;
-
-/// Asks with a small buffer, and once more with the length needed where that is too short. An archive that needs more than `most` is not ours.
+/// Asks with a small buffer, and once more with the length needed where that is too short. That is no more than the [room](crate::room) that always serves, and is written then.
 pub(crate) fn cow<'s, S: Source + ?Sized>(
     literal: Option<&Literal>,
     source: &'s S,
@@ -84,7 +77,7 @@ fn fill<S: Source + ?Sized>(
     bytes: &mut Vec<u8>,
     ask: impl Fn(&mut [u8]) -> Said,
 ) -> Result<(), Error> {
-    let most = room(literal);
+    let most = room::string(literal);
     let at_hand = most.min(bytes.capacity());
     let stands = match lend(bytes, at_hand, &ask).stands(Some(literal)) {
         Err(Error::NoRoom { needed }) => lend(bytes, within(needed, most)?, &ask).stands(Some(literal)),
@@ -145,7 +138,7 @@ mod tests {
 
     fn cow_of(needed: usize, then: fn() -> Said) -> (Result<Cow<'static, str>, Error>, usize) {
         let mut answer = Err(Error::BadNumber);
-        let asked = twice(needed, then, |ask| answer = cow(Some(&literal()), SOURCE, room(&literal()), ask));
+        let asked = twice(needed, then, |ask| answer = cow(Some(&literal()), SOURCE, room::string(&literal()), ask));
         (answer, asked)
     }
 
@@ -169,7 +162,7 @@ mod tests {
 
     #[test]
     fn a_string_is_never_asked_a_third_time_nor_given_more_than_its_text() {
-        assert_eq!(room(&literal()), 10);
+        assert_eq!(room::string(&literal()), 10);
         assert_eq!(cow_of(10, || no_room(10)), (Err(Error::NoRoom { needed: 10 }), 2));
         assert_eq!(cow_of(11, || accepted(WRITTEN, 0..11)), (Err(Error::BadNumber), 1));
         assert_eq!(cow_of(usize::MAX, || accepted(WRITTEN, 0..1)), (Err(Error::BadNumber), 1));

@@ -5,6 +5,7 @@ use crate::errors::Error;
 use crate::literal::Literal;
 use crate::owned;
 use crate::packed;
+use crate::room;
 use crate::settings::Settings;
 use std::borrow::Cow;
 
@@ -45,7 +46,7 @@ impl Literal {
     /// [`Error::WrongKind`] (1), [`Error::MissingSource`] (2), [`Error::InvalidSourceRange`] (3), [`Error::InvalidString`] (6) with its [place](Error::place).
     pub fn to_str_in<'s>(&self, source: &'s str, settings: Settings) -> Result<Cow<'s, str>, Error> {
         let ask = |out: &mut [u8]| calls::as_str_in(self, source.as_bytes(), settings, out);
-        owned::cow(Some(self), source, owned::room(self), ask)
+        owned::cow(Some(self), source, room::string(self), ask)
     }
 
     /// As [`as_decimal_text`](Literal::as_decimal_text).
@@ -100,7 +101,8 @@ impl Literal {
     }
 
     fn owned_text<'s>(&self, question: TextQuestion, source: &'s str) -> Result<Cow<'s, str>, Error> {
-        owned::cow(Some(self), source, owned::ANY, |out| calls::text(question, self, source.as_bytes(), out))
+        let ask = |out: &mut [u8]| calls::text(question, self, source.as_bytes(), out);
+        owned::cow(Some(self), source, room::text(question, self), ask)
     }
 }
 

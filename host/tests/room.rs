@@ -2,7 +2,7 @@
 
 mod common;
 
-use common::{table, unhex};
+use common::{BINARY, table, unhex, whole};
 use valdrabus::*;
 
 /// How many bytes of the room a value leaves; none where the text is refused for another reason.
@@ -27,4 +27,18 @@ fn no_value_is_longer_than_its_text_less_two_bytes() {
     let spares: Vec<usize> = asked.flatten().collect();
     assert!(spares.len() > 1_000, "{} are read", spares.len());
     assert!(spares.contains(&0) && spares.iter().any(|spare| *spare > 0));
+}
+
+/// What takes more than a small buffer is asked again, for no more than the laws allow: values that are written, of each question.
+#[test]
+fn long_texts_of_every_question() {
+    let long = |part: &str| part.repeat(500);
+    let (string, temporal) = (format!("'{}'''", long("x")), format!("'{}'''", long("2")));
+    assert_eq!(whole(Kind::String, &string).to_str(&string).as_deref(), Ok(&*(long("x") + "'")));
+    assert_eq!(whole(Kind::Date, &temporal).to_temporal_text(&temporal).as_deref(), Ok(&*(long("2") + "'")));
+    let (bits, number) = (format!("B'{}' ", long("1")), format!("7_{}", long("7")));
+    assert_eq!(whole(BINARY, &bits).to_bit_text(&bits).as_deref(), Ok(&*long("1")));
+    assert_eq!(whole(Kind::Integer, &number).to_decimal_text(&number).as_deref(), Ok(&*(long("7") + "7")));
+    let name = format!("U&\"{}\"\"\"", long("x"));
+    assert_eq!(to_unicode_ident(&name).as_deref(), Ok(&*(long("x") + "\"")));
 }
