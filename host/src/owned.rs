@@ -12,7 +12,7 @@ use std::ops::Range;
 /// Product names and numbers fit, so that most written answers take one call: no string of up to two bytes more is ever asked twice.
 const SMALL: usize = 128;
 
-/// Asks with a small buffer, and once more with the length needed where that is too short. That is no more than the [room](crate::room) that always serves, and is written then.
+/// Asks with a small buffer, and once more with the length needed where that is too short. That is no more than the room that always serves, and is written then.
 pub(crate) fn cow<'s, S: Source + ?Sized>(
     literal: Option<&Literal>,
     source: &'s S,
