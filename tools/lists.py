@@ -5,10 +5,14 @@
     tools/lists.py --check       makes them again by the seed that the ward list names; status 1 if a file differs
     tools/lists.py --keys NAME   what `keys`, the host's and Rattle's, has to print for a list, by the same seed
 
-Each row spells a product that is chosen before it is spelled. So which key each row has, and which rows are doubled, is known here with nothing decoded.
+Each row spells a product that is chosen before it is spelled. So which key each row has, and which rows are doubled, is known here with nothing decoded; only
+what a row with a backslash means at the other setting is read, by tools/printed.py.
 """
 import pathlib
 import sys
+
+sys.dont_write_bytecode = True
+import printed  # noqa: E402
 
 ROOT = pathlib.Path(__file__).parent.parent
 LISTS, KEYS = ROOT / 'host' / 'lists', ROOT / 'crates' / 'keys'
@@ -273,26 +277,35 @@ class List:
         lines += [text for _, text in self.parts[False]] + ['-- backslash on'] + [text for _, text in self.parts[True]]
         return ''.join(line + '\n' for line in lines)
 
-    def lines(self):
-        """Each row's line, counted from 1, and its product."""
-        yield from enumerate((product for product, _ in self.parts[False]), 3)
-        yield from enumerate((product for product, _ in self.parts[True]), 4 + len(self.parts[False]))
+    def rows(self):
+        """Each row's line, counted from 1, its product, its literal and its setting."""
+        for backslash, first in ((False, 3), (True, 4 + len(self.parts[False]))):
+            for at, (product, text) in enumerate(self.parts[backslash], first):
+                yield at, product.encode(), text.encode(), backslash
+
+    def places(self):
+        places = {}
+        for line, product, _, _ in self.rows():
+            places.setdefault(product, []).append(line)
+        return places
 
     def doubles(self):
-        places = {}
-        for line, product in self.lines():
-            places.setdefault(product, []).append(line)
-        doubled = {product: lines for product, lines in places.items() if len(lines) > 1}
-        said = [f'doubled: {product}, on lines {", ".join(map(str, lines))}' for product, lines in doubled.items()]
-        said.append(f'{sum(map(len, places.values()))} products with doubles, {len(places)} without; {len(doubled)} doubled; 0 rows refused')
-        return ''.join(line + '\n' for line in said)
+        places = self.places()
+        return printed.doubled(places) + [printed.counts(sum(map(len, places.values())), places, 0)]
 
     def keys(self):
-        return ''.join(f'{line:6}  {product}\n' for line, product in self.lines()) + self.doubles()
+        rows = [printed.row(line, text, product, backslash) for line, product, text, backslash in self.rows()]
+        *doubled, counts = self.doubles()
+        return [line for lines, _ in rows for line in lines] + doubled + [counts + printed.depending(sum(depends for _, depends in rows))]
 
     def files(self):
-        own = {LISTS / f'{self.name}.txt': self.text(), LISTS / f'{self.name}.doubles': self.doubles()}
-        return own | {KEYS / 'stdin': self.text(), KEYS / 'stdout': self.keys()} if self.name == 'ward' else own
+        text = self.text().encode()
+        own = {LISTS / f'{self.name}.txt': text, LISTS / f'{self.name}.doubles': whole(self.doubles())}
+        return own | {KEYS / 'stdin': text, KEYS / 'stdout': whole(self.keys())} if self.name == 'ward' else own
+
+
+def whole(lines):
+    return b''.join(line + b'\n' for line in lines)
 
 
 def seed_said():
@@ -301,18 +314,18 @@ def seed_said():
 
 def main(words):
     if words == ['--check']:
-        wrong = [path.name for name in SIZES for path, text in List(name, seed_said()).files().items() if path.read_bytes() != text.encode()]
+        wrong = [path.name for name in SIZES for path, text in List(name, seed_said()).files().items() if path.read_bytes() != text]
         print(f'differ from what tools/lists.py makes: {" ".join(wrong)}' if wrong else 'the lists are what tools/lists.py makes')
         return 1 if wrong else 0
     if len(words) == 2 and words[0] == '--keys' and words[1] in SIZES:
-        sys.stdout.buffer.write(List(words[1], seed_said()).keys().encode())
+        sys.stdout.buffer.write(whole(List(words[1], seed_said()).keys()))
         return 0
     if len(words) != 1 or not words[0].isdigit():
         print(__doc__, file=sys.stderr)
         return 2
     for name in SIZES:
         for path, text in List(name, int(words[0])).files().items():
-            path.write_bytes(text.encode())
+            path.write_bytes(text)
     return 0
 
 

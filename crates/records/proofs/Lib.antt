@@ -6,3 +6,4 @@ pub mod Heading
 pub mod Answering
 pub mod Goods
 pub mod Lengths
+pub mod Filling

@@ -1,3 +1,4 @@
 pub mod Adding
 pub mod Heads
 pub mod Goods
+pub mod Lines
