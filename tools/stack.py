@@ -6,8 +6,7 @@
     tools/stack.py --check [ARCHIVE ..]         exits 1 if the table has not a row for each call, or another figure, or if the decimal question takes too much
     tools/stack.py --measured PROGRAM ARCHIVE   exits 1 if a call takes more than is read off, as PROGRAM (tests/c/stack.c) measures it
 
-A relative path counts from where you stand. The columns 'before' of the table stay as they are. --check says which archive's code no objdump here reads, and
-holds the others.
+A relative path counts from where you stand. What is not read anew stays. --check says which archive's code no objdump here reads, and holds the others.
 
 Every way through a function is followed, and what it takes off the stack pointer and gives back; on x86-64 also what it pushes, and 8 bytes for its return
 address, which on Arm is saved in the frame. Bytes that it uses below the stack pointer count too, as a function that calls none may on x86-64. A call's depth
@@ -25,7 +24,7 @@ ROOT = os.path.join(os.path.dirname(os.path.abspath(__file__)), '..')
 PAGE = os.path.join(ROOT, 'docs', 'PERFORMANCE.md')
 BEGIN = '<!-- stack: from here on written by tools/stack.py -->\n'
 END = '<!-- stack: up to here written by tools/stack.py -->\n'
-COLUMNS = ['x86-64 before', 'x86-64', 'Arm before', 'Arm']
+COLUMNS = ['x86-64', 'Arm']
 LIBRARY = ['memcpy', 'memset']
 # Request T-06: a handheld with a small stack prints radix numbers, and lends this many bytes to the whole question.
 DECIMAL, AT_MOST = 'valdrabus_as_decimal_text', 168
@@ -231,7 +230,7 @@ def rows(table):
 def table_of(rows):
     """deepest first"""
     text = '| call | ' + ' | '.join(COLUMNS) + ' |\n|---|' + '---|' * len(COLUMNS) + '\n'
-    for call, row in sorted(rows.items(), key=lambda item: (-(item[1].get(COLUMNS[1]) or 0), item[0])):
+    for call, row in sorted(rows.items(), key=lambda item: (-(item[1].get(COLUMNS[0]) or 0), item[0])):
         cells = ['–' if row.get(column) is None else f'{row[column]:,}' for column in COLUMNS]
         text += f'| `{call.removeprefix("valdrabus_")}` | ' + ' | '.join(cells) + ' |\n'
     return text
