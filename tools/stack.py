@@ -222,17 +222,29 @@ def split_page():
 
 def rows(table):
     """call -> column -> bytes, None where it has none"""
-    found = re.findall(r'^\| `(\w+)` \| (.*) \|$', table, re.M)
-    cells = {f'valdrabus_{call}': [cell.replace(',', '') for cell in line.split(' | ')] for call, line in found}
-    return {call: {column: int(cell) if cell.isdigit() else None for column, cell in zip(COLUMNS, line)} for call, line in cells.items()}
+    found = {}
+    for calls, line in re.findall(r'^(`\w+`(?:, `\w+`)*) \| (.*)$', table, re.M):
+        cells = [cell.replace(',', '') for cell in line.split(' | ')]
+        row = {column: int(cell) if cell.isdigit() else None for column, cell in zip(COLUMNS, cells)}
+        found |= {f'valdrabus_{call}': row for call in re.findall(r'`(\w+)`', calls)}
+    return found
+
+
+def alike(rows):
+    """the calls of each line: those that take the same on every machine share one"""
+    found = {}
+    for call, row in sorted(rows.items()):
+        found.setdefault(tuple(row.get(column) for column in COLUMNS), []).append(call)
+    return found
 
 
 def table_of(rows):
     """deepest first"""
-    text = '| call | ' + ' | '.join(COLUMNS) + ' |\n|---|' + '---|' * len(COLUMNS) + '\n'
-    for call, row in sorted(rows.items(), key=lambda item: (-(item[1].get(COLUMNS[0]) or 0), item[0])):
-        cells = ['–' if row.get(column) is None else f'{row[column]:,}' for column in COLUMNS]
-        text += f'| `{call.removeprefix("valdrabus_")}` | ' + ' | '.join(cells) + ' |\n'
+    text = 'call | ' + ' | '.join(COLUMNS) + '\n---' + '|---' * len(COLUMNS) + '\n'
+    for taken, calls in sorted(alike(rows).items(), key=lambda item: (-(item[0][0] or 0), item[1])):
+        cells = [', '.join(f'`{call.removeprefix("valdrabus_")}`' for call in calls)]
+        cells += ['–' if most is None else f'{most:,}' for most in taken]
+        text += ' | '.join(cells) + '\n'
     return text
 
 
