@@ -2,7 +2,7 @@
 //! which it has the text, beside a parse of that text, and the day of a number beside plain arithmetic; packed bits, of which it has the digits, beside a loop that
 //! packs those.
 //!
-//!     cargo run --release -p bench                          a table, as it stands in docs/PERFORMANCE.md
+//!     cargo run --release -p bench                          a table of times; tools/speed.py takes its ratios into docs/PERFORMANCE.md
 //!     cargo run --release -p bench -- --blocks              the same of strings that are read in blocks, beside single calls
 //!     cargo run --release -p bench -- --cases               the names of the cases of both
 //!     cargo run --release -p bench -- --count CASE N SIDE   one case N times, to count instructions; SIDE is ours, rust or rust-str, of a case in blocks block, singles or rust
