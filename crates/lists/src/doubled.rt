@@ -1,10 +1,10 @@
 // The products that stand in several rows: `doubles::find_before` tells of each row the newest row before it that has its key.
-use crate::rows::State;
-use crate::rows::one_more;
-use crate::rows::put_number;
+use crate::kept::put_number;
 use crate::said::say;
 use crate::said::say_number;
 use crate::shown::say_key;
+use crate::state::State;
+use crate::state::one_more;
 use doubles::find_before;
 use doubles::key_at;
 ghost use mathlib.Core.Path.{_≡_};

@@ -1,9 +1,9 @@
 // A list, read through a window: lines end with a line feed, with CR and a line feed, or with CR alone; the last needs no end.
-use crate::rows::State;
 use crate::rows::after_line;
 use crate::rows::after_window;
 use crate::rows::cut_off;
-use crate::rows::none;
+use crate::state::State;
+use crate::state::none;
 use leaves::blocks::Stops;
 use leaves::blocks::free_run;
 use leaves::views::part_of;
