@@ -145,7 +145,14 @@ fn help() -> u32
         STDOUT_FILENO,
         b"usage: litrec [--help] <RECORDS
 
-Reads records of 64 bytes from standard input, and writes a line for each to standard output: the number of the answer, its kind, its length, its bytes.
+Reads records of 64 bytes from standard input, and writes a line for each to standard output.
+
+A record: a byte for the question (1 string, 2 i64, 3 decimal text, 4 bits, 5 money, 6 temporal text, 7 charset name), one for the kind (1 integer, 2 float,
+3 decimal, 4 string, 5 true, 6 false, 7 null, 8 date, 9 time, 10 timestamp, 11 interval, 12 binary bits, 13 hex bits, 14 money), one for the setting (0, or 1
+for backslash escapes), one for the text's length (0 to 60), then 60 bytes: the text, zero behind it.
+
+A line: the number of the answer (0 answered, 10 a bad record, others as include/valdrabus.h lists them); b borrowed, w written, i an integer, n no charset
+name, - refused; the length, for i the value; the text in hex, - for none.
 
 Status: 0 all records are answered; 2 the input cannot be read or the output cannot be written to its end, or a word is not understood: then standard
 error says which.
