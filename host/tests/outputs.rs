@@ -3,7 +3,7 @@
 #[path = "common/run.rs"]
 mod run;
 
-use run::{Ran, closed_pipe, file, program, run, run_into, start};
+use run::{Ran, closed_pipe, file, program, run, run_by_shell, run_into, start};
 use std::fs::File;
 
 /// Each program with words by which it has something to say, and its status where that is taken.
@@ -53,6 +53,33 @@ fn an_output_that_cannot_be_written() {
             assert_eq!(run_into(name, words, open(path, write)), due, "{name} {words:?} {path}");
         });
     }
+}
+
+/// Closed before the program starts, and not a device that takes all: that is an output as good as any.
+#[test]
+fn a_closed_output() {
+    each(|name, words, status| {
+        let ran = |status, error: String| Ran { status: Some(status), out: String::new(), error };
+        let due = ran(2, format!("{name}: standard output is closed\n"));
+        assert_eq!(run_by_shell("\"$@\" >&-", name, words), due, "{name} {words:?}");
+        assert_eq!(run_by_shell("\"$@\" <&- >&-", name, words), due, "{name} {words:?}");
+        // Where standard error is closed too, the status tells it.
+        assert_eq!(run_by_shell("\"$@\" >&- 2>&-", name, words), ran(2, String::new()), "{name} {words:?}");
+        assert_eq!(run_by_shell("\"$@\" >/dev/null", name, words), ran(status, String::new()), "{name} {words:?}");
+    });
+}
+
+/// It is no empty list where it is read, and makes no difference where it is not.
+#[test]
+fn a_closed_input() {
+    for words in [&[][..], &["-"], &["--json"], &["lists/ward.txt", "-"]] {
+        let due = Ran { status: Some(2), out: String::new(), error: "keys: standard input is closed\n".to_owned() };
+        assert_eq!(run_by_shell("\"$@\" <&-", "keys", words), due, "{words:?}");
+    }
+    assert_eq!(run_by_shell("\"$@\" </dev/null", "keys", &[""; 0]).status, Some(0));
+    each(|name, words, _| {
+        assert_eq!(run_by_shell("\"$@\" <&-", name, words), run(name, words, b""), "{name} {words:?}");
+    });
 }
 
 /// What is said goes to a file whole, and behind what stands there.

@@ -17,6 +17,7 @@ mod list;
 mod one_call;
 #[path = "../shared/one_list.rs"]
 mod one_list;
+#[allow(dead_code)] // standard input is not read here
 #[path = "../shared/out.rs"]
 mod out;
 #[path = "../keys/places.rs"]

@@ -16,6 +16,7 @@
 mod help;
 #[path = "../shared/lines.rs"]
 mod lines;
+#[allow(dead_code)] // standard input is not read here
 #[path = "../shared/out.rs"]
 mod out;
 mod report;

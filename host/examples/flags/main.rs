@@ -13,6 +13,7 @@
 mod help;
 #[path = "../shared/one_list.rs"]
 mod one_list;
+#[allow(dead_code)] // standard input is not read here
 #[path = "../shared/out.rs"]
 mod out;
 #[allow(dead_code)] // no bit string has a setting

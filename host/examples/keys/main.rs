@@ -56,11 +56,18 @@ use std::os::fd::AsFd;
 use std::path::Path;
 use std::process::ExitCode;
 
-/// All of a list. It goes past `Stdin`, which takes a descriptor that cannot be read for one that has nothing to read.
-fn read(file: &Path) -> io::Result<Vec<u8>> {
-    if file.as_os_str() != "-" {
-        return std::fs::read(file);
+/// All of a list.
+fn read(file: &Path) -> Result<Vec<u8>, String> {
+    let is_input = file.as_os_str() == "-";
+    if is_input && out::closed::input() {
+        return Err("standard input is closed".to_owned());
     }
+    let list = if is_input { standard_input() } else { std::fs::read(file) };
+    list.map_err(|why| format!("{}: {why}", file.display()))
+}
+
+/// It goes past `Stdin`, which takes a descriptor that cannot be read for one that has nothing to read.
+fn standard_input() -> io::Result<Vec<u8>> {
     let mut list = Vec::new();
     File::from(io::stdin().as_fd().try_clone_to_owned()?).read_to_end(&mut list)?;
     Ok(list)
@@ -70,7 +77,7 @@ fn read(file: &Path) -> io::Result<Vec<u8>> {
 fn keys(request: &Request) -> Result<Said, Failure> {
     let mut texts = Vec::new();
     for file in &request.files {
-        texts.push(read(file).map_err(|why| format!("{}: {why}", file.display()))?);
+        texts.push(read(file)?);
     }
     let mut lists = Vec::new();
     for (file, text) in request.files.iter().zip(&texts) {

@@ -1,5 +1,7 @@
 //! How a program ends: what it says is written whole, or its status and a line on standard error tell that it is not.
 
+pub mod closed;
+
 use std::fs::File;
 use std::io::{self, ErrorKind, Write};
 use std::os::fd::AsFd;
@@ -36,6 +38,9 @@ pub fn end(program: &str, said: Result<Said, Failure>) -> ExitCode {
         Ok(said) => said,
         Err(Failure { why, status }) => return failed(program, &why, status),
     };
+    if closed::output() {
+        return failed(program, "standard output is closed", FAILED);
+    }
     match write(text.as_bytes()) {
         Ok(()) => ExitCode::from(status),
         Err(why) if why.kind() == ErrorKind::BrokenPipe => ExitCode::from(CLOSED_PIPE),

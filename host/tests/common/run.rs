@@ -57,6 +57,14 @@ pub fn run_into(name: &str, words: &[impl AsRef<OsStr>], out: impl Into<Stdio>) 
     ended(start(&mut command).wait_with_output().expect("a program that ends"))
 }
 
+/// Runs an example by a shell's line, in which `"$@"` is the program with its words.
+pub fn run_by_shell(line: &str, name: &str, words: &[impl AsRef<OsStr>]) -> Ran {
+    let mut command = Command::new("sh");
+    command.args(["-c", line, "sh"]).arg(program(name).get_program()).args(words);
+    command.stdin(Stdio::null()).stdout(Stdio::piped()).stderr(Stdio::piped());
+    ended(start(&mut command).wait_with_output().expect("a program that ends"))
+}
+
 fn ended(output: std::process::Output) -> Ran {
     let text = |bytes| String::from_utf8(bytes).expect("UTF-8");
     Ran { status: output.status.code(), out: text(output.stdout), error: text(output.stderr) }
