@@ -1,7 +1,7 @@
 //! Finds libvaldrabus.a for the machine that is built for: the archive that VALDRABUS_ARCHIVE names, itself or by the folder that a package of
 //! `tools/archive --pack` unpacks to, else the one that tools/archive proves and makes in the repository that this crate stands in. A relative path counts
 //! from the repository's root, wherever cargo is called. An archive for another machine, a machine that there is none for, or a package that is not as its
-//! SHA256SUMS says, is told before anything is proved.
+//! SHA256SUMS says or is of another version than this crate, is told before anything is proved.
 
 use std::ffi::OsString;
 use std::fs::OpenOptions;
@@ -55,6 +55,9 @@ fn unsupported() -> String {
 fn named(root: &Path) -> Option<PathBuf> {
     let path = root.join(env::var_os("VALDRABUS_ARCHIVE").filter(|path| !path.is_empty())?);
     let archive = if path.is_dir() { packed(&path) } else { path };
+    if let Err(why) = fs::metadata(&archive) {
+        fail(&format!("VALDRABUS_ARCHIVE names {}, which cannot be read: {why}", archive.display()));
+    }
     println!("cargo:rerun-if-changed={}", archive.display());
     if let Some(due) = supported() {
         let found = machine_of(&archive);
@@ -68,7 +71,8 @@ fn named(root: &Path) -> Option<PathBuf> {
     Some(archive)
 }
 
-/// The archive of an unpacked package, which has to be whole: each file as SHA256SUMS says, the archive among them.
+/// The archive of an unpacked package, which has to be whole, each file as SHA256SUMS says, the archive among them; and of this crate's version: archives of
+/// two versions can have the same functions, and no linker tells them apart.
 fn packed(folder: &Path) -> PathBuf {
     const ARCHIVE: &str = "lib/libvaldrabus.a";
     let shown = folder.display();
@@ -79,7 +83,10 @@ fn packed(folder: &Path) -> PathBuf {
     }
     let check = Command::new("sha256sum").args(["-c", "SHA256SUMS"]).current_dir(folder).stdin(Stdio::null()).output();
     match check {
-        Ok(said) if said.status.success() => folder.join(ARCHIVE),
+        Ok(said) if said.status.success() => {
+            of_our_version(folder);
+            folder.join(ARCHIVE)
+        }
         Ok(said) => fail(&format!(
             "{shown} is not as its SHA256SUMS says: unpack the package anew\n{}{}",
             String::from_utf8_lossy(&said.stdout),
@@ -88,6 +95,22 @@ fn packed(folder: &Path) -> PathBuf {
         Err(why) => fail(&format!(
             "sha256sum, which holds {shown} to its SHA256SUMS, cannot be run ({why}): name {ARCHIVE} in it, to link that as it is"
         )),
+    }
+}
+
+/// Holds a package to this crate's version, by what its header says.
+fn of_our_version(folder: &Path) {
+    let header = folder.join("include/valdrabus.h");
+    let text = fs::read_to_string(&header)
+        .unwrap_or_else(|why| fail(&format!("{}, of a package, cannot be read: {why}", header.display())));
+    let told = text.lines().find_map(|line| line.strip_prefix("#define VALDRABUS_VERSION_TEXT "));
+    let found = told.map_or("none", |version| version.trim().trim_matches('"'));
+    let due = env!("CARGO_PKG_VERSION");
+    if found != due {
+        fail(&format!(
+            "VALDRABUS_ARCHIVE names the folder {}, a package of version {found}, and this crate is of version {due}: name a package of that version",
+            folder.display()
+        ));
     }
 }
 
