@@ -104,6 +104,22 @@ impl<T: ?Sized> AsRef<T> for Text<'_, '_, T> {
     }
 }
 
+/// As `str` is: so a text goes to what takes bytes, the writers among them.
+///
+/// ```
+/// use valdrabus::{Kind, Literal, to_escape};
+///
+/// let (row, mut out) = ("'Bob''s balm'", [0; 16]);
+/// let literal = Literal::whole(Kind::String, row).unwrap();
+/// assert_eq!(to_escape(literal.as_str(row, &mut out)?)?, r"E'Bob''s balm'");
+/// # Ok::<(), valdrabus::Error>(())
+/// ```
+impl AsRef<[u8]> for Text<'_, '_, str> {
+    fn as_ref(&self) -> &[u8] {
+        self.as_bytes()
+    }
+}
+
 /// Texts are found in a map by what they are.
 ///
 /// ```

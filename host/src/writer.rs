@@ -69,6 +69,17 @@ pub fn write_parts(
 /// # Ok::<(), valdrabus::Error>(())
 /// ```
 ///
+/// A `Cow`, which [`Literal::to_str`](crate::Literal::to_str) gives, is no `AsRef<[u8]>`: `&*` lends every writer the text in it.
+///
+/// ```
+/// use valdrabus::{Kind, Literal, Settings, to_escape, to_literal};
+/// let row = r"E'Bob\'s balm'";
+/// let name = Literal::whole(Kind::String, row).expect("a short row").to_str(row)?;
+/// assert_eq!(to_literal(&*name, Settings::STANDARD)?, "'Bob''s balm'");
+/// assert_eq!(to_escape(&*name)?, "E'Bob''s balm'");
+/// # Ok::<(), valdrabus::Error>(())
+/// ```
+///
 /// # Errors
 ///
 /// Tested in this order: [`Error::OverLimit`] (12), [`Error::NotUtf8`] (4), [`Error::HoldsNul`] (11).
@@ -135,7 +146,7 @@ pub fn write_unicode(value: impl AsRef<[u8]>, out: &mut [u8]) -> Result<&str, Er
     write(value.as_ref(), Spelling::Unicode, out)
 }
 
-/// As [`write_escape`], into a text of its own.
+/// As [`write_escape`], into a text of its own. Of a `Cow` it is lent `&*name`, as [`to_literal`] is.
 ///
 /// ```
 /// use valdrabus::{Error, to_escape};
@@ -151,7 +162,7 @@ pub fn to_escape(value: impl AsRef<[u8]>) -> Result<String, Error> {
     written(value.as_ref(), Spelling::Escape)
 }
 
-/// As [`write_unicode`], into a text of its own.
+/// As [`write_unicode`], into a text of its own. Of a `Cow` it is lent `&*name`, as [`to_literal`] is.
 ///
 /// ```
 /// use valdrabus::{Error, to_unicode};

@@ -95,3 +95,17 @@ fn nul_reads_back_where_it_can_be_written() {
     let literal = to_literal("a\0\0b", Settings::MYSQL).unwrap();
     assert_eq!(whole(Kind::String, &literal).to_str_in(&literal, Settings::MYSQL).unwrap(), "a\0\0b");
 }
+
+/// A text goes to the writers as it is, wherever it stands, and a `Cow` by `&*`.
+#[test]
+fn what_was_read_is_written_back() {
+    for (row, due) in [("'Balm'", "E'Balm'"), ("'it''s'", "E'it''s'")] {
+        let literal = whole(Kind::String, row);
+        let mut out = [0; 8];
+        let text = literal.as_str(row, &mut out).expect("a string");
+        assert_eq!(to_escape(text).as_deref(), Ok(due));
+        assert_eq!(to_escape(&*literal.to_str(row).expect("a string")).as_deref(), Ok(due));
+        let bytes = literal.in_bytes(row.as_bytes()).as_str(&mut out).expect("a string");
+        assert_eq!(to_escape(bytes).as_deref(), Ok(due));
+    }
+}
