@@ -93,7 +93,7 @@ pub use kinds::{BitStringRadix, Expected, IntervalFields, Kind, TimeZone};
 pub use literal::Literal;
 pub use owned_blocks::{BlockBuf, to_block, to_block_bytes};
 pub use packed::{Packed, to_bit_literal, write_bit_literal};
-pub use positions::Position;
+pub use positions::{InSource, Position};
 pub use settings::Settings;
 pub use span::{Span, TryFromRangeError};
 pub use texts::Text;

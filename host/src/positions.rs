@@ -96,7 +96,8 @@ impl Error {
         Position::of(source, byte)
     }
 
-    /// The refusal as it is shown, and behind it, if the source spans lines, its [position](Error::position).
+    /// The refusal as it is shown, and behind it, if the source spans lines, its [position](Error::position). Of a source of one line neither line nor column is shown: the refusal itself says
+    /// the bytes there; [`Error::position`] tells both all the same.
     ///
     /// ```
     /// use valdrabus::{Kind, Literal};
@@ -111,16 +112,32 @@ impl Error {
     /// let row = &dump[15..];
     /// let error = Literal::new(Kind::String, 4..16).to_str(row).unwrap_err();
     /// assert_eq!(error.in_source(row).to_string(), error.to_string());
+    /// assert_eq!(error.position(row).unwrap().to_string(), "line 1, column 9");
+    /// ```
+    ///
+    /// What is shown holds nothing of the source, which may change or end before.
+    ///
+    /// ```
+    /// use valdrabus::{Kind, Literal};
+    ///
+    /// let mut dump = "(1,\n'Balm)".to_owned();
+    /// let error = Literal::new(Kind::String, 4..10).to_str(&dump).unwrap_err();
+    /// let shown = error.in_source(&dump);
+    /// dump.clear();
+    /// assert!(shown.to_string().ends_with(", line 2, column 1"));
     /// ```
     #[must_use]
-    pub fn in_source(&self, source: impl AsRef<[u8]>) -> impl fmt::Display {
+    pub fn in_source(&self, source: impl AsRef<[u8]>) -> InSource {
         let source = source.as_ref();
         let spans_lines = (1..source.len()).any(|at| begins_line(source, at));
         InSource { error: *self, position: if spans_lines { self.position(source) } else { None } }
     }
 }
 
-struct InSource {
+/// A refusal as [`Error::in_source`] has it shown.
+// A type with a name: `impl Display` would hold the source's own type, and with it the source lent.
+#[derive(Clone, Copy, Debug, PartialEq, Eq, Hash)]
+pub struct InSource {
     error: Error,
     position: Option<Position>,
 }
