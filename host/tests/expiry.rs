@@ -4,6 +4,8 @@ mod common;
 #[allow(dead_code)] // what --help says is tested where it is run
 #[path = "../examples/expiry/help.rs"]
 mod help;
+#[path = "../examples/shared/named.rs"]
+mod named;
 #[allow(dead_code)] // how the program ends is tested where it is run
 #[path = "../examples/shared/out.rs"]
 mod out;
@@ -86,9 +88,20 @@ fn lines_that_are_no_rows_and_rows_that_are_refused() {
 
 #[test]
 fn lines_of_blanks_and_comments_behind_blanks_are_no_rows() {
-    for line in
-        ["", " ", "\t", " \t  ", "\r", "  \r", "--", "-- a\t'2024-01-02'", "  --", "\t--\t'2024-01-02'", " \t-- a\r"]
-    {
+    for line in [
+        "",
+        " ",
+        "\t",
+        " \t  ",
+        "\r",
+        "  \r",
+        "--",
+        "-- backslash maybe",
+        "-- a\t'2024-01-02'",
+        "  --",
+        "\t--\t'2024-01-02'",
+        " \t-- a\r",
+    ] {
         let list = format!("{line}\na\t'2024-01-02'\n{line}\nb\t'2024-01-03'\n{line}");
         let lines: Vec<usize> =
             stock::rows(list.as_bytes()).expect("a short list").iter().map(|row| row.line).collect();

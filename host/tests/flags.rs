@@ -1,12 +1,14 @@
 //! The example `flags`: a list of bit strings, packed and written back.
 
 mod common;
+#[path = "../examples/shared/named.rs"]
+mod named;
 #[path = "../examples/flags/report.rs"]
 mod report;
 #[path = "../examples/flags/rows.rs"]
 mod rows;
 
-use common::{places, read};
+use common::{places::lines, read};
 use rows::Refused;
 use valdrabus::{Error, Span};
 
@@ -41,4 +43,14 @@ fn lines_that_are_no_rows_and_rows_that_are_refused() {
         "{said}"
     );
     assert!(said.ends_with("\n2 packed, 9 bits in 2 bytes; 4 refused\n"), "{said}");
+}
+
+/// A bit string has no setting: what would be one in a list of strings is a comment as any other.
+#[test]
+fn a_comment_is_no_setting() {
+    for comment in ["-- backslash on", "-- backslash maybe", "--backslash", " \t-- Backslash", "--"] {
+        let list = format!("{comment}\na\tB'1'\n{comment}\r\nb\tX'1'");
+        let rows = rows::rows(list.as_bytes()).expect("a short list");
+        assert_eq!(rows.iter().map(|row| (row.line, row.flags.is_ok())).collect::<Vec<_>>(), [(2, true), (4, true)]);
+    }
 }

@@ -104,6 +104,7 @@ fn an_error_that_cannot_be_written() {
     }
 }
 
+/// The usage is said of a command line that cannot be read, and of nothing else.
 #[test]
 fn a_list_that_cannot_be_read() {
     for (name, words) in [("keys", &[][..]), ("block", &[]), ("expiry", &["2027-01-31"]), ("flags", &[])] {
@@ -113,8 +114,8 @@ fn a_list_that_cannot_be_read() {
             ("Cargo.toml/none", "Not a directory (os error 20)"),
         ] {
             let ran = run(name, &[words, &[list]].concat(), b"'a'\n");
-            assert_eq!((ran.status, &ran.out[..]), (Some(2), ""), "{name} {list}");
-            assert!(ran.error.starts_with(&format!("{name}: {list}: {why}\n")), "{}", ran.error);
+            let due = Ran { status: Some(2), out: String::new(), error: format!("{name}: {list}: {why}\n") };
+            assert_eq!(ran, due, "{name} {list}");
         }
         let ran = run(name, &["--no-option"], b"");
         assert_eq!((ran.status, &ran.out[..]), (Some(2), ""), "{name}");

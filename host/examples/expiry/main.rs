@@ -6,7 +6,8 @@
 //!
 //! DAY is `yyyy-mm-dd`. FILE has a product on each line: its name, a tab, and its expiry date as an SQL literal, in any spelling and joined from parts too.
 //! Lines end with LF, CR LF or CR. Empty lines, lines of blanks, and lines that begin with `--`, blanks before it or not, are no products. A byte order mark
-//! before the first line is passed over, and counts as a character of it. A product can be used up to its expiry day, that day included: it has expired by DAY if its own day is earlier.
+//! before the first line is passed over, and counts as a character of it. A product can be used up to its expiry day, that day included: it has expired by DAY if its
+//! own day is earlier.
 //!
 //! It prints each product with the number and the date of its day, the earliest first and those of one day as the list has them; then the rows that are
 //! refused, with the number and the place of the refusal, by line and column of the list; then how many there are of each.
@@ -16,6 +17,8 @@
 mod help;
 #[path = "../shared/lines.rs"]
 mod lines;
+#[path = "../shared/named.rs"]
+mod named;
 #[allow(dead_code)] // standard input is not read here
 #[path = "../shared/out.rs"]
 mod out;
