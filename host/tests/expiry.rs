@@ -147,6 +147,7 @@ fn the_command_line() {
     let expiry = |file: OsString| Ok(Asked::Expiry(Request { day, file: file.into() }));
     assert_eq!(asked(&["2027-01-31", "a b.txt"]), expiry("a b.txt".into()));
     assert_eq!(asked(&["--help"]), Ok(Asked::Help));
+    assert_eq!(asked(&["-h"]), Ok(Asked::Help));
     assert_eq!(asked(&["no day", "a", "--help"]), Ok(Asked::Help));
     let refused = |status, why: &str| Err(Failure { why: format!("{why}\n{USAGE}"), status });
     assert_eq!(asked(&[]), refused(2, "a day and a list are to be named, and not 0 words"));

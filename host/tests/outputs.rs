@@ -133,6 +133,7 @@ fn help() {
         ("flags", &["0", "1", "2", "141"]),
     ] {
         let ran = run(name, &["--help"], b"");
+        assert_eq!(run(name, &["-h"], b""), ran, "{name}");
         assert!(ran.out.contains(&format!("\nusage: {name} ")), "{}", ran.out);
         let (_, told) = ran.out.split_once("\nStatus:\n").expect("statuses");
         let numbers: Vec<&str> =

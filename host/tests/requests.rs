@@ -40,13 +40,13 @@ fn the_command_line() {
     assert_eq!(asked(&["--spell", "escape"]), Ok(Some((false, Which::All, false, Look::Escape, files(&["-"])))));
     let spelled = Ok(Some((false, Which::All, false, Look::Unicode, files(&["a", "b"]))));
     assert_eq!(asked(&["a", "--spell", "unicode", "b"]), spelled);
-    for words in [&["--help"][..], &["a", "--help", "--x"], &["--json", "--help"]] {
+    for words in [&["--help"][..], &["-h"], &["a", "--help", "--x"], &["--json", "--help"], &["--json", "-h"]] {
         assert_eq!(asked(words), Ok(None));
     }
     for words in [&["--spell"][..], &["--spell", "Escape"], &["--spell", "--", "escape"]] {
         assert_eq!(asked(words), Err(format!("--spell is followed by neither escape nor unicode\n{}", help::USAGE)));
     }
-    for option in ["-x", "--double", "--helps"] {
+    for option in ["-x", "--double", "--helps", "-hh", "--h"] {
         assert_eq!(asked(&["a", option]), Err(format!("no option {option}\n{}", help::USAGE)));
     }
 }
@@ -67,7 +67,7 @@ fn a_program_that_is_told_one_list() {
     for name in ["a b.txt", "./-x"] {
         assert_eq!(asked(&[name]), Ok(one_list::Asked::List(name.into())));
     }
-    for words in [&["--help"][..], &["a", "--help"]] {
+    for words in [&["--help"][..], &["-h"], &["a", "--help"], &["a", "-h"]] {
         assert_eq!(asked(words), Ok(one_list::Asked::Help));
     }
     for (words, why) in [
@@ -75,6 +75,7 @@ fn a_program_that_is_told_one_list() {
         (&["a", "b"], "one list is to be named, and not 2"),
         (&["a", "-x"], "no option -x"),
         (&["-x", "--help"], "no option -x"),
+        (&["-hh"], "no option -hh"),
         (&["-"], "no option -"),
     ] {
         assert_eq!(asked(words), Err(format!("{why}\nusage")));

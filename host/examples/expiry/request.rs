@@ -22,12 +22,12 @@ pub struct Request {
     pub file: PathBuf,
 }
 
-/// What is asked by these words, the program's own name left out. But for `--help` there is no option: another word that begins with `-` is refused, so that an
-/// option of another program is taken for no day.
+/// What is asked by these words, the program's own name left out. But for `--help`, or `-h`, there is no option: another word that begins with `-` is refused, so
+/// that an option of another program is taken for no day.
 pub fn asked(words: impl IntoIterator<Item = OsString>) -> Result<Asked, Failure> {
     let words: Vec<OsString> = words.into_iter().collect();
     match words.iter().find(|word| word.as_encoded_bytes().starts_with(b"-")) {
-        Some(option) if option == "--help" => return Ok(Asked::Help),
+        Some(option) if option == "--help" || option == "-h" => return Ok(Asked::Help),
         Some(option) => return Err(format!("no option {}\n{USAGE}", Path::new(option).display()).into()),
         None => {}
     }

@@ -11,7 +11,7 @@ usage: keys [--backslash] [--doubles] [--json] [--spell escape|unicode] [--] [FI
   --doubles    leaves out the rows that have a key and do not depend on the setting
   --json       says all as one JSON document, see below
   --spell      shows each key as a literal, E'..' (escape) or U&'..' (unicode); with a NUL it has none
-  --help       says this
+  --help, -h   says this
   --           ends the options
   FILE         a list; - is standard input, which is read too where no FILE is given.
                Several lists are compared as one.

@@ -27,7 +27,7 @@ pub fn asked(words: impl IntoIterator<Item = OsString>) -> Result<Asked, String>
     let mut words = words.into_iter();
     while let Some(word) = words.next() {
         match word.as_encoded_bytes() {
-            b"--help" => return Ok(Asked::Help),
+            b"--help" | b"-h" => return Ok(Asked::Help),
             b"--backslash" => request.settings = Settings::MYSQL,
             b"--doubles" => request.which = Which::Doubtful,
             b"--json" => request.json = true,

@@ -10,12 +10,12 @@ pub enum Asked {
     List(PathBuf),
 }
 
-/// What these words ask for, the program's own name left out. But for `--help` there is no option: another word that begins with `-` is refused, so that an
-/// option of another program is taken for no list.
+/// What these words ask for, the program's own name left out. But for `--help`, or `-h`, there is no option: another word that begins with `-` is refused, so
+/// that an option of another program is taken for no list.
 pub fn asked(words: impl IntoIterator<Item = OsString>, usage: &str) -> Result<Asked, String> {
     let words: Vec<OsString> = words.into_iter().collect();
     match words.iter().find(|word| word.as_encoded_bytes().starts_with(b"-")) {
-        Some(option) if option == "--help" => return Ok(Asked::Help),
+        Some(option) if option == "--help" || option == "-h" => return Ok(Asked::Help),
         Some(option) => return Err(format!("no option {}\n{usage}", Path::new(option).display())),
         None => {}
     }
