@@ -4,6 +4,9 @@ mod common;
 #[allow(dead_code)] // what --help says is tested where it is run
 #[path = "../examples/expiry/help.rs"]
 mod help;
+#[allow(dead_code)] // names of files are tested where the programs are run
+#[path = "../examples/shared/marked.rs"]
+mod marked;
 #[path = "../examples/shared/named.rs"]
 mod named;
 #[allow(dead_code)] // how the program ends is tested where it is run
@@ -138,6 +141,20 @@ fn lines_end_with_lf_cr_lf_or_cr() {
         assert_eq!(lines, [1, 3, 4], "{end:?}");
         assert!(said(list.as_bytes(), "2024-01-03").contains(", line 4, column 3\n1 expired by "), "{end:?}");
     }
+}
+
+/// A terminal obeys control characters: none is printed. Of a name beside a refusal forty characters are shown.
+#[test]
+fn names_that_are_no_plain_text() {
+    let long = "é".repeat(41);
+    let list =
+        format!("a\x1B[2J\u{9B}‹\t'2024-01-02'\n{long}\t'2024-01-03'\nb\x07\t''\n{long}\x01\n{}\t''\n", &long[2..]);
+    let said = said(list.as_bytes(), "2024-01-02");
+    let lines: Vec<&str> = said.lines().collect();
+    assert!(lines[0].ends_with("  a‹1B›[2J‹9B›‹2039›") && lines[1].ends_with(&format!("  {long}")), "{said}");
+    assert!(lines[2].starts_with("     3  refused: b‹07›: the text at "), "{said}");
+    assert_eq!(lines[3], format!("     4  refused: {}…: no tab stands between a name and a date", &long[2..]));
+    assert!(lines[4].starts_with(&format!("     5  refused: {}: the text at ", &long[2..])), "{said}");
 }
 
 #[test]

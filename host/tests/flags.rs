@@ -1,6 +1,9 @@
 //! The example `flags`: a list of bit strings, packed and written back.
 
 mod common;
+#[allow(dead_code)] // names of files are tested where the programs are run
+#[path = "../examples/shared/marked.rs"]
+mod marked;
 #[path = "../examples/shared/named.rs"]
 mod named;
 #[path = "../examples/flags/report.rs"]
@@ -53,4 +56,17 @@ fn a_comment_is_no_setting() {
         let rows = rows::rows(list.as_bytes()).expect("a short list");
         assert_eq!(rows.iter().map(|row| (row.line, row.flags.is_ok())).collect::<Vec<_>>(), [(2, true), (4, true)]);
     }
+}
+
+/// A terminal obeys control characters: none is printed. Of a name beside a refusal forty characters are shown.
+#[test]
+fn names_that_are_no_plain_text() {
+    let long = "é".repeat(41);
+    let list = format!("a\x1B[2J\u{9B}‹\tB'1'\n{long}\tB'1'\nb\x07\tB'2'\n{long}\x01\n{}\t\n", &long[2..]);
+    let said = report::report(list.as_bytes(), &rows::rows(list.as_bytes()).expect("a short list"));
+    let lines: Vec<&str> = said.lines().collect();
+    assert!(lines[0].ends_with("  a‹1B›[2J‹9B›‹2039›") && lines[1].ends_with(&format!("  {long}")), "{said}");
+    assert!(lines[2].starts_with("     3  refused: b‹07›: the text at "), "{said}");
+    assert_eq!(lines[3], format!("     4  refused: {}…: no tab stands between a name and its flags", &long[2..]));
+    assert!(lines[4].starts_with(&format!("     5  refused: {}: the text at ", &long[2..])), "{said}");
 }

@@ -14,6 +14,8 @@ mod help;
 #[allow(dead_code)] // the rows are read here by one call
 #[path = "../keys/list.rs"]
 mod list;
+#[path = "../shared/marked.rs"]
+mod marked;
 mod one_call;
 #[path = "../shared/one_list.rs"]
 mod one_list;

@@ -10,6 +10,8 @@ usage: expiry DAY FILE
 DAY is yyyy-mm-dd. A list has on each line a name, a tab and an SQL date literal. A line ends with
 LF, CR LF or CR; a byte order mark at the list's start, blank lines and lines that begin with -- are
 passed over. A product can be used up to its expiry day, that day included.
+Control characters of a name are shown by their numbers, as ‹0A›; of a long name that is refused
+the first 40 characters are shown.
 
 Status:
   0    each row has a day

@@ -17,6 +17,8 @@
 mod help;
 #[path = "../shared/lines.rs"]
 mod lines;
+#[path = "../shared/marked.rs"]
+mod marked;
 #[path = "../shared/named.rs"]
 mod named;
 #[allow(dead_code)] // standard input is not read here

@@ -1,5 +1,7 @@
 //! What is said of a list's rows.
 
+use crate::marked::marked;
+use crate::named::shortened;
 use crate::stock::{Refused, Row};
 use std::fmt::Write;
 use valdrabus::Date;
@@ -11,13 +13,15 @@ pub fn report(list: &[u8], rows: &[Row<'_>], by: Date) -> String {
     // The sort is stable: products of one day stay as the list has them.
     days.sort_by_key(|(day, _)| *day);
     for (day, name) in &days {
+        let name = marked(name.as_bytes());
         let mark = if *day < by { "expired" } else { "" };
         writeln!(text, "{:7}  {day}  {mark:7}  {name}", day.day_number()).expect("a String takes all");
     }
     let mut refused = 0;
     for row in rows {
         let Err(why) = row.expiry else { continue };
-        writeln!(text, "{:6}  refused: {}: {}", row.line, row.name, told(why, list)).expect("a String takes all");
+        writeln!(text, "{:6}  refused: {}: {}", row.line, shortened(&row.name), told(why, list))
+            .expect("a String takes all");
         refused += 1;
     }
     let expired = days.iter().filter(|(day, _)| *day < by).count();

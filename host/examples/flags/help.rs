@@ -8,6 +8,8 @@ flags packs the bit strings of a list, and shows the literals that they are writ
 usage: flags FILE
 A list has on each line a name, a tab and a bit string, B'..' or X'..'. A line ends with LF, CR LF
 or CR; a byte order mark at the list's start, blank lines and lines that begin with -- are passed over.
+Control characters of a name are shown by their numbers, as ‹0A›; of a long name that is refused
+the first 40 characters are shown.
 
 Status:
   0    each row has flags

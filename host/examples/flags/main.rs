@@ -13,6 +13,8 @@
 mod help;
 #[path = "../shared/lines.rs"]
 mod lines;
+#[path = "../shared/marked.rs"]
+mod marked;
 #[path = "../shared/named.rs"]
 mod named;
 #[path = "../shared/one_list.rs"]

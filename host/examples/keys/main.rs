@@ -37,6 +37,8 @@ mod document;
 mod help;
 mod json;
 mod list;
+#[path = "../shared/marked.rs"]
+mod marked;
 #[path = "../shared/out.rs"]
 mod out;
 mod places;

@@ -1,10 +1,7 @@
 //! A row that is refused, with a mark under the place where it cannot be read.
 
-use crate::shown::{marked, marked_bytes};
+use crate::marked::{SHOWN, by_number, left_out, marked};
 use valdrabus::Error;
-
-/// How many characters of a row are shown on each side of the place: a terminal's line holds them.
-const SHOWN: usize = 40;
 
 /// The byte of a refused row that cannot be read: where reading stops, or in a row that is not UTF-8 the first one that UTF-8 does not allow there.
 pub fn place(row: &[u8], error: &Error) -> Option<usize> {
@@ -45,6 +42,15 @@ fn by_bytes(row: &[u8], place: usize) -> Option<(String, String)> {
     Some((before, behind))
 }
 
-fn left_out(some: bool) -> &'static str {
-    if some { "…" } else { "" }
+/// A text that is not UTF-8, byte by byte: those of ASCII that are no control characters as they are, all others by their numbers.
+fn marked_bytes(text: &[u8]) -> String {
+    let mut shown = String::new();
+    for &byte in text {
+        if matches!(byte, b' '..=b'~') {
+            shown.push(char::from(byte));
+        } else {
+            by_number(&mut shown, u32::from(byte));
+        }
+    }
+    shown
 }

@@ -2,9 +2,10 @@
 
 use crate::counts::Counts;
 use crate::list::{List, Row, opposite};
+use crate::marked::marked;
 use crate::pointed::pointed_out;
 use crate::products::{Product, Spot};
-use crate::shown::{Look, marked, shown};
+use crate::shown::{Look, shown};
 use std::fmt::Write;
 use valdrabus::Settings;
 

@@ -1,6 +1,6 @@
 //! Keys and literals as they can stand in a line.
 
-use std::fmt::Write;
+use crate::marked::marked;
 use valdrabus::{to_escape, to_unicode};
 
 /// How keys are shown.
@@ -34,34 +34,4 @@ pub fn spelled(key: &[u8], look: Look) -> Option<String> {
 /// Whether a key holds a control character that E leaves as it is: 7F to 9F hex.
 fn leaves_control(key: &[u8]) -> bool {
     String::from_utf8_lossy(key).chars().any(|next| next.is_control() && next >= '\x7F')
-}
-
-/// Control characters by their numbers, between marks. The opening mark is shown so too, so that no two keys look alike.
-pub fn marked(text: &[u8]) -> String {
-    let mut shown = String::new();
-    for next in String::from_utf8_lossy(text).chars() {
-        if next.is_control() || next == '‹' {
-            by_number(&mut shown, u32::from(next));
-        } else {
-            shown.push(next);
-        }
-    }
-    shown
-}
-
-/// A text that is not UTF-8, byte by byte: those of ASCII that are no control characters as they are, all others by their numbers.
-pub fn marked_bytes(text: &[u8]) -> String {
-    let mut shown = String::new();
-    for &byte in text {
-        if matches!(byte, b' '..=b'~') {
-            shown.push(char::from(byte));
-        } else {
-            by_number(&mut shown, u32::from(byte));
-        }
-    }
-    shown
-}
-
-fn by_number(shown: &mut String, number: u32) {
-    write!(shown, "‹{number:02X}›").expect("a String takes all");
 }

@@ -1,6 +1,7 @@
 //! The rows of a list of products by name: on each line a name, a tab and a literal.
 
 use crate::lines::lines;
+use crate::marked::{SHOWN, left_out, marked};
 use std::borrow::Cow;
 use std::ops::Range;
 use valdrabus::Span;
@@ -10,6 +11,12 @@ pub struct Named<'s> {
     pub line: usize,
     pub name: Cow<'s, str>,
     pub literal: Option<Span>,
+}
+
+/// A name as it is shown beside a refusal: of a long one, which can be a whole row without a tab, the beginning.
+pub fn shortened(name: &str) -> String {
+    let end = name.char_indices().nth(SHOWN).map_or(name.len(), |(at, _)| at);
+    marked(&name.as_bytes()[..end]) + left_out(end < name.len())
 }
 
 /// Finds each row; none where the list is longer than a span can say. A name that is not UTF-8 is shown as far as it is.

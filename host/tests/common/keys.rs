@@ -13,6 +13,8 @@ pub mod decomposed;
 pub mod help;
 #[path = "../../examples/keys/list.rs"]
 pub mod list;
+#[path = "../../examples/shared/marked.rs"]
+pub mod marked;
 #[path = "../../examples/block/one_call.rs"]
 pub mod one_call;
 #[path = "../../examples/keys/pointed.rs"]
