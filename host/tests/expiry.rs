@@ -4,7 +4,6 @@ mod common;
 #[allow(dead_code)] // what --help says is tested where it is run
 #[path = "../examples/expiry/help.rs"]
 mod help;
-#[allow(dead_code)] // names of files are tested where the programs are run
 #[path = "../examples/shared/marked.rs"]
 mod marked;
 #[path = "../examples/shared/named.rs"]

@@ -1,7 +1,7 @@
 //! The example `flags`: a list of bit strings, packed and written back.
 
 mod common;
-#[allow(dead_code)] // names of files are tested where the programs are run
+#[allow(dead_code)] // words of the command line are tested where the programs are run
 #[path = "../examples/shared/marked.rs"]
 mod marked;
 #[path = "../examples/shared/named.rs"]

@@ -123,6 +123,28 @@ fn a_list_that_cannot_be_read() {
     }
 }
 
+/// A terminal obeys control characters: names and words are said with these by their numbers.
+#[test]
+fn a_name_with_control_characters() {
+    let (name, shown) = ("no\n\x1B[2J\u{9B}ne", "no‹0A›‹1B›[2J‹9B›ne");
+    for (program, words) in [("keys", &[][..]), ("block", &[]), ("expiry", &["2027-01-31"]), ("flags", &[])] {
+        let error = run(program, &[words, &[name]].concat(), b"").error;
+        assert_eq!(error, format!("{program}: {shown}: No such file or directory (os error 2)\n"));
+        let error = run(program, &[format!("--{name}")], b"").error;
+        assert!(error.starts_with(&format!("{program}: no option --{shown}\nusage: {program} ")), "{error}");
+    }
+    let error = run("expiry", &[name, "lists/expiry.txt"], b"").error;
+    assert!(error.starts_with(&format!("expiry: {shown}: not a date, ")), "{error}");
+    let list = file(&format!("outputs {name}"), b"-- backslash\x1B\n");
+    for program in ["keys", "block"] {
+        let error = run(program, &[&list], b"").error;
+        let due = format!(
+            "outputs {shown}: line 1: \"-- backslash\\u{{1b}}\" is neither -- backslash on nor -- backslash off\n"
+        );
+        assert!(error.ends_with(&due), "{error}");
+    }
+}
+
 /// Each says its usage and every status that it has, on lines that a terminal holds.
 #[test]
 fn help() {

@@ -45,7 +45,7 @@ use std::process::ExitCode;
 
 /// Says all of the list that is named.
 fn block(file: &Path) -> Result<Said, Failure> {
-    let place = |why: &dyn std::fmt::Display| format!("{}: {why}", file.display());
+    let place = |why: &dyn std::fmt::Display| format!("{}: {why}", marked::word(file));
     let text = std::fs::read(file).map_err(|why| place(&why))?;
     let reading = one_call::read(&text).map_err(|why| place(&why))?;
     let lists = std::slice::from_ref(&reading.list);

@@ -1,9 +1,10 @@
 //! What the command line asks for.
 
 use crate::help::USAGE;
+use crate::marked;
 use crate::out::Failure;
 use std::ffi::{OsStr, OsString};
-use std::path::{Path, PathBuf};
+use std::path::PathBuf;
 use valdrabus::Date;
 
 /// The status of a day that is none.
@@ -28,7 +29,7 @@ pub fn asked(words: impl IntoIterator<Item = OsString>) -> Result<Asked, Failure
     let words: Vec<OsString> = words.into_iter().collect();
     match words.iter().find(|word| word.as_encoded_bytes().starts_with(b"-")) {
         Some(option) if option == "--help" || option == "-h" => return Ok(Asked::Help),
-        Some(option) => return Err(format!("no option {}\n{USAGE}", Path::new(option).display()).into()),
+        Some(option) => return Err(format!("no option {}\n{USAGE}", marked::word(option)).into()),
         None => {}
     }
     match <[OsString; 2]>::try_from(words) {
@@ -42,5 +43,5 @@ pub fn asked(words: impl IntoIterator<Item = OsString>) -> Result<Asked, Failure
 
 fn day(word: &OsStr) -> Result<Date, Failure> {
     let text = word.to_string_lossy();
-    text.parse().map_err(|why| Failure { why: format!("{text}: {why}\n{USAGE}"), status: NO_DAY })
+    text.parse().map_err(|why| Failure { why: format!("{}: {why}\n{USAGE}", marked::word(word)), status: NO_DAY })
 }

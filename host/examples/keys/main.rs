@@ -65,7 +65,7 @@ fn read(file: &Path) -> Result<Vec<u8>, String> {
         return Err("standard input is closed".to_owned());
     }
     let list = if is_input { standard_input() } else { std::fs::read(file) };
-    list.map_err(|why| format!("{}: {why}", file.display()))
+    list.map_err(|why| format!("{}: {why}", marked::word(file)))
 }
 
 /// It goes past `Stdin`, which takes a descriptor that cannot be read for one that has nothing to read.
@@ -84,7 +84,7 @@ fn keys(request: &Request) -> Result<Said, Failure> {
     let mut lists = Vec::new();
     for (file, text) in request.files.iter().zip(&texts) {
         let name = file.display().to_string();
-        let rows = list::rows(text, request.settings).map_err(|why| format!("{name}: {why}"))?;
+        let rows = list::rows(text, request.settings).map_err(|why| format!("{}: {why}", marked::word(file)))?;
         lists.push(List { name, rows });
     }
     Ok(said(request, &lists))

@@ -1,6 +1,7 @@
 //! What the command line asks for.
 
 use crate::help::USAGE;
+use crate::marked;
 use crate::report::Which;
 use crate::shown::Look;
 use std::ffi::{OsStr, OsString};
@@ -33,7 +34,7 @@ pub fn asked(words: impl IntoIterator<Item = OsString>) -> Result<Asked, String>
             b"--json" => request.json = true,
             b"--spell" => request.look = look(words.next().as_deref())?,
             b"--" => request.files.extend(words.by_ref().map(PathBuf::from)),
-            [b'-', _, ..] => return Err(format!("no option {}\n{USAGE}", PathBuf::from(word).display())),
+            [b'-', _, ..] => return Err(format!("no option {}\n{USAGE}", marked::word(word))),
             _ => request.files.push(word.into()),
         }
     }

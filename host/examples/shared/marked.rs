@@ -1,5 +1,6 @@
 //! Texts as they can stand in a line, whatever they hold: a terminal obeys control characters.
 
+use std::ffi::OsStr;
 use std::fmt::Write;
 
 /// How many characters are shown of a text, or on each side of a place in it, where the whole may be long: a terminal's line holds them.
@@ -16,6 +17,11 @@ pub fn marked(text: &[u8]) -> String {
         }
     }
     shown
+}
+
+/// A word of the command line, or a file's name, likewise: what stands there need not be what its user typed.
+pub fn word(word: impl AsRef<OsStr>) -> String {
+    marked(word.as_ref().as_encoded_bytes())
 }
 
 pub fn by_number(shown: &mut String, number: u32) {

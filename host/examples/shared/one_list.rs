@@ -1,7 +1,8 @@
 //! The command line of a program that is told one list.
 
+use crate::marked;
 use std::ffi::OsString;
-use std::path::{Path, PathBuf};
+use std::path::PathBuf;
 
 /// What is asked.
 #[derive(Debug, PartialEq)]
@@ -16,7 +17,7 @@ pub fn asked(words: impl IntoIterator<Item = OsString>, usage: &str) -> Result<A
     let words: Vec<OsString> = words.into_iter().collect();
     match words.iter().find(|word| word.as_encoded_bytes().starts_with(b"-")) {
         Some(option) if option == "--help" || option == "-h" => return Ok(Asked::Help),
-        Some(option) => return Err(format!("no option {}\n{usage}", Path::new(option).display())),
+        Some(option) => return Err(format!("no option {}\n{usage}", marked::word(option))),
         None => {}
     }
     match <[OsString; 1]>::try_from(words) {
