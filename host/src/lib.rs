@@ -39,8 +39,8 @@
 //!
 //! # Building
 //!
-//! The code that decodes is the archive `libvaldrabus.a`, on Linux on x86-64 or Arm. Where the environment's `VALDRABUS_ARCHIVE` names one, it is linked; else `tools/archive` makes it, in the
-//! repository that this crate stands in, which proves the code and takes some minutes. A relative path counts from the root of that repository, the folder that this crate's own stands in.
+//! The code that decodes is the archive `libvaldrabus.a`, on Linux on x86-64 or Arm. Where the environment's `VALDRABUS_ARCHIVE` names one, itself or by the folder that a package of this crate's
+//! version unpacks to, it is linked; else `tools/archive` makes it, in the repository that this crate stands in, which proves the code and takes some minutes. A relative path counts from the root of that repository, the folder that this crate's own stands in.
 
 #![deny(missing_docs)]
 #![deny(unsafe_op_in_unsafe_fn)]
