@@ -212,7 +212,7 @@ uint32_t valdrabus_as_temporal_text(uint32_t kind, uint32_t synthetic, uint32_t 
    Each literal gets the answer of valdrabus_as_str_in with the room that those before it left: 1, 3, 4, 6, 9, 10. Written texts stand one behind the other. A borrowed or refused
    one takes no room, and no refusal ends the block: behind a 9 a shorter one may still be written. The call itself gives 0, or 15 with neither answers nor buffer changed.
 
-   A buffer as long as the items' spans together always has room: no value is longer than its text less two bytes.
+   A buffer as long as the items' spans together, up to 4294967295 bytes, always has room: no value is longer than its text less two bytes.
 
    For the source 'it','a''b' (11 bytes) and a buffer of 64, this answers 0 1 1 2 and 0 2 0 3, and the buffer begins with a'b:
 

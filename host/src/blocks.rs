@@ -17,7 +17,8 @@ pub const LONGEST_BUFFER: usize = 4_294_967_295;
 /// Each item gets the answer of [`Literal::as_str_in`](crate::Literal::as_str_in) with the room that those before it left in the buffer. Written texts stand there one behind the other. A
 /// borrowed or refused item takes no room, and no refusal ends the block: behind one that has no room, a shorter one may still be written. Answers past the items stay as they were lent.
 ///
-/// A buffer as long as the items' spans together always has room, and two bytes less for each item suffice: no value is longer than its text less two bytes, whatever the spelling.
+/// A buffer as long as the items' spans together, up to [`LONGEST_BUFFER`], always has room, and two bytes less for each item that has as many suffice: no value is longer than its text less two
+/// bytes, whatever the spelling.
 ///
 /// ```
 /// use valdrabus::{Error, Item, Kind, Literal, Settings, Text, Told, read_block};

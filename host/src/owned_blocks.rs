@@ -10,7 +10,7 @@ use std::fmt;
 /// As [`read_block`](crate::read_block), with memory of its own for answers and written texts, so that no item is refused by [`Error::NoRoom`] (9).
 ///
 /// It asks without a buffer first, which is all that rows of plain literals need; where texts are to be written, it asks again with a buffer that just holds them. That is never longer than the
-/// items' texts together, less two bytes for each: who lends such a buffer to [`read_block`](crate::read_block) asks once.
+/// items' texts together, less two bytes for each that has as many: who lends such a buffer to [`read_block`](crate::read_block) asks once.
 ///
 /// ```
 /// use valdrabus::{Item, Kind, Literal, Text, to_block};

@@ -96,6 +96,16 @@ pub(crate) fn line_of(line: &[u8]) -> Line {
     trimmed_line(trimmed(line))
 }
 
+// Whether the beginning of a line leaves open that the whole line is a setting: blanks alone, the first dash of a comment, or a comment whose first word is not
+// there whole.
+pub(crate) fn may_set(line: &[u8]) -> bool {
+    let text = trimmed(line);
+    if text.len() < 2 {
+        return starts_at(b"-", 0, text);
+    }
+    starts_at(text, 0, b"--") & (trimmed(part_of(text, 2, text.len())).len() < 9)
+}
+
 // A list's first line without the byte order mark that editors put there: with it the first row would be no string. Of a later line it is a part.
 pub(crate) fn without_order_mark(line: &[u8], lines_before: usize) -> &[u8] {
     if lines_before != 0 {

@@ -5,6 +5,7 @@ use crate::answers::whole;
 use crate::kept::keep;
 use crate::lines::Line;
 use crate::lines::line_of;
+use crate::lines::may_set;
 use crate::lines::without_order_mark;
 use crate::said::say;
 use crate::said::say_line;
@@ -124,11 +125,14 @@ fn unread(bytes: usize, state: State) -> State {
     after
 }
 
-// What a line that fills the window and goes on is, by its beginning. A setting cannot be told from it, nor whether blanks are all that it holds.
+// What a line that fills the window and goes on is, by its beginning. Where that may be a setting's, no row behind it has a meaning.
 fn after_begun(line: &[u8], state: State) -> State {
+    if may_set(line) {
+        return no_setting(b"a line that fills the window", state);
+    }
     match line_of(line) {
         Line::Row => unread(line.len(), state),
-        Line::Blank => unread(line.len(), state),
+        Line::Blank => state,
         Line::Passed => state,
         Line::Backslash(_) => no_setting(b"a line that fills the window", state),
         Line::NoSetting => no_setting(b"a line that fills the window", state),

@@ -116,7 +116,7 @@ end, the output cannot be written, or a word is not understood; then standard er
 }
 
 // The program. Its words are those behind its name, each ended by a 0 byte; its result is the status to end with.
-// Rules out: the list read for a wrong word; a wrong word answered as --help (must-fail: work_for_a_wrong_word, help_for_a_wrong_word).
+// Rules out: a wrong word that ends with the list's status; one that ends with that of --help (must-fail: work_for_a_wrong_word, help_for_a_wrong_word).
 #[no_mangle]
 pub extern "C" fn valdrabus_keys(words: &[u8]) -> u32
     ensures { λ r. ⌜ Ends 3 (askedOf (now (words .entry))) r ⌝ }

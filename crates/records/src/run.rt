@@ -165,7 +165,7 @@ error says which.
 }
 
 // The program. Its words are those behind its name, each ended by a 0 byte; its result is the status to end with.
-// Rules out: records answered for a wrong word; a wrong word answered as --help (must-fail: work_for_a_wrong_word, help_for_a_wrong_word).
+// Rules out: a wrong word that ends with the records' status; one that ends with that of --help (must-fail: work_for_a_wrong_word, help_for_a_wrong_word).
 #[no_mangle]
 pub extern "C" fn valdrabus_litrec(words: &[u8]) -> u32
     ensures { λ r. ⌜ Ends 2 (askedOf (now (words .entry))) r ⌝ }
