@@ -10,8 +10,8 @@
 // other setting is told with what it means there: a wrong setting gives no other sign.
 //
 // The list is read through a window of 524,288 bytes, and 32,768 rows and 524,288 bytes of keys are kept for comparing: a row that fills the window is told
-// by its line; a row behind those that are kept is told with its key and not compared, and the end says from which line on. Where reading fails, the
-// program says behind which line.
+// by its line, and a line that fills it and may yet be a setting ends the reading; a row behind those that are kept is told with its key and not compared, and
+// the end says from which line on. Where reading fails, the program says behind which line.
 use crate::doubled::Counts;
 use crate::doubled::for_rows;
 use crate::doubled::report;
