@@ -12,7 +12,8 @@ use Rattle.meaning.specs.declared.Literal.{Literal}
 use Rattle.meaning.specs.declared.Refusal.TheVariants.{WrongKind, MissingSource, InvalidSourceRange, NotUtf8}
 use Rattle.meaning.specs.Chars.{utf8}
 use Rattle.meaning.specs.declared.Refusal.{Refusal}
-use Rattle.meaning.specs.Bytes.{if◌then◌else◌, part}
+use Rattle.meaning.specs.Bytes.{part}
+use Rattle.std.specs.Prelude.{if◌then◌else◌}
 use Rattle.meaning.specs.Questions.{passes, barred, bad_span, source_text, tested}
 use Rattle.meaning.specs.Questions as Definition
 use Rattle.laws.proofs.basics.Tests.{and_left, and_right}

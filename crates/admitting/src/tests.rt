@@ -8,7 +8,7 @@ use meaning::{Literal, LiteralExpected, Refusal, Span};
 use utf8::check::is_utf8;
 
 // The text of a literal, from a place of the source up to another; or why there is none.
-#[derive(Drop)]
+#[derive(Clone, Copy)]
 pub enum Tested {
     Passes { start: usize, end: usize },
     Barred(Refusal),

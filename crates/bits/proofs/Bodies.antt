@@ -8,7 +8,8 @@ use lib.Dec.{eqb}
 use lib.ListN.{length, take, drop, get_or, length-take, length-drop}
 use lib.Seq.{get_or-drop, get_or-take}
 use Rattle.meaning.specs.declared.Settings.{Settings}
-use Rattle.meaning.specs.Bytes.{if◌then◌else◌, ◌!◌, part, ascii, has, quote, is_mark, all_digits}
+use Rattle.meaning.specs.Bytes.{◌!◌, part, ascii, has, quote, is_mark, all_digits}
+use Rattle.std.specs.Prelude.{if◌then◌else◌}
 use Rattle.meaning.specs.Walk.{Step, keep, give, stop, Trace, ended, stopped, kept, gave, after, walk, stops, value}
 use Rattle.meaning.specs.Cutting.{opening, segment, segment_by, segment_step}
 use Rattle.meaning.specs.Reading.{means, fails, each}

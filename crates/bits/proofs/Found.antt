@@ -10,7 +10,8 @@ use lib.ListN.{length, take, drop, get_or, length-append, length-take, length-dr
 use lib.Seq.{drop-drop}
 use borrow.Author.Tests.{not-true, not-false, eqb-true, eq-eqb}
 use Rattle.meaning.specs.declared.Settings.{Settings}
-use Rattle.meaning.specs.Bytes.{if◌then◌else◌, part, ascii, has, all_digits}
+use Rattle.meaning.specs.Bytes.{part, ascii, has, all_digits}
+use Rattle.std.specs.Prelude.{if◌then◌else◌}
 use Rattle.meaning.specs.Walk.{give, stop, gave, walk, stops}
 use Rattle.meaning.specs.Cutting.{segment_step, cut}
 use Rattle.meaning.specs.Reading.{borrowed, written, refused, Value, means, fails, onward, both, each, as_written}

@@ -12,7 +12,8 @@ use lib.ListN.{length, get_or, take, drop, set, length-append, length-drop}
 use lib.Seq.{get_or-drop, drop-cons, drop-drop}
 use Rattle.meaning.specs.declared.BitStringRadix.{BitStringRadix}
 use Rattle.meaning.specs.declared.BitStringRadix.TheVariants.{Binary, Hex}
-use Rattle.meaning.specs.Bytes.{if◌then◌else◌, within, digit, number}
+use Rattle.meaning.specs.Bytes.{within, digit, number}
+use Rattle.std.specs.Prelude.{if◌then◌else◌}
 use Rattle.meaning.specs.Packing.{bits_of_number, spread, gathered, bits_in, radix_bits, packed_length}
 use Rattle.laws.proofs.basics.Tests.{within_bounds}
 use Rattle.laws.proofs.basics.Digits.{DigitsTo, number_suc}

@@ -10,7 +10,8 @@ use lib.ListN.{length, take, drop, length-drop, drop_of_length-le}
 use lib.Seq.{drop-drop}
 use Rattle.meaning.specs.declared.Settings.{Settings}
 use Rattle.meaning.specs.declared.BitStringRadix.{BitStringRadix}
-use Rattle.meaning.specs.Bytes.{if◌then◌else◌, part}
+use Rattle.meaning.specs.Bytes.{part}
+use Rattle.std.specs.Prelude.{if◌then◌else◌}
 use Rattle.meaning.specs.Walk.{give, stop, gave, walk, stops, value}
 use Rattle.meaning.specs.Reading.{Value, value_of, means}
 use Rattle.meaning.specs.Kinds.{bits}

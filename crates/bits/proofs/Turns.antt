@@ -9,7 +9,8 @@ use lib.Dec.{eqb}
 use lib.ListN.{length, take, drop, get_or}
 use borrow.Author.Tests.{not-true, not-false, le-leb}
 use Rattle.meaning.specs.declared.Settings.{Settings}
-use Rattle.meaning.specs.Bytes.{if◌then◌else◌, part, all_digits}
+use Rattle.meaning.specs.Bytes.{part, all_digits}
+use Rattle.std.specs.Prelude.{if◌then◌else◌}
 use Rattle.meaning.specs.Walk.{give, walk}
 use Rattle.meaning.specs.Cutting.{segment_step, cut}
 use Rattle.meaning.specs.Reading.{means, fails, each}

@@ -12,7 +12,8 @@ use borrow.Author.Tests.{not-true, not-false, eq-eqb, ne_eqb, le-leb}
 use Rattle.meaning.specs.declared.Settings.{Settings}
 use Rattle.meaning.specs.declared.Read.{Read}
 use Rattle.meaning.specs.declared.Read.TheVariants as Read'
-use Rattle.meaning.specs.Bytes.{if◌then◌else◌, part, ascii, has, all_digits}
+use Rattle.meaning.specs.Bytes.{part, ascii, has, all_digits}
+use Rattle.std.specs.Prelude.{if◌then◌else◌}
 use Rattle.meaning.specs.Walk.{give, stop, gave, walk, stops}
 use Rattle.meaning.specs.Cutting.{segment_step, cut}
 use Rattle.meaning.specs.Reading.{Answer, borrowed, written, refused, Value, means, fails, onward, both, each, as_written}

@@ -8,7 +8,7 @@ use leaves::bytes::byte_at;
 use meaning::Settings;
 
 // The first segment's digits from one place to another, those of the segments from a third place on, and how many these are; or the place of a refusal.
-#[derive(Drop)]
+#[derive(Clone, Copy)]
 pub(crate) enum Digits {
     Found {
         from: usize,

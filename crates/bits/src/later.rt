@@ -13,7 +13,7 @@ use leaves::puts::put_bytes;
 use meaning::Settings;
 
 // How many digits the later segments have, or the place of the first that is refused.
-#[derive(Drop)]
+#[derive(Clone, Copy)]
 pub(crate) enum Later {
     Length(usize),
     Refused(usize),

@@ -1,4 +1,6 @@
 // [01 Numbers and the other kinds; 02 T-07] Reading bit strings from a bare text, as digits and as packed bytes. Each public function answers for every input.
+#![tactic(auto)]
+
 mod digits;
 mod finding;
 mod later;

@@ -13,7 +13,7 @@ use cutting::cursor::{Cursor, Next};
 use meaning::{BitStringRadix, Settings};
 
 // So many bytes at the buffer's start, and the digits that they hold; that the text is refused; or the length for which there is no room.
-#[derive(Drop)]
+#[derive(Clone, Copy)]
 pub enum Packed {
     Written { len: usize, digits: usize },
     Refused,

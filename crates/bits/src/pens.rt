@@ -9,7 +9,7 @@ use leaves::digits::hex_value;
 use meaning::BitStringRadix;
 
 // The place of the byte at hand, its bits so far as a number, and how many are missing: 8 of a fresh one.
-#[derive(Drop)]
+#[derive(Clone, Copy)]
 pub(crate) struct Pen {
     pub at: usize,
     pub byte: u8,

@@ -11,7 +11,7 @@ use strings::plain::is_plain_ascii;
 use strings::reading::{Checked, read_string};
 
 // What is told of an item, and how many bytes of the room it takes.
-#[derive(Drop)]
+#[derive(Clone, Copy)]
 pub(crate) struct Told {
     pub four: Four,
     pub took: usize,

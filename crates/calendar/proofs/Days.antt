@@ -7,7 +7,8 @@ use native.Mathlib.Omega.{arith}
 use borrow.Author.Tests.{eqb-true, eqb-false, ltb-true, ltb-false}
 use lib.Dec.{eqb, ltb}
 use Rattle.meaning.specs.declared.Day.TheVariants as Day'
-use Rattle.meaning.specs.Bytes.{if◌then◌else◌, within, has}
+use Rattle.meaning.specs.Bytes.{within, has}
+use Rattle.std.specs.Prelude.{if◌then◌else◌}
 use Rattle.meaning.specs.Dates.{is_leap, length_by, month_length, year_length, before, day_number, is_day, calendar_day}
 use Rattle.laws.proofs.basics.Tests.{within_below, within_above}
 use Rattle.laws.proofs.dates.Calendar.{IsDay, day_is}

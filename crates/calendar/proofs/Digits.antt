@@ -8,7 +8,8 @@ use borrow.Author.Tests.{eq-eqb, ne_eqb, lt-ltb, le-ltb, ltb-true, ltb-false}
 use lib.Dec.{eqb, ltb}
 use mir.Syntax.{w32}
 use mir.Val.{Fits}
-use Rattle.meaning.specs.Bytes.{if◌then◌else◌, within, digit, number, all_digits}
+use Rattle.meaning.specs.Bytes.{within, digit, number, all_digits}
+use Rattle.std.specs.Prelude.{if◌then◌else◌}
 use Rattle.laws.proofs.basics.Tests.{and_left, and_right, within_yes, within_bounds, within_below, within_above}
 use Rattle.calendar.specs.Pairs.{pair_of}
 

@@ -7,7 +7,7 @@ use borrow.Author.Tests.{lt-ltb, le-ltb, leb-true, leb-false, ltb-true, ltb-fals
 use lib.Dec.{ltb, leb}
 use mir.Syntax.{w32}
 use mir.Val.{Fits}
-use Rattle.meaning.specs.Bytes.{if◌then◌else◌}
+use Rattle.std.specs.Prelude.{if◌then◌else◌}
 use Rattle.meaning.specs.Dates.{length_by, before}
 use Rattle.calendar.specs.Falls.{lack_by, InMonth}
 use Rattle.calendar.proofs.Months.{lack, lack_most, lack_least, months_closed}

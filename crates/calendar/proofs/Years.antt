@@ -9,7 +9,7 @@ use native.Mathlib.Omega.{arith}
 use borrow.Author.Tests.{eqb-true, eqb-false, eq-eqb, ne_eqb, leb-true, leb-false}
 use lib.Arith.{digits_div, digits_mod}
 use lib.Dec.{eqb, leb}
-use Rattle.meaning.specs.Bytes.{if◌then◌else◌}
+use Rattle.std.specs.Prelude.{if◌then◌else◌}
 use Rattle.meaning.specs.Dates.{is_leap, year_length, before}
 
 -- from a number to the next one, a quotient grows exactly where the divisor divides

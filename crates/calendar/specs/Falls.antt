@@ -2,7 +2,7 @@
 use Rattle.std.specs.Prelude.{Bool, ◌≡◌, ℕ, ◌+◌, ◌-◌, ◌≤◌, ◌<◌}
 use Rattle.meaning.specs.declared.Day.{Day}
 use Rattle.meaning.specs.declared.Day.TheVariants as Day'
-use Rattle.meaning.specs.Bytes.{if◌then◌else◌}
+use Rattle.std.specs.Prelude.{if◌then◌else◌}
 use Rattle.meaning.specs.Dates.{length_by, year_length, before, is_day, calendar_day}
 
 -- what February lacks of 30 days, where it counts

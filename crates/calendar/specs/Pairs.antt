@@ -1,6 +1,7 @@
 -- What the reading of two digits answers. Assumes nothing.
 use Rattle.std.specs.Prelude.{◌&&◌, ℕ, ◌+◌, ◌-◌, ◌*◌}
-use Rattle.meaning.specs.Bytes.{if◌then◌else◌, within}
+use Rattle.meaning.specs.Bytes.{within}
+use Rattle.std.specs.Prelude.{if◌then◌else◌}
 
 -- the number of two decimal digits; 100 if a byte is none
 unfoldable pub pair_of : ℕ → ℕ → ℕ

@@ -1,6 +1,6 @@
 // [02 T-05] "Day 1 is 0001-01-01": a day's number, and the day that a number stands for, by divisions alone.
 ghost use Rattle.std.specs.Prelude.{◌≡◌, ◌<◌};
-ghost use Rattle.meaning.specs.Bytes.{if◌then◌else◌};
+ghost use Rattle.std.specs.Prelude.{if◌then◌else◌};
 ghost use Rattle.meaning.specs.Dates.{day_number, day_question};
 ghost use Rattle.laws.proofs.dates.Calendar.{IsDay};
 ghost use Rattle.calendar.specs.Falls.{InYear, InMonth, day_of};
@@ -9,7 +9,7 @@ use crate::lengths::{days_before_month, days_of_years, is_leap, lack, month_leng
 use meaning::{CalendarDay, Day};
 
 // A year, and how many of its days are past.
-#[derive(Drop)]
+#[derive(Clone, Copy)]
 pub(crate) struct YearDay {
     pub year: u32,
     pub past: u32,

@@ -9,7 +9,8 @@ use lib.Dec.{eqb}
 use lib.ListN.{length, drop}
 use lib.Seq.{drop-cons, get_or-drop}
 use borrow.Author.Tests.{eq-eqb, ne_eqb, eqb-true, not-true}
-use Rattle.meaning.specs.Bytes.{if◌then◌else◌, ◌!◌, span, backslash, is_mark}
+use Rattle.meaning.specs.Bytes.{◌!◌, span, backslash, is_mark}
+use Rattle.std.specs.Prelude.{if◌then◌else◌}
 use Rattle.meaning.specs.Walk.{keep, give, stop, walk}
 use Rattle.meaning.specs.Steps.{closing_step, doubled}
 use Rattle.laws.proofs.basics.Tests.{and_left, and_right}

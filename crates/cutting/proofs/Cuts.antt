@@ -8,7 +8,8 @@ use native.Mathlib.Omega.{arith}
 use lib.Dec.{eqb}
 use lib.ListN.{length, take, drop, length-drop}
 use Rattle.meaning.specs.declared.Settings.{Settings}
-use Rattle.meaning.specs.Bytes.{if◌then◌else◌, ◌!◌, is_mark}
+use Rattle.meaning.specs.Bytes.{◌!◌, is_mark}
+use Rattle.std.specs.Prelude.{if◌then◌else◌}
 use Rattle.meaning.specs.Walk.{Trace, walk, size, stops}
 use Rattle.meaning.specs.Steps.{closing_step}
 use Rattle.meaning.specs.Cutting.{opening, hides, closed_at, segment}

@@ -7,7 +7,8 @@ use native.Mathlib.Omega.{arith}
 use lib.Dec.{eqb}
 use lib.ListN.{length, drop}
 use borrow.Author.Tests.{eq-eqb, ne_eqb}
-use Rattle.meaning.specs.Bytes.{if◌then◌else◌, ◌!◌, ascii, has, is_mark, quote}
+use Rattle.meaning.specs.Bytes.{◌!◌, ascii, has, is_mark, quote}
+use Rattle.std.specs.Prelude.{if◌then◌else◌}
 use Rattle.meaning.specs.Cutting.{opening, named}
 use Rattle.cutting.specs.Openings.{is_letter_prefix}
 

@@ -1,6 +1,7 @@
 -- The marks' bytes, and what the search for a closing mark answers. Assumes nothing.
 use Rattle.std.specs.Prelude.{Bool, ℕ}
-use Rattle.meaning.specs.Bytes.{if◌then◌else◌, quote, dquote, backslash}
+use Rattle.meaning.specs.Bytes.{quote, dquote, backslash}
+use Rattle.std.specs.Prelude.{if◌then◌else◌}
 use Rattle.meaning.specs.Walk.{Trace, size, stops}
 use Rattle.leaves.specs.declared.blocks.Stops.{Stops}
 use Rattle.cutting.specs.declared.marks.Mark.{Mark}

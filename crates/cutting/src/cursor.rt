@@ -6,13 +6,13 @@ use crate::segments::{Segment, first_segment};
 use meaning::Settings;
 use spaces::gap_at;
 
-#[derive(Drop)]
+#[derive(Clone, Copy)]
 pub struct Cursor {
     pub at: usize,
 }
 
 // What stands at a cursor.
-#[derive(Drop)]
+#[derive(Clone, Copy)]
 pub enum Next {
     // a segment from start to end, its body behind `open` bytes and before its last; and the cursor behind the white space that follows
     Segment {

@@ -8,7 +8,7 @@ use leaves::blocks::{Stops, free_run};
 use leaves::bytes::byte_at;
 
 // ' or ".
-#[derive(Drop)]
+#[derive(Clone, Copy)]
 pub enum Mark {
     Quote,
     DoubleQuote,
@@ -26,7 +26,7 @@ pub fn mark_byte(mark: Mark) -> u8
 }
 
 // Where a body closes.
-#[derive(Drop)]
+#[derive(Clone, Copy)]
 pub enum Closing {
     // the place of the closing mark
     At(usize),

@@ -11,7 +11,7 @@ use leaves::bytes::byte_at;
 use meaning::Settings;
 
 // A segment at a text's front: the bytes of its opening with the mark, and all its bytes.
-#[derive(Drop)]
+#[derive(Clone, Copy)]
 pub enum Segment {
     Found { open: usize, len: usize },
     Nothing,

@@ -4,7 +4,8 @@ use Prim.Native.Char.{code}
 use Rattle.meaning.specs.declared.RadixPrefix.{RadixPrefix}
 use Rattle.meaning.specs.declared.Read.{Read}
 use Rattle.meaning.specs.declared.Read.TheVariants.{Borrowed, Written, Refused, NoRoom}
-use Rattle.meaning.specs.Bytes.{if◌then◌else◌, has}
+use Rattle.meaning.specs.Bytes.{has}
+use Rattle.std.specs.Prelude.{if◌then◌else◌}
 use Rattle.meaning.specs.Reading.{Answer, borrowed, written, refused}
 use Rattle.meaning.specs.Reads.{Reads}
 use Rattle.meaning.specs.Numbers.{sign_length, is_minus, radix_prefix, placed, strip, Parsed, none, int}

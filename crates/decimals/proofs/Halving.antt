@@ -4,7 +4,7 @@ use Rattle.std.proofs.Common.{◌≡◌, ℕ, zero, suc, ◌+◌, ◌-◌, ◌*�
 use mathlib.Core.Bool.{false≢true}
 use borrow.Author.Tests.{eqb-false}
 use lib.Arith.{digits_lt, lt_of_le-ne}
-use Rattle.meaning.specs.Bytes.{if◌then◌else◌}
+use Rattle.std.specs.Prelude.{if◌then◌else◌}
 use Rattle.meaning.specs.Numbers.{sign_length, is_minus, Parsed, none, int, fits, signed, within_bits, negated_by, unsigned}
 use Rattle.meaning.specs.Halves.{joined_halves, bits_of, negated_low, negated_high}
 use Rattle.laws.proofs.basics.Tests.{and_left, and_right}

@@ -3,7 +3,8 @@ use Rattle.std.proofs.Common.{◌≡◌, ℕ, zero, suc, ◌+◌, ◌-◌, ◌<�
 use mathlib.Core.Bool.{and-false}
 use lib.ListN.{get_or-eq_default}
 use lib.Seq.{paste, paste-zero, paste-suc, length-paste, take-length}
-use Rattle.meaning.specs.Bytes.{if◌then◌else◌, ◌!◌, within, digit, has}
+use Rattle.meaning.specs.Bytes.{◌!◌, within, digit, has}
+use Rattle.std.specs.Prelude.{if◌then◌else◌}
 use Rattle.meaning.specs.Numbers.{placed, strip}
 use Rattle.laws.proofs.basics.Tests.{eqb_sym}
 use Rattle.decimals.specs.Separating.{is_between, separators_of}

@@ -1,7 +1,8 @@
 -- Separators in decimal text: between two digits, how many, and what is then answered. Assumes nothing.
 use Rattle.std.specs.Prelude.{ℕ, ◌+◌, ◌-◌, Bool, ◌&&◌, List, ◌∷◌, length, nat_lt}
 use Prim.Native.Char.{code}
-use Rattle.meaning.specs.Bytes.{if◌then◌else◌, ◌!◌, has, digit}
+use Rattle.meaning.specs.Bytes.{◌!◌, has, digit}
+use Rattle.std.specs.Prelude.{if◌then◌else◌}
 use Rattle.meaning.specs.Reading.{Answer, borrowed, written, refused}
 use Rattle.meaning.specs.Numbers.{placed, strip}
 use Rattle.decimals.specs.declared.separators.Separators.{Separators}

@@ -1,6 +1,6 @@
 -- A signed number in two halves, and its negation, with -2^127 refused. Assumes nothing.
 use Rattle.std.specs.Prelude.{ℕ, ◌^◌, ◌&&◌, ◌==◌}
-use Rattle.meaning.specs.Bytes.{if◌then◌else◌}
+use Rattle.std.specs.Prelude.{if◌then◌else◌}
 use Rattle.meaning.specs.Numbers.{Parsed, none, int}
 use Rattle.meaning.specs.Halves.{bits_of, negated_low, negated_high}
 use Rattle.numbers.specs.declared.radix.Halves.{Halves}

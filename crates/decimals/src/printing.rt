@@ -10,7 +10,7 @@ use crate::halves::{negated_high, negated_low};
 use meaning::Read;
 
 // A billionth of a number, and what is left of it.
-#[derive(Drop)]
+#[derive(Clone, Copy)]
 pub(crate) struct Parted {
     pub hi: u64,
     pub lo: u64,

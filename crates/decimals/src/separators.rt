@@ -4,7 +4,7 @@ ghost use Rattle.meaning.specs.Numbers.{strip};
 ghost use Rattle.decimals.specs.Separating.{is_between, separators_of};
 
 // How many separators a text has, or that one is misplaced.
-#[derive(Drop)]
+#[derive(Clone, Copy)]
 pub(crate) enum Separators {
     Count(usize),
     Misplaced,

@@ -1,6 +1,6 @@
 -- How doubles are found: rows are put into buckets by a sum over their keys, and each row is linked to the newest row before it in its bucket. Assumes nothing.
 use Rattle.std.specs.Prelude.{Bool, ◌&&◌, ◌≡◌, List, [], ◌∷◌, ◌++◌, ℕ, suc, ◌+◌, ◌*◌, ◌%◌, ◌<◌, eqb, leb, ltb, length, take, drop, set}
-use Rattle.meaning.specs.Bytes.{if◌then◌else◌}
+use Rattle.std.specs.Prelude.{if◌then◌else◌}
 use Rattle.doubles.specs.Rows.{key_at, newest, before_of, table}
 
 -- the sum over a key, from a sum so far

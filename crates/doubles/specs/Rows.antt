@@ -3,7 +3,8 @@
 use Rattle.std.specs.Prelude.{Bool, List, [], ◌∷◌, ◌++◌, ℕ, zero, suc}
 use Rattle.std.specs.Borrow.{Bor}
 use Rattle.meaning.specs.Answers.{part_shown, part_place}
-use Rattle.meaning.specs.Bytes.{◌!◌, if◌then◌else◌, same}
+use Rattle.meaning.specs.Bytes.{◌!◌, same}
+use Rattle.std.specs.Prelude.{if◌then◌else◌}
 
 -- where the key of a row begins: where the row before it ends, the first at 0
 abbrev pub start_of : List ℕ → ℕ → ℕ

@@ -1,5 +1,7 @@
 // Which rows of a list have a key that stood before. A wrong answer here counts a shelf twice, or two shelves once.
 // The keys stand one behind the other in a store; `ends` tells of each row where its key ends there.
+#![tactic(auto)]
+
 ghost use Rattle.std.specs.Prelude.{◌≡◌, ◌<◌, length, get_or, replicate};
 ghost use Rattle.meaning.specs.Answers.{IsPart};
 ghost use Rattle.doubles.specs.Rows.{start_of, key_at, key_place, before_of};

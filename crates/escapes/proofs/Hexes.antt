@@ -12,7 +12,8 @@ use mir.Val.{Fits}
 use lib.Dec.{eqb, ltb, eqb-suc-suc}
 use lib.ListN.{length, drop, length-drop, drop_of_length-le}
 use lib.Seq.{get_or-drop}
-use Rattle.meaning.specs.Bytes.{if◌then◌else◌, ◌!◌, within, digit, digits, number}
+use Rattle.meaning.specs.Bytes.{◌!◌, within, digit, digits, number}
+use Rattle.std.specs.Prelude.{if◌then◌else◌}
 use Rattle.laws.proofs.basics.Tests.{within_bounds}
 use Rattle.laws.proofs.basics.Digits.{digits_length, number_suc, number_digits_lt}
 use Rattle.escapes.specs.Digits.{hex_by}

@@ -1,6 +1,7 @@
 -- A run of digits that was read, and hex digits by a number of them. Assumes nothing.
 use Rattle.std.specs.Prelude.{◌≡◌, List, ℕ, ◌≤◌, eqb}
-use Rattle.meaning.specs.Bytes.{if◌then◌else◌, digits, number}
+use Rattle.meaning.specs.Bytes.{digits, number}
+use Rattle.std.specs.Prelude.{if◌then◌else◌}
 use Rattle.escapes.specs.declared.digits.Digits.{Digits}
 
 -- the digits of base β at the front of t, w at the most, and the number that they make

@@ -1,6 +1,6 @@
 -- The families' steps and courses, and what measuring says of a course. Assumes nothing.
 use Rattle.std.specs.Prelude.{Bool, true, false, List, ℕ, length}
-use Rattle.meaning.specs.Bytes.{if◌then◌else◌}
+use Rattle.std.specs.Prelude.{if◌then◌else◌}
 use Rattle.meaning.specs.Chars.{Due, fresh, pushes}
 use Rattle.meaning.specs.Walk.{Step, Trace, walk, size, stops, plain, value}
 use Rattle.meaning.specs.Steps.{standard_step, escape_step, checked, unicode_step}

@@ -5,7 +5,7 @@ ghost use Rattle.escapes.specs.Digits.{Run, hex_by};
 use leaves::digits::hex_value;
 
 // So many digits, and the number that they make.
-#[derive(Drop)]
+#[derive(Clone, Copy)]
 pub struct Digits {
     pub count: usize,
     pub value: u32,

@@ -13,7 +13,7 @@ use utf8::check::utf8_from;
 use utf8::tail::{Utf8Tail, is_whole};
 
 // What a body's value is: the body itself; so many bytes; or reading stops at a place.
-#[derive(Drop)]
+#[derive(Clone, Copy)]
 pub(crate) enum Measured {
     Plain,
     Length(usize),
@@ -21,7 +21,7 @@ pub(crate) enum Measured {
 }
 
 // Where a pass stands: the units up to a place stand for n bytes; whether each byte stood for itself; and what UTF-8 makes due, where it counts.
-#[derive(Drop)]
+#[derive(Clone, Copy)]
 pub(crate) struct Pass {
     pub at: usize,
     pub n: usize,
@@ -30,7 +30,7 @@ pub(crate) struct Pass {
 }
 
 // What a turn leads to.
-#[derive(Drop)]
+#[derive(Clone, Copy)]
 pub(crate) enum Turn {
     On(Pass),
     Refused,

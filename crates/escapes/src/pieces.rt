@@ -1,7 +1,7 @@
 // A unit of a body: how many bytes it takes, and which bytes it stands for.
 
 // What stands at a place of a body. The last number of a variant counts the bytes behind the unit's first.
-#[derive(Drop)]
+#[derive(Clone, Copy)]
 pub enum Piece {
     // a byte that stands for itself
     Keep,

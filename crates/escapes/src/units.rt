@@ -1,6 +1,7 @@
 // One unit of a body, for each of the three families.
 ghost use Rattle.std.specs.Prelude.{◌≡◌, false, ◌<◌, length, drop, ltb};
-ghost use Rattle.meaning.specs.Bytes.{if◌then◌else◌, digit};
+ghost use Rattle.meaning.specs.Bytes.{digit};
+ghost use Rattle.std.specs.Prelude.{if◌then◌else◌};
 ghost use Rattle.meaning.specs.Steps.{standard_step, mysql, one_byte, escaped, escape_step, low_half, uescaped, unicode_step};
 ghost use Rattle.cutting.specs.Marks.{mark_of};
 ghost use Rattle.escapes.specs.Pieces.{Is, IsBy, letter_of, Behind, HighHalf};
@@ -13,7 +14,7 @@ use leaves::bytes::byte_at;
 use leaves::texts::starts_at;
 
 // How a body is read: with MySQL's escapes or without them, by E's rules, or by U&'s.
-#[derive(Drop)]
+#[derive(Clone, Copy)]
 pub enum Family {
     Standard { mark: Mark, backslash: bool },
     Escape,

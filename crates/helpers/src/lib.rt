@@ -1,5 +1,7 @@
 // [01 What is carried over; One segment] The helpers on bare text. The test of a UESCAPE argument and the two validators say no on text that isn't UTF-8, the
 // validators yes on other text outside their spelling; the test of an identifier reads bytes.
+#![tactic(auto)]
+
 ghost use Rattle.std.specs.Prelude.{not, ◌≡◌};
 ghost use Rattle.meaning.specs.Answers.{Meets};
 ghost use Rattle.meaning.specs.Helpers.{uescape_legal, escape_valid, unicode_valid, is_unicode_ident};

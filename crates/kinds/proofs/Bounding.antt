@@ -12,7 +12,8 @@ use borrow.Author.Tests.{ltb-true}
 use Rattle.meaning.specs.declared.Settings.{Settings}
 use Rattle.meaning.specs.declared.Read.{Read}
 use Rattle.meaning.specs.declared.Read.TheVariants as Read'
-use Rattle.meaning.specs.Bytes.{if◌then◌else◌, ◌!◌, ascii, has, starts, quote, in_tag}
+use Rattle.meaning.specs.Bytes.{◌!◌, ascii, has, starts, quote, in_tag}
+use Rattle.std.specs.Prelude.{if◌then◌else◌}
 use Rattle.meaning.specs.Walk.{after, walk}
 use Rattle.meaning.specs.Steps.{gap}
 use Rattle.meaning.specs.Cutting.{segment, segment_by, segment_step, cut, continues}

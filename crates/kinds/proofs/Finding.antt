@@ -9,7 +9,8 @@ use lib.Dec.{eqb}
 use lib.ListN.{length, drop, drop_of_length-le}
 use lib.Seq.{drop-cons, drop-length}
 use borrow.Author.Tests.{eqb-true, eq-eqb, ne_eqb}
-use Rattle.meaning.specs.Bytes.{if◌then◌else◌, ◌!◌, starts}
+use Rattle.meaning.specs.Bytes.{◌!◌, starts}
+use Rattle.std.specs.Prelude.{if◌then◌else◌}
 use Rattle.meaning.specs.Kinds.{first_place_of, last_by, past_last, place_by, found}
 use Rattle.leaves.proofs.RunSteps.{RunSoFar, run_more, run_stop, run_end}
 use Rattle.kinds.specs.Tokens.{unmarked, first_mark}

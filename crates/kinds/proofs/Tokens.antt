@@ -9,7 +9,8 @@ use lib.ListN.{length, take, drop, length-drop}
 use lib.Seq.{drop-drop}
 use borrow.Author.Tests.{lt-ltb, le-ltb, eq-eqb, ne_eqb, not-true, not-false}
 use Rattle.meaning.specs.declared.Read.TheVariants as Read'
-use Rattle.meaning.specs.Bytes.{if◌then◌else◌, ◌!◌, quote, in_tag}
+use Rattle.meaning.specs.Bytes.{◌!◌, quote, in_tag}
+use Rattle.std.specs.Prelude.{if◌then◌else◌}
 use Rattle.meaning.specs.Spelling.{delimiter}
 use Rattle.meaning.specs.Kinds as kinds
 use Rattle.meaning.specs.Kinds.{money, first_place_of, past_last, found, closed_token, dollar_token, token_start, quote_token, temporal_token}

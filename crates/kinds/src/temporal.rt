@@ -13,7 +13,7 @@ use spellings::spelling::dollar_open_delim_len;
 use strings::reading::read_bytes;
 
 // The string token of a temporal text, from a place up to another; or that there is none.
-#[derive(Drop)]
+#[derive(Clone, Copy)]
 pub(crate) enum Token {
     Found { from: usize, until: usize },
     Nothing,

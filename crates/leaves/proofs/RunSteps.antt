@@ -1,7 +1,8 @@
 -- Runs of bytes at a place of a text. Assumes nothing.
 use Rattle.std.proofs.Common.{◌≡◌, ℕ, zero, suc, ◌+◌, ◌-◌, ◌<◌, ◌≤◌, Bool, true, false, not, List, [], ◌∷◌, length, drop, sym, refl, ap, ◌∙◌, subst, arith, length-drop, drop_of_length-le, get_or-drop, drop-cons}
 use borrow.Author.Tests.{not-true, not-false}
-use Rattle.meaning.specs.Bytes.{if◌then◌else◌, ◌!◌, span, in_name, in_tag}
+use Rattle.meaning.specs.Bytes.{◌!◌, span, in_name, in_tag}
+use Rattle.std.specs.Prelude.{if◌then◌else◌}
 use Rattle.meaning.specs.Walk.{Step, keep}
 use Rattle.laws.proofs.walking.Courses.{Kept}
 use Rattle.leaves.specs.declared.runs.NameClass.{NameClass}

@@ -2,7 +2,8 @@
 use Rattle.std.proofs.Common.{◌≡◌, ℕ, zero, suc, ◌+◌, ◌-◌, ◌<◌, ◌≤◌, Bool, true, false, not, ◌&&◌, ◌||◌, eqb, List, [], ◌∷◌, length, get_or, drop, sym, refl, ap, ◌∙◌, arith, length-drop, drop_of_length-le, drop-cons, drop-drop, eq-eqb, ne_eqb, eqb-true}
 use mathlib.Core.Bool.{and_assoc, and-true, and-false, false≢true}
 use borrow.Author.Tests.{eqb-false, not-true, not-false}
-use Rattle.meaning.specs.Bytes.{if◌then◌else◌, has, span}
+use Rattle.meaning.specs.Bytes.{has, span}
+use Rattle.std.specs.Prelude.{if◌then◌else◌}
 use Rattle.laws.proofs.basics.Tests.{and_left, and_right, eqb_sym}
 use Rattle.leaves.specs.Blocks.{free_of, passes, Past}
 

@@ -16,8 +16,8 @@ module _ (f u : ℕ) (lent r : Bor (List ℕ)) where
       rw (le-leb f u h, le-leb u (length lent.now) i)
       (record { bytes = b; place = p ∙ ap (λ (n : ℕ). (lent.ref_ptr.0, n)) (add_comm f lent.ref_ptr.1) })
 
-  at_start : r.ptr ≡ lent.ptr → r.ptr ≡ (lent.ptr.0, lent.ptr.1 + 0)
-  at_start p = p ∙ ap (λ (n : ℕ). (lent.ptr.0, n)) (sym (add-zero lent.ptr.1))
+  at_start : r.ref_ptr ≡ lent.ref_ptr → r.ref_ptr ≡ (lent.ref_ptr.0, lent.ref_ptr.1 + 0)
+  at_start p = p ∙ ap (λ (n : ℕ). (lent.ref_ptr.0, n)) (sym (add-zero lent.ref_ptr.1))
 
   pub part_backwards : u < f → r.now ≡ [] → r.ref_ptr ≡ lent.ref_ptr → IsPart (part_shown f u lent.now) (part_place f u lent) r
   unfolding part_shown
@@ -38,8 +38,8 @@ module _ (text out r : Bor (List ℕ)) (a : Read) where
   pub shown_written : (n : ℕ) → a ≡ Read'.Written n → IsPart (part_shown 0 n out.now) (part_place 0 n out) r → Shown a
   shown_written n q p = subst Shown (sym q) p
 
-  pub shown_refused : (n : ℕ) → a ≡ Read'.Refused n → r.now ≡ [] → r.ref_ptr ≡ text.ptr → Shown a
+  pub shown_refused : (n : ℕ) → a ≡ Read'.Refused n → r.now ≡ [] → r.ref_ptr ≡ text.ref_ptr → Shown a
   shown_refused n q b p = subst Shown (sym q) (record { bytes = b; place = p })
 
-  pub shown_short : (n : ℕ) → a ≡ Read'.NoRoom n → r.now ≡ [] → r.ref_ptr ≡ text.ptr → Shown a
+  pub shown_short : (n : ℕ) → a ≡ Read'.NoRoom n → r.now ≡ [] → r.ref_ptr ≡ text.ref_ptr → Shown a
   shown_short n q b p = subst Shown (sym q) (record { bytes = b; place = p })

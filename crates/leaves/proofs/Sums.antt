@@ -1,6 +1,7 @@
 -- The digit that a byte is, as one of two sums. Assumes nothing.
 use Rattle.std.proofs.Common.{◌≡◌, ℕ, ◌+◌, ◌-◌, ◌*◌, ◌/◌, ◌%◌, ◌^◌, ◌<◌, ◌≤◌, Bool, true, false, ltb, refl, arith, ltb-false, ltb-true, le-ltb, lt-ltb}
-use Rattle.meaning.specs.Bytes.{if◌then◌else◌, within, digit}
+use Rattle.meaning.specs.Bytes.{within, digit}
+use Rattle.std.specs.Prelude.{if◌then◌else◌}
 use Rattle.laws.proofs.basics.Tests.{within_bounds, within_below, within_above, within_outside}
 use Rattle.leaves.specs.Digits.{capped}
 

@@ -5,7 +5,8 @@ use lib.Bits.{xor_block, xor_lt, xor_self, xor_add_and, shifted_half, shifted_ev
 use lib.Pow.{split}
 use lib.Count.{count_trailing_zeros, trailing_le}
 use borrow.Author.Tests.{lt-leb, eqb-false}
-use Rattle.meaning.specs.Bytes.{if◌then◌else◌, span}
+use Rattle.meaning.specs.Bytes.{span}
+use Rattle.std.specs.Prelude.{if◌then◌else◌}
 use Rattle.leaves.specs.Words.{other, neither, eight_run, Word, none, byte, Flags, end, stopped, passed}
 
 -- n bytes that are the same; k behind n bytes; n steps past k

@@ -1,6 +1,6 @@
 -- Bytes at a buffer's start. Assumes nothing.
 use Rattle.std.specs.Prelude.{◌≡◌, ℕ, ◌≤◌, List, length, nat_le}
-use Rattle.meaning.specs.Bytes.{if◌then◌else◌}
+use Rattle.std.specs.Prelude.{if◌then◌else◌}
 use Rattle.meaning.specs.Answers.{filled}
 
 -- bytes are put at a buffer's start where there is room for them, and counted

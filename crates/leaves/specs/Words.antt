@@ -1,6 +1,7 @@
 -- Words of bytes, what flags in a word tell, and runs of eight bytes at the most. Assumes nothing.
 use Rattle.std.specs.Prelude.{◌≡◌, ℕ, ◌+◌, ◌*◌, ◌/◌, ◌%◌, ◌<◌, ◌≤◌, Bool, true, false, not, ◌&&◌, List, [], ◌∷◌, length, take, drop, ◌==◌, nat_le}
-use Rattle.meaning.specs.Bytes.{if◌then◌else◌, span}
+use Rattle.meaning.specs.Bytes.{span}
+use Rattle.std.specs.Prelude.{if◌then◌else◌}
 
 -- not this byte; none of two
 abbrev pub other : ℕ → ℕ → Bool

@@ -1,11 +1,12 @@
 // Scans for three bytes, a block at a time. The loop over a block has no branch. Where all of a text is asked, the last block overlaps the one before it;
 // where a run is, its last bytes are looked at one by one.
 ghost use Rattle.std.specs.Prelude.{◌≡◌, ◌+◌, ◌<◌, ◌≤◌, length, drop};
-ghost use Rattle.meaning.specs.Bytes.{if◌then◌else◌, span};
+ghost use Rattle.meaning.specs.Bytes.{span};
+ghost use Rattle.std.specs.Prelude.{if◌then◌else◌};
 ghost use Rattle.leaves.specs.Blocks.{free_of, passes, Past};
 
 // Three bytes that a text is searched for; they may be the same.
-#[derive(Drop)]
+#[derive(Clone, Copy)]
 pub struct Stops {
     pub first: u8,
     pub second: u8,

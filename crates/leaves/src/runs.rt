@@ -6,7 +6,7 @@ ghost use Rattle.leaves.specs.Runs.{in_class};
 use crate::names::{is_charset_name_byte, is_dollar_tag_continue};
 
 // What a name is made of: a charset's letters, digits and _, or what a dollar tag may go on with.
-#[derive(Drop)]
+#[derive(Clone, Copy)]
 pub enum NameClass {
     Charset,
     DollarTag,

@@ -8,7 +8,7 @@ use crate::state::{State, one_more};
 use doubles::{find_before, key_at};
 
 // How many rows there are whose key did not stand before, and how many of these keys stand again; whether all that is said of them was written.
-#[derive(Drop)]
+#[derive(Clone, Copy)]
 pub(crate) struct Counts {
     pub products: usize,
     pub doubled: usize,

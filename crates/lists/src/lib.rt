@@ -1,4 +1,6 @@
 // The program `keys`: a list of string literals, each row's key, and the products that stand in several rows.
+#![tactic(auto)]
+
 mod answers;
 mod bytes;
 mod doubled;

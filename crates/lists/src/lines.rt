@@ -2,7 +2,7 @@
 use leaves::texts::starts_at;
 use leaves::views::part_of;
 
-#[derive(Drop)]
+#[derive(Clone, Copy)]
 pub(crate) enum Line {
     Row,
     Blank,

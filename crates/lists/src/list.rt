@@ -81,7 +81,7 @@ fn after_lines(
 }
 
 // How many bytes the window holds; whether the list has ended, or could not be read on.
-#[derive(Drop)]
+#[derive(Clone, Copy)]
 struct Held {
     pub bytes: usize,
     pub ended: bool,

@@ -74,7 +74,7 @@ fn show_character(fd: i32, key: &[u8], at: usize, len: usize) -> bool
 }
 
 // What is shown at once: where it ends, and whether all of it was written.
-#[derive(Drop)]
+#[derive(Clone, Copy)]
 struct Shown {
     pub end: usize,
     pub written: bool,
@@ -128,7 +128,7 @@ fn columns_by_number(len: usize) -> usize {
 }
 
 // What stands at a place, a character by its number or a byte of any other: how many columns it takes, a later byte of a character none, and where it ends.
-#[derive(Drop)]
+#[derive(Clone, Copy)]
 struct Piece {
     pub columns: usize,
     pub end: usize,

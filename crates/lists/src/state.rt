@@ -1,7 +1,7 @@
 // What is known of a list as far as it is read.
 ghost use Rattle.std.specs.Prelude.{◌≡◌};
 
-#[derive(Drop)]
+#[derive(Clone, Copy)]
 pub(crate) struct State {
     // the setting that holds for the rows to come
     pub backslash: bool,

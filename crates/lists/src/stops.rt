@@ -61,7 +61,7 @@ fn shown_until(text: &[u8], place: usize) -> usize {
 }
 
 // Around which place of a text it is shown, and from where to where; whether by bytes.
-#[derive(Drop)]
+#[derive(Clone, Copy)]
 struct Around {
     pub from: usize,
     pub place: usize,

@@ -44,7 +44,8 @@ use Rattle.meaning.specs.declared.PackedBits.{PackedBits}
 use Rattle.meaning.specs.declared.PackedBits.TheVariants as Packed'
 use Rattle.meaning.specs.declared.BitWriting.{BitWriting}
 use Rattle.meaning.specs.declared.BitWriting.TheVariants as BitWriting'
-use Rattle.meaning.specs.Bytes.{if◌then◌else◌, part}
+use Rattle.meaning.specs.Bytes.{part}
+use Rattle.std.specs.Prelude.{if◌then◌else◌}
 
 -- VALUES. A literal's kind by the record program's code, and what it holds besides
 abbrev pub kind_code : LiteralKind → ℕ
@@ -311,16 +312,16 @@ part_place f u lent = (lent.ref_ptr.0, lent.ref_ptr.1 + (if leb f u && leb u (le
 abbrev pub shown_place : Bor (List ℕ) → Bor (List ℕ) → Text → ℕ × ℕ
 shown_place source out (Text'.Borrowed f u) = part_place f u source
 shown_place source out (Text'.Written n) = part_place 0 n out
-shown_place source out (Text'.Refused r) = source.ptr
+shown_place source out (Text'.Refused r) = source.ref_ptr
 
 abbrev pub range_place : Bor (List ℕ) → Range → ℕ × ℕ
 range_place source (Range'.Found f u) = part_place f u source
-range_place source (Range'.Refused r) = source.ptr
+range_place source (Range'.Refused r) = source.ref_ptr
 
 abbrev pub charset_place : Bor (List ℕ) → Charset → ℕ × ℕ
 charset_place source (Charset'.Named f u) = part_place f u source
-charset_place source Charset'.Unnamed = source.ptr
-charset_place source (Charset'.Refused r) = source.ptr
+charset_place source Charset'.Unnamed = source.ref_ptr
+charset_place source (Charset'.Refused r) = source.ref_ptr
 
 -- what a contract says of a returned slice: its bytes, and where it stands
 pub record IsPart (v : List ℕ) (at : ℕ × ℕ) (r : Bor (List ℕ)) : Type 0 where

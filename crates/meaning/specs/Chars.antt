@@ -1,6 +1,7 @@
 -- Characters in UTF-8 (RFC 3629), and white space (Unicode White_Space). Assumes nothing.
 use Rattle.std.specs.Prelude.{Bool, true, false, ◌&&◌, ◌||◌, not, List, [], ◌∷◌, ℕ, zero, suc, ◌+◌, ◌-◌, ◌*◌, ◌/◌, ◌%◌, ◌^◌, leb, ltb}
-use Rattle.meaning.specs.Bytes.{if◌then◌else◌, within}
+use Rattle.meaning.specs.Bytes.{within}
+use Rattle.std.specs.Prelude.{if◌then◌else◌}
 
 -- What may come next: n more bytes of a character, the first of them from lo to hi and the others from 80 to BF; at n = 0 a
 -- character begins. Or the bytes so far begin no UTF-8 text.

@@ -2,7 +2,8 @@
 use Rattle.std.specs.Prelude.{Bool, true, false, ◌&&◌, ◌||◌, not, List, [], ◌∷◌, ℕ, zero, suc, ◌+◌, eqb, ltb, take, drop}
 use Prim.Native.Char.{code}
 use Rattle.meaning.specs.declared.Settings.{Settings}
-use Rattle.meaning.specs.Bytes.{if◌then◌else◌, ◌!◌, ascii, has, same, span, quote, is_mark, in_name}
+use Rattle.meaning.specs.Bytes.{◌!◌, ascii, has, same, span, quote, is_mark, in_name}
+use Rattle.std.specs.Prelude.{if◌then◌else◌}
 use Rattle.meaning.specs.Walk.{Step, give, stop, Trace, ended, stopped, kept, gave, walk, size, stops}
 use Rattle.meaning.specs.Steps.{closing_step, gap, trim}
 

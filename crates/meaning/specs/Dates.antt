@@ -11,7 +11,8 @@ use Rattle.meaning.specs.declared.Day.{Day}
 use Rattle.meaning.specs.declared.Day.TheVariants as Day'
 use Rattle.meaning.specs.declared.Dated.{Dated}
 use Rattle.meaning.specs.declared.Dated.TheVariants as Dated'
-use Rattle.meaning.specs.Bytes.{if◌then◌else◌, ◌!◌, part, has, within, number, all_digits}
+use Rattle.meaning.specs.Bytes.{◌!◌, part, has, within, number, all_digits}
+use Rattle.std.specs.Prelude.{if◌then◌else◌}
 use Rattle.meaning.specs.Cutting.{off}
 use Rattle.meaning.specs.Reading.{Value, means, fails, value_of}
 use Rattle.meaning.specs.Kinds.{temporal}

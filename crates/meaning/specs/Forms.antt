@@ -7,7 +7,8 @@ use Rattle.meaning.specs.declared.Form.TheVariants.{Escape, Unicode}
 use Rattle.meaning.specs.declared.PartSize.TheVariants.{Whole}
 use Rattle.meaning.specs.declared.Writing.{Writing}
 use Rattle.meaning.specs.declared.Writing.TheVariants.{OverLimit, NotUtf8, HoldsNul}
-use Rattle.meaning.specs.Bytes.{if◌then◌else◌, ascii, has, within, quote, backslash}
+use Rattle.meaning.specs.Bytes.{ascii, has, within, quote, backslash}
+use Rattle.std.specs.Prelude.{if◌then◌else◌}
 use Rattle.meaning.specs.Chars.{Due, due, broken, lead, base, gather, utf8}
 use Rattle.meaning.specs.Walk.{Step, keep, give, stop, walk, value}
 use Rattle.meaning.specs.Steps.{escape_table}

@@ -1,7 +1,7 @@
 -- [01 Numbers] "two 64-bit halves whose negation wraps": a signed number of 128 bits in two halves, and its text. Assumes nothing.
 use Rattle.std.specs.Prelude.{List, ◌∷◌, ℕ, suc, ◌+◌, ◌*◌, ◌-◌, ◌%◌, ◌^◌, eqb, ltb, ℤ, pos, negsuc}
 use Prim.Native.Char.{code}
-use Rattle.meaning.specs.Bytes.{if◌then◌else◌}
+use Rattle.std.specs.Prelude.{if◌then◌else◌}
 use Rattle.meaning.specs.Numbers.{digits_of}
 
 -- the 128 bits that the halves are

@@ -1,6 +1,7 @@
 -- [01 What is carried over; One segment] The helpers on bare text. Assumes nothing.
 use Rattle.std.specs.Prelude.{Bool, true, ◌&&◌, not, List, ℕ, ◌-◌, ltb, length}
-use Rattle.meaning.specs.Bytes.{if◌then◌else◌, ◌!◌, part, ascii, has, quote, dquote}
+use Rattle.meaning.specs.Bytes.{◌!◌, part, ascii, has, quote, dquote}
+use Rattle.std.specs.Prelude.{if◌then◌else◌}
 use Rattle.meaning.specs.Chars.{fresh, utf8}
 use Rattle.meaning.specs.Walk.{walk, stops}
 use Rattle.meaning.specs.Steps.{escape_step, checked, unicode_step}

@@ -2,7 +2,8 @@
 use Rattle.std.specs.Prelude.{Bool, true, false, ◌&&◌, not, List, [], ◌∷◌, ℕ, zero, suc, ◌+◌, ◌-◌, eqb, ltb, length, take, drop}
 use Prim.Native.Char.{code}
 use Rattle.meaning.specs.declared.Settings.{Settings}
-use Rattle.meaning.specs.Bytes.{if◌then◌else◌, ◌!◌, part, ascii, has, starts, span, quote, in_tag, all_digits}
+use Rattle.meaning.specs.Bytes.{◌!◌, part, ascii, has, starts, span, quote, in_tag, all_digits}
+use Rattle.std.specs.Prelude.{if◌then◌else◌}
 use Rattle.meaning.specs.Walk.{Trace, ended, stopped, kept, gave}
 use Rattle.meaning.specs.Cutting.{opening, cut}
 use Rattle.meaning.specs.Spelling.{delimiter}

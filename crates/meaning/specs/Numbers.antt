@@ -2,7 +2,8 @@
 use Rattle.std.specs.Prelude.{Bool, true, false, ◌&&◌, ◌||◌, not, List, [], ◌∷◌, ◌++◌, ℕ, zero, suc, ◌+◌, ◌/◌, ◌%◌, ◌^◌, eqb, ltb, length, drop, ℤ, pos, negsuc, neg_ℤ}
 use Prim.Native.Char.{code}
 use Rattle.meaning.specs.declared.RadixPrefix.{RadixPrefix}
-use Rattle.meaning.specs.Bytes.{if◌then◌else◌, ◌!◌, ascii, has, digit, number, all_digits}
+use Rattle.meaning.specs.Bytes.{◌!◌, ascii, has, digit, number, all_digits}
+use Rattle.std.specs.Prelude.{if◌then◌else◌}
 use Rattle.meaning.specs.Reading.{Answer, borrowed, written, refused}
 
 -- "Sign, then 0x, 0o, 0b or decimal." The bytes of a sign at the front, and whether it is a minus

@@ -12,7 +12,8 @@ use Rattle.meaning.specs.declared.PackedBits.{PackedBits}
 use Rattle.meaning.specs.declared.PackedBits.TheVariants as Packed
 use Rattle.meaning.specs.declared.BitWriting.{BitWriting}
 use Rattle.meaning.specs.declared.BitWriting.TheVariants.{Written, OverLimit, BadBits, NoRoom}
-use Rattle.meaning.specs.Bytes.{if◌then◌else◌, quote, digit, all_zero}
+use Rattle.meaning.specs.Bytes.{quote, digit, all_zero}
+use Rattle.std.specs.Prelude.{if◌then◌else◌}
 use Rattle.meaning.specs.Cutting.{off}
 use Rattle.meaning.specs.Reading.{Value, means, fails, value_of}
 use Rattle.meaning.specs.Kinds.{bits}

@@ -2,7 +2,8 @@
 -- Assumes nothing.
 use Rattle.std.specs.Prelude.{List, [], ◌++◌, ℕ, suc, ◌+◌}
 use Rattle.meaning.specs.declared.Settings.{Settings}
-use Rattle.meaning.specs.Bytes.{if◌then◌else◌, part, has, quote}
+use Rattle.meaning.specs.Bytes.{part, has, quote}
+use Rattle.std.specs.Prelude.{if◌then◌else◌}
 use Rattle.meaning.specs.Chars.{fresh}
 use Rattle.meaning.specs.Walk.{Trace, ended, stopped, kept, gave, walk, size, stops, plain, value}
 use Rattle.meaning.specs.Steps.{standard_step, escape_step, checked, unicode_step}

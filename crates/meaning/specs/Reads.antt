@@ -40,5 +40,5 @@ read_shown t out (NoRoom n) = []
 abbrev pub read_place : Bor (List ℕ) → Bor (List ℕ) → Read → ℕ × ℕ
 read_place text out (Borrowed f u) = part_place f u text
 read_place text out (Written n) = part_place 0 n out
-read_place text out (Refused p) = text.ptr
-read_place text out (NoRoom n) = text.ptr
+read_place text out (Refused p) = text.ref_ptr
+read_place text out (NoRoom n) = text.ref_ptr

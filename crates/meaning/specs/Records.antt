@@ -11,7 +11,8 @@ use Rattle.meaning.specs.declared.Charset.{Charset}
 use Rattle.meaning.specs.declared.Charset.TheVariants as Charset'
 use Rattle.meaning.specs.declared.Integer.{Integer}
 use Rattle.meaning.specs.declared.Integer.TheVariants as Integer'
-use Rattle.meaning.specs.Bytes.{if◌then◌else◌, ◌!◌, part, ascii, within, all_zero}
+use Rattle.meaning.specs.Bytes.{◌!◌, part, ascii, within, all_zero}
+use Rattle.std.specs.Prelude.{if◌then◌else◌}
 use Rattle.meaning.specs.Walk.{Step, give, walk, value}
 use Rattle.meaning.specs.Numbers.{digits_of, printed}
 use Rattle.meaning.specs.Answers.{Outcome, refusal_number, shown, range_shown, charset_shown}

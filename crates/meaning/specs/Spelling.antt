@@ -1,7 +1,8 @@
 -- [01 One segment] How a text that is read as one is spelled, and from where to where its body goes. Assumes nothing.
 use Rattle.std.specs.Prelude.{Bool, false, ◌&&◌, not, List, [], ◌∷◌, map, ℕ, zero, suc, ◌+◌, ◌-◌, eqb, leb, ltb, length, take, drop}
 use Prim.Native.Char.{code}
-use Rattle.meaning.specs.Bytes.{if◌then◌else◌, ◌!◌, part, ascii, has, same, span, within, quote, dquote, backslash, starts_tag, in_tag, digit}
+use Rattle.meaning.specs.Bytes.{◌!◌, part, ascii, has, same, span, within, quote, dquote, backslash, starts_tag, in_tag, digit}
+use Rattle.std.specs.Prelude.{if◌then◌else◌}
 use Rattle.meaning.specs.Chars.{Due, due, broken, space, lead, laters}
 use Rattle.meaning.specs.Walk.{Trace, walk, size, stops, value}
 use Rattle.meaning.specs.Steps.{standard_step, closing_step, trim}

@@ -2,7 +2,8 @@
 -- white space, sees there. (No walk asks a step of no bytes: `stop` stands there for nothing.) Assumes nothing.
 use Rattle.std.specs.Prelude.{Bool, ◌&&◌, List, [], ◌∷◌, ℕ, zero, suc, ◌+◌, ◌-◌, ◌*◌, ◌%◌, eqb, ltb, length, drop}
 use Prim.Native.Char.{code}
-use Rattle.meaning.specs.Bytes.{if◌then◌else◌, ◌!◌, ascii, has, starts, within, quote, backslash, digits, number}
+use Rattle.meaning.specs.Bytes.{◌!◌, ascii, has, starts, within, quote, backslash, digits, number}
+use Rattle.std.specs.Prelude.{if◌then◌else◌}
 use Rattle.meaning.specs.Chars.{Due, due, broken, push, pushes, whole, encode, is_scalar, space}
 use Rattle.meaning.specs.Walk.{Step, keep, give, stop, Trace, ended, stopped, kept, gave, walk, size}
 

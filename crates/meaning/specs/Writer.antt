@@ -6,7 +6,8 @@ use Rattle.meaning.specs.declared.PartSize.{PartSize}
 use Rattle.meaning.specs.declared.PartSize.TheVariants.{Whole, AtMost}
 use Rattle.meaning.specs.declared.Writing.{Writing}
 use Rattle.meaning.specs.declared.Writing.TheVariants.{Written, OverLimit, NotUtf8, HoldsNul, NoRoom}
-use Rattle.meaning.specs.Bytes.{if◌then◌else◌, has, quote, backslash}
+use Rattle.meaning.specs.Bytes.{has, quote, backslash}
+use Rattle.std.specs.Prelude.{if◌then◌else◌}
 use Rattle.meaning.specs.Chars.{utf8, width}
 use Rattle.meaning.specs.Answers.{Outcome, by_room, filled}
 

@@ -1,14 +1,15 @@
 // What goes into a question and what comes out of it. The definitions of specs/ give these types their meaning; there is no function here.
+#![tactic(auto)]
 
 // What the reading of strings may differ by, given at each call.
-#[derive(Drop)]
+#[derive(Clone, Copy)]
 pub struct Settings {
     // MySQL's backslash escapes in standard strings
     pub backslash: bool,
 }
 
 // The WITH or WITHOUT TIME ZONE of a TIME or TIMESTAMP.
-#[derive(Drop)]
+#[derive(Clone, Copy)]
 pub enum TimeZone {
     Unspecified,
     WithTimeZone,
@@ -16,7 +17,7 @@ pub enum TimeZone {
 }
 
 // The qualifier behind an INTERVAL.
-#[derive(Drop)]
+#[derive(Clone, Copy)]
 pub enum IntervalFields {
     Year,
     Month,
@@ -45,28 +46,28 @@ pub enum IntervalFields {
 }
 
 // An INTERVAL's qualifier, which may be absent.
-#[derive(Drop)]
+#[derive(Clone, Copy)]
 pub enum Fields {
     Absent,
     Given(IntervalFields),
 }
 
 // An INTERVAL's precision, which may be absent.
-#[derive(Drop)]
+#[derive(Clone, Copy)]
 pub enum Precision {
     Absent,
     Given(u32),
 }
 
 // The base of a bit string's digits.
-#[derive(Drop)]
+#[derive(Clone, Copy)]
 pub enum BitStringRadix {
     Binary,
     Hex,
 }
 
 // What a literal is said to be.
-#[derive(Drop)]
+#[derive(Clone, Copy)]
 pub enum LiteralKind {
     Integer,
     Float,
@@ -83,7 +84,7 @@ pub enum LiteralKind {
 }
 
 // What a question expects a literal to be.
-#[derive(Drop)]
+#[derive(Clone, Copy)]
 pub enum LiteralExpected {
     Integer,
     DecimalText,
@@ -97,14 +98,14 @@ pub enum LiteralExpected {
 }
 
 // From a place of the source up to another.
-#[derive(Drop)]
+#[derive(Clone, Copy)]
 pub struct Span {
     pub start: u32,
     pub end: u32,
 }
 
 // A literal: its kind, whether it stands in no source, and its span.
-#[derive(Drop)]
+#[derive(Clone, Copy)]
 pub struct Literal {
     pub kind: LiteralKind,
     pub synthetic: bool,
@@ -113,7 +114,7 @@ pub struct Literal {
 
 // Why a question on a literal is refused: numbers 1 to 9. [02 T-04] 6 carries the place where reading stops, counted from the text's start. [02 T-05] 14: the
 // value is no date.
-#[derive(Drop)]
+#[derive(Clone, Copy)]
 pub enum Refusal {
     WrongKind(LiteralExpected, LiteralKind),
     MissingSource(Span),
@@ -129,7 +130,7 @@ pub enum Refusal {
 
 // A text that was read, before any span or kind is known: a part of it, the first bytes of the buffer, the place where reading stops, or the
 // length for which there is no room.
-#[derive(Drop)]
+#[derive(Clone, Copy)]
 pub enum Read {
     Borrowed { from: usize, until: usize },
     Written { len: usize },
@@ -138,7 +139,7 @@ pub enum Read {
 }
 
 // A text: a part of the source, or the first bytes of the buffer.
-#[derive(Drop)]
+#[derive(Clone, Copy)]
 pub enum Text {
     Borrowed { start: usize, end: usize },
     Written { len: usize },
@@ -146,40 +147,40 @@ pub enum Text {
 }
 
 // A part of the source.
-#[derive(Drop)]
+#[derive(Clone, Copy)]
 pub enum Range {
     Found { start: usize, end: usize },
     Refused(Refusal),
 }
 
 // A character set's name, a part of the source; or that there is none.
-#[derive(Drop)]
+#[derive(Clone, Copy)]
 pub enum Charset {
     Named { start: usize, end: usize },
     Unnamed,
     Refused(Refusal),
 }
 
-#[derive(Drop)]
+#[derive(Clone, Copy)]
 pub enum Integer {
     Value(i64),
     Refused(Refusal),
 }
 
-#[derive(Drop)]
+#[derive(Clone, Copy)]
 pub enum Truth {
     Value(bool),
     Refused(Refusal),
 }
 
-#[derive(Drop)]
+#[derive(Clone, Copy)]
 pub enum Nullness {
     IsNull,
     Refused(Refusal),
 }
 
 // An identifier's text, of a bare text: no literal, so no span to give back.
-#[derive(Drop)]
+#[derive(Clone, Copy)]
 pub enum Identifier {
     Borrowed { start: usize, end: usize },
     Written { len: usize },
@@ -189,7 +190,7 @@ pub enum Identifier {
 }
 
 // What the writer did.
-#[derive(Drop)]
+#[derive(Clone, Copy)]
 pub enum Writing {
     Written { len: usize },
     OverLimit,
@@ -199,28 +200,28 @@ pub enum Writing {
 }
 
 // A spelling of a value that leaves no byte below 20 hex, E'..', or none outside 20 to 7E, U&'..'.
-#[derive(Drop)]
+#[derive(Clone, Copy)]
 pub enum Form {
     Escape,
     Unicode,
 }
 
 // How many value bytes a written part may hold.
-#[derive(Drop)]
+#[derive(Clone, Copy)]
 pub enum PartSize {
     Whole,
     AtMost(usize),
 }
 
 // A number's base by its prefix, and where the digits begin.
-#[derive(Drop)]
+#[derive(Clone, Copy)]
 pub struct RadixPrefix {
     pub base: u32,
     pub start: usize,
 }
 
 // [02 T-03] One item of a block: a string literal that stands in the source, and its setting, by their numbers.
-#[derive(Drop)]
+#[derive(Clone, Copy)]
 pub struct Item {
     pub kind: u32,
     pub setting: u32,
@@ -230,7 +231,7 @@ pub struct Item {
 
 // What is told of an item: 0 or the refusal's number; how its text is answered (0 not, 1 borrowed, 2 written); where the text begins, in the source or in the
 // buffer, or the place of a 6, in the text; and how long it is.
-#[derive(Drop)]
+#[derive(Clone, Copy)]
 pub struct Four {
     pub number: u32,
     pub how: u32,
@@ -239,7 +240,7 @@ pub struct Four {
 }
 
 // [02 T-05] A day of the calendar, years 1 to 9999, and its number: 0001-01-01 has 1.
-#[derive(Drop)]
+#[derive(Clone, Copy)]
 pub struct CalendarDay {
     pub year: u32,
     pub month: u32,
@@ -248,28 +249,28 @@ pub struct CalendarDay {
 }
 
 // The day that a value or a number stands for; or that it is none.
-#[derive(Drop)]
+#[derive(Clone, Copy)]
 pub enum Day {
     On(CalendarDay),
     InvalidDate,
 }
 
 // The day of a date literal.
-#[derive(Drop)]
+#[derive(Clone, Copy)]
 pub enum Dated {
     On(CalendarDay),
     Refused(Refusal),
 }
 
 // [02 T-07] A bit string as packed bytes at the buffer's start, the first bit the top one of the first byte, and how many bits they hold.
-#[derive(Drop)]
+#[derive(Clone, Copy)]
 pub enum PackedBits {
     Written { len: usize, bits: u64 },
     Refused(Refusal),
 }
 
 // What the writing of a bit string did: 12, 16 and 9 are what refuses it.
-#[derive(Drop)]
+#[derive(Clone, Copy)]
 pub enum BitWriting {
     Written { len: usize },
     OverLimit,

@@ -14,7 +14,8 @@ use mir.Val.{SFits, to_z, of_z}
 use mir.Facts.{to_z-of_z}
 use Rattle.laws.proofs.basics.Digits.{DigitsTo, all_digits_at}
 use Rattle.meaning.specs.declared.RadixPrefix.{RadixPrefix}
-use Rattle.meaning.specs.Bytes.{if◌then◌else◌, number, all_digits}
+use Rattle.meaning.specs.Bytes.{number, all_digits}
+use Rattle.std.specs.Prelude.{if◌then◌else◌}
 use Rattle.meaning.specs.Halves.{joined_halves}
 use Rattle.meaning.specs.Numbers.{sign_length, is_minus, radix_prefix, placed, strip, Parsed, none}
 use Rattle.meaning.specs.Numbers.{int, signed, within_bits, parsed, negated_by, unsigned, base_of, i64_of}

@@ -9,7 +9,8 @@ use borrow.Author.Tests.{lt-ltb, le-ltb, ltb-true, ltb-false, ne_eqb, eqb-true}
 use lib.Dec.{eqb, ltb, eqb-zero-suc, eqb-suc-suc, leb-suc-suc}
 use lib.IntN.{ℤ}
 use lib.ListN.{length, drop}
-use Rattle.meaning.specs.Bytes.{if◌then◌else◌, ◌!◌, ascii, has, within, digit, digits, number, all_digits}
+use Rattle.meaning.specs.Bytes.{◌!◌, ascii, has, within, digit, digits, number, all_digits}
+use Rattle.std.specs.Prelude.{if◌then◌else◌}
 use Rattle.meaning.specs.Numbers.{placed, strip, Parsed, none, int, fits, signed, within_bits, sign_length, is_minus, parsed, unsigned}
 use Rattle.numbers.specs.Values.{Spelt, misspelt, spelt, digits_from, parsed_apart}
 use Rattle.numbers.proofs.Spelled.{Above}

@@ -10,7 +10,8 @@ use borrow.Author.Tests.{eq-eqb, ne_eqb}
 use lib.Dec.{eqb}
 use lib.ListN.{length, get_or, take, drop, length-drop}
 use lib.Seq.{take_all}
-use Rattle.meaning.specs.Bytes.{if◌then◌else◌, ◌!◌, ascii, has}
+use Rattle.meaning.specs.Bytes.{◌!◌, ascii, has}
+use Rattle.std.specs.Prelude.{if◌then◌else◌}
 use Rattle.meaning.specs.Numbers.{sign_length, is_minus, base_by, prefix_by, radix_prefix}
 
 -- a sign, or none, from the tests on the first byte

@@ -8,7 +8,7 @@ use native.Mathlib.Omega.{arith}
 use borrow.Author.Tests.{ltb-false}
 use lib.Dec.{eqb, ltb}
 use lib.ListN.{length, take, drop}
-use Rattle.meaning.specs.Bytes.{if◌then◌else◌}
+use Rattle.std.specs.Prelude.{if◌then◌else◌}
 use Rattle.meaning.specs.Numbers.{sign_length, unsigned}
 use Rattle.meaning.specs.Halves.{joined_halves}
 use Rattle.numbers.specs.Values.{Spelt, misspelt, spelt, digits_from, radix_by, halves_by, wide_of}

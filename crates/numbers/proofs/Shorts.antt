@@ -13,7 +13,8 @@ use lib.Dec.{eqb, ltb, lit≤}
 use lib.ListN.{length, get_or}
 use mir.Syntax.{w64}
 use mir.Val.{Fits}
-use Rattle.meaning.specs.Bytes.{if◌then◌else◌, ◌!◌, within, digit, number, all_digits}
+use Rattle.meaning.specs.Bytes.{◌!◌, within, digit, number, all_digits}
+use Rattle.std.specs.Prelude.{if◌then◌else◌}
 use Rattle.meaning.specs.Numbers.{sign_length, is_minus, base_by, radix_prefix}
 use Rattle.laws.proofs.basics.Tests.{within_bounds, if_same}
 use Rattle.laws.proofs.basics.Digits.{DigitsTo, all_digits_of, all_digits_at, number_suc, number_lt}

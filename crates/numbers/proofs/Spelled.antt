@@ -12,7 +12,8 @@ use borrow.Author.Tests.{lt-ltb, le-ltb, eq-eqb, ne_eqb}
 use lib.Dec.{eqb, ltb}
 use lib.ListN.{length, drop, get_or, drop_of_length-le}
 use lib.Seq.{drop-cons}
-use Rattle.meaning.specs.Bytes.{if◌then◌else◌, ◌!◌, digit}
+use Rattle.meaning.specs.Bytes.{◌!◌, digit}
+use Rattle.std.specs.Prelude.{if◌then◌else◌}
 use Rattle.numbers.specs.Values.{Spelt, misspelt, spelt, digits_from}
 
 -- ONE BYTE: a digit, `_`, another

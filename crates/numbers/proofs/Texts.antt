@@ -9,7 +9,8 @@ use borrow.Author.Tests.{ne_eqb, eqb-true}
 use lib.Dec.{eqb, ltb}
 use lib.ListN.{length, take, drop}
 use Rattle.meaning.specs.declared.RadixPrefix.{RadixPrefix}
-use Rattle.meaning.specs.Bytes.{if◌then◌else◌, ◌!◌, ascii, has, within, digit}
+use Rattle.meaning.specs.Bytes.{◌!◌, ascii, has, within, digit}
+use Rattle.std.specs.Prelude.{if◌then◌else◌}
 use Rattle.meaning.specs.Numbers.{sign_length, is_minus, base_by, radix_prefix, placed, strip, none}
 use Rattle.meaning.specs.Numbers.{parsed, within_bits, negated_by, unsigned, base_of, number_body, separated, radix_value}
 use Rattle.laws.proofs.basics.Tests.{if_same}

@@ -1,7 +1,8 @@
 -- What the functions between a text and its number answer. Assumes nothing.
 use Rattle.std.specs.Prelude.{Bool, true, false, ◌&&◌, ◌||◌, List, [], ◌∷◌, ℕ, ◌+◌, ◌*◌, ◌/◌, ◌%◌, ◌^◌, eqb, ltb, length}
 use Prim.Native.Char.{code}
-use Rattle.meaning.specs.Bytes.{if◌then◌else◌, digit, number, all_digits}
+use Rattle.meaning.specs.Bytes.{digit, number, all_digits}
+use Rattle.std.specs.Prelude.{if◌then◌else◌}
 use Rattle.meaning.specs.Numbers.{Parsed, none, int, placed, strip, parsed}
 use Rattle.numbers.specs.declared.digits.Magnitude.{Magnitude}
 use Rattle.numbers.specs.declared.digits.Magnitude.TheVariants as M

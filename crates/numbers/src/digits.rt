@@ -3,7 +3,7 @@ ghost use Rattle.std.specs.Prelude.{◌≡◌, false};
 ghost use Rattle.numbers.specs.Values.{digits_from, magnitude_of, short_of};
 
 // A number, or a refusal.
-#[derive(Drop)]
+#[derive(Clone, Copy)]
 pub(crate) enum Magnitude {
     Value(u64),
     Refused,

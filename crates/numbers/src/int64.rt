@@ -8,7 +8,7 @@ use crate::prefix::{split_radix_prefix, split_sign};
 use crate::radix::{Halves, read_radix_digits};
 
 // A number of 64 bits, or a refusal.
-#[derive(Drop)]
+#[derive(Clone, Copy)]
 pub enum Int64 {
     Value(i64),
     Refused,

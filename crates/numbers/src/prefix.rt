@@ -5,7 +5,7 @@ ghost use Rattle.meaning.specs.Numbers.{sign_length, is_minus, base_by, radix_pr
 use meaning::RadixPrefix;
 
 // A sign at the front: whether it is a minus, and its bytes, 0 or 1.
-#[derive(Drop)]
+#[derive(Clone, Copy)]
 pub struct Sign {
     pub minus: bool,
     pub len: usize,

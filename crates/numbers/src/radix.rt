@@ -5,7 +5,7 @@ ghost use Rattle.numbers.specs.Values.{digits_from, wide_of, radix_by};
 use leaves::digits::hex_value;
 
 // The two halves of 128 bits, or a refusal.
-#[derive(Drop)]
+#[derive(Clone, Copy)]
 pub enum Halves {
     Value { hi: u64, lo: u64 },
     Refused,

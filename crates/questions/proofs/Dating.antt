@@ -19,7 +19,8 @@ use Rattle.meaning.specs.declared.Day.{Day}
 use Rattle.meaning.specs.declared.Day.TheVariants as Day'
 use Rattle.meaning.specs.declared.Dated.{Dated}
 use Rattle.meaning.specs.declared.Dated.TheVariants as Dated'
-use Rattle.meaning.specs.Bytes.{if◌then◌else◌, part}
+use Rattle.meaning.specs.Bytes.{part}
+use Rattle.std.specs.Prelude.{if◌then◌else◌}
 use Rattle.meaning.specs.Cutting.{off}
 use Rattle.meaning.specs.Reading.{Answer, borrowed, written, refused, value_of}
 use Rattle.meaning.specs.Reads.{read_of, buffer_of, Reads, read_shown}

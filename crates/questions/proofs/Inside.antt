@@ -8,7 +8,8 @@ use Prim.Native.Char.{code}
 use native.Mathlib.Omega.{arith}
 use lib.Dec.{eqb}
 use lib.ListN.{length}
-use Rattle.meaning.specs.Bytes.{if◌then◌else◌, ◌!◌, has}
+use Rattle.meaning.specs.Bytes.{◌!◌, has}
+use Rattle.std.specs.Prelude.{if◌then◌else◌}
 use Rattle.meaning.specs.Reading.{borrowed, written, refused}
 use Rattle.meaning.specs.Numbers.{Parsed, none, int, base_of, separated, strip, radix_value, printed_by, decimal_of}
 use Rattle.meaning.specs.Kinds.{money}

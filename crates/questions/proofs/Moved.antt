@@ -18,7 +18,8 @@ use Rattle.meaning.specs.declared.Text.{Text}
 use Rattle.meaning.specs.declared.Text.TheVariants as Text'
 use Rattle.meaning.specs.declared.Range.{Range}
 use Rattle.meaning.specs.declared.Range.TheVariants as Range'
-use Rattle.meaning.specs.Bytes.{if◌then◌else◌, part}
+use Rattle.meaning.specs.Bytes.{part}
+use Rattle.std.specs.Prelude.{if◌then◌else◌}
 use Rattle.meaning.specs.Reading.{Answer, borrowed, written, refused}
 use Rattle.meaning.specs.Reads.{read_of, buffer_of, Reads}
 use Rattle.meaning.specs.Answers.{Meets}

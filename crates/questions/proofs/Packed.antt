@@ -19,7 +19,8 @@ use Rattle.meaning.specs.declared.Refusal.{Refusal}
 use Rattle.meaning.specs.declared.Refusal.TheVariants as Refusal'
 use Rattle.meaning.specs.declared.PackedBits.{PackedBits}
 use Rattle.meaning.specs.declared.PackedBits.TheVariants as Bits'
-use Rattle.meaning.specs.Bytes.{if◌then◌else◌, part}
+use Rattle.meaning.specs.Bytes.{part}
+use Rattle.std.specs.Prelude.{if◌then◌else◌}
 use Rattle.meaning.specs.Cutting.{off}
 use Rattle.meaning.specs.Reading.{Value, means, fails, value_of}
 use Rattle.meaning.specs.Kinds.{bits}

@@ -15,7 +15,8 @@ use Rattle.meaning.specs.declared.Day.{Day}
 use Rattle.meaning.specs.declared.Day.TheVariants as Day'
 use Rattle.meaning.specs.declared.Dated.{Dated}
 use Rattle.meaning.specs.declared.Dated.TheVariants as Dated'
-use Rattle.meaning.specs.Bytes.{if◌then◌else◌, ◌!◌, part, has, ascii, in_tag, quote}
+use Rattle.meaning.specs.Bytes.{◌!◌, part, has, ascii, in_tag, quote}
+use Rattle.std.specs.Prelude.{if◌then◌else◌}
 use Rattle.meaning.specs.Cutting.{off}
 use Rattle.meaning.specs.Reading.{means, value_of}
 use Rattle.meaning.specs.Kinds.{temporal}

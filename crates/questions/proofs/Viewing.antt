@@ -22,7 +22,7 @@ module _ (S out r : Bor (List ℕ)) (a : Text) where
   pub shown_written : (n : ℕ) → a ≡ Text'.Written n → IsPart (part_shown 0 n out.now) (part_place 0 n out) r → TextShown a
   shown_written n q p = subst TextShown (sym q) p
 
-  pub shown_refused : (e : Refusal) → a ≡ Text'.Refused e → r.now ≡ [] → r.ref_ptr ≡ S.ptr → TextShown a
+  pub shown_refused : (e : Refusal) → a ≡ Text'.Refused e → r.now ≡ [] → r.ref_ptr ≡ S.ref_ptr → TextShown a
   shown_refused e q b p = subst TextShown (sym q) (record { bytes = b; place = p })
 
 module _ (S r : Bor (List ℕ)) (a : Range) where
@@ -32,7 +32,7 @@ module _ (S r : Bor (List ℕ)) (a : Range) where
   pub range_found : (f u : ℕ) → a ≡ Range'.Found f u → IsPart (part_shown f u S.now) (part_place f u S) r → RangeShown a
   range_found f u q p = subst RangeShown (sym q) p
 
-  pub range_refused : (e : Refusal) → a ≡ Range'.Refused e → r.now ≡ [] → r.ref_ptr ≡ S.ptr → RangeShown a
+  pub range_refused : (e : Refusal) → a ≡ Range'.Refused e → r.now ≡ [] → r.ref_ptr ≡ S.ref_ptr → RangeShown a
   range_refused e q b p = subst RangeShown (sym q) (record { bytes = b; place = p })
 
   -- of another range that is this one
@@ -46,10 +46,10 @@ module _ (S r : Bor (List ℕ)) (a : Charset) where
   pub charset_named : (f u : ℕ) → a ≡ Charset'.Named f u → IsPart (part_shown f u S.now) (part_place f u S) r → CharsetShown a
   charset_named f u q p = subst CharsetShown (sym q) p
 
-  pub charset_unnamed : a ≡ Charset'.Unnamed → r.now ≡ [] → r.ref_ptr ≡ S.ptr → CharsetShown a
+  pub charset_unnamed : a ≡ Charset'.Unnamed → r.now ≡ [] → r.ref_ptr ≡ S.ref_ptr → CharsetShown a
   charset_unnamed q b p = subst CharsetShown (sym q) (record { bytes = b; place = p })
 
-  pub charset_refused : (e : Refusal) → a ≡ Charset'.Refused e → r.now ≡ [] → r.ref_ptr ≡ S.ptr → CharsetShown a
+  pub charset_refused : (e : Refusal) → a ≡ Charset'.Refused e → r.now ≡ [] → r.ref_ptr ≡ S.ref_ptr → CharsetShown a
   charset_refused e q b p = subst CharsetShown (sym q) (record { bytes = b; place = p })
 
   pub charset_as : (b : Charset) → b ≡ a → CharsetShown b → CharsetShown a

@@ -6,7 +6,7 @@ use Rattle.meaning.specs.declared.Span.{Span}
 use Rattle.meaning.specs.declared.Refusal.TheVariants as Refusal'
 use Rattle.meaning.specs.declared.PackedBits.{PackedBits}
 use Rattle.meaning.specs.declared.PackedBits.TheVariants as Bits'
-use Rattle.meaning.specs.Bytes.{if◌then◌else◌}
+use Rattle.std.specs.Prelude.{if◌then◌else◌}
 use Rattle.bits.specs.declared.packing.Packed.{Packed}
 use Rattle.bits.specs.declared.packing.Packed.TheVariants.{Written, Refused, NoRoom}
 use Rattle.bits.specs.Pens.{digit_count}

@@ -8,7 +8,7 @@ use Rattle.meaning.specs.declared.Text.{Text}
 use Rattle.meaning.specs.declared.Text.TheVariants as Text'
 use Rattle.meaning.specs.declared.Range.{Range}
 use Rattle.meaning.specs.declared.Range.TheVariants as Range'
-use Rattle.meaning.specs.Bytes.{if◌then◌else◌}
+use Rattle.std.specs.Prelude.{if◌then◌else◌}
 
 -- the part begins at place s; `bad` is why a refused reading is refused
 abbrev pub told_by : Refusal → ℕ → Read → Text

@@ -1,5 +1,7 @@
 // The questions as a user asks them: a literal, a source, a setting and a lent buffer go in, an answer of document 01 comes out.
 // Every one answers for every input.
+#![tactic(auto)]
+
 pub mod dates;
 pub mod packing;
 pub mod parts;

@@ -19,7 +19,8 @@ use Rattle.meaning.specs.declared.Charset.{Charset}
 use Rattle.meaning.specs.declared.Charset.TheVariants as Charset'
 use Rattle.meaning.specs.declared.Integer.{Integer}
 use Rattle.meaning.specs.declared.Integer.TheVariants as Integer'
-use Rattle.meaning.specs.Bytes.{if◌then◌else◌, part}
+use Rattle.meaning.specs.Bytes.{part}
+use Rattle.std.specs.Prelude.{if◌then◌else◌}
 use Rattle.meaning.specs.Numbers.{printed}
 use Rattle.meaning.specs.Answers.{part_shown, refusal_number}
 use Rattle.meaning.specs.Records.{line, refused_line, shown_line, text_line_as, range_line, charset_line, integer_line}

@@ -21,7 +21,8 @@ use Rattle.meaning.specs.declared.Range.{Range}
 use Rattle.meaning.specs.declared.Range.TheVariants as Range'
 use Rattle.meaning.specs.declared.Charset.{Charset}
 use Rattle.meaning.specs.declared.Charset.TheVariants as Charset'
-use Rattle.meaning.specs.Bytes.{if◌then◌else◌, ◌!◌, number, all_digits}
+use Rattle.meaning.specs.Bytes.{◌!◌, number, all_digits}
+use Rattle.std.specs.Prelude.{if◌then◌else◌}
 use Rattle.meaning.specs.Numbers.{sign_length, is_minus, strip, Parsed, none, int, fits, signed, within_bits, parsed, negated_by, base_of, number_body}
 use Rattle.meaning.specs.Numbers.{separated, radix_value, i64_of, digits_of, printed}
 use Rattle.meaning.specs.Answers.{Outcome, part_shown, refusal_number}

@@ -39,7 +39,7 @@ fn answer_records(input: &[u8], output: &mut [u8]) -> usize
 }
 
 // How many bytes a block has; whether the input has ended, or could not be read on.
-#[derive(Drop)]
+#[derive(Clone, Copy)]
 struct Filled {
     pub bytes: usize,
     pub ended: bool,
@@ -71,7 +71,7 @@ fn fill(input: &mut [u8]) -> Filled
 }
 
 // How a block went: there may be more; it was the last; or it could not be read, or its lines not be written.
-#[derive(Drop)]
+#[derive(Clone, Copy)]
 enum Block {
     Whole,
     Last,

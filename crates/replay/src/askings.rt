@@ -13,7 +13,7 @@ use leaves::bytes::byte_at;
 use questions::shown::text_shown;
 
 // How many rows and askings a stratum has had, and how many askings differ; whether the block at hand is the last.
-#[derive(Drop)]
+#[derive(Clone, Copy)]
 pub(crate) struct Tally {
     pub rows: u64,
     pub askings: u64,

@@ -1,6 +1,8 @@
 // Replays the rows of standard input, which tools/replay.py makes of vectors/: asks each row's question in up to four ways, and holds the answer, the bytes
 // it shows and every other byte of the buffer to what the row says is due. Prints for each stratum how many rows and askings it has and how many askings
 // differ, and before that the first that does.
+#![tactic(auto)]
+
 mod asked;
 mod askings;
 mod calls;

@@ -4,7 +4,7 @@ use check::same;
 use leaves::views::part_of;
 
 // An answer; whether the bytes that it shows are the value, and the other bytes of the buffer as they were.
-#[derive(Drop)]
+#[derive(Clone, Copy)]
 pub(crate) struct Seen {
     pub told: Told,
     pub shown: bool,

@@ -7,7 +7,7 @@ use meaning::{
 };
 use questions::refusals::refusal_number;
 
-#[derive(Drop)]
+#[derive(Clone, Copy)]
 pub(crate) struct Told {
     pub number: u32,
     pub letter: u8,

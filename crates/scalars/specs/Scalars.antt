@@ -1,6 +1,6 @@
 -- A character's number at a place, and its encoding in a buffer. Assumes nothing.
 use Rattle.std.specs.Prelude.{Bool, true, false, ◌&&◌, ◌≡◌, List, [], ◌∷◌, ℕ, zero, suc, ◌-◌, leb, length}
-use Rattle.meaning.specs.Bytes.{if◌then◌else◌}
+use Rattle.std.specs.Prelude.{if◌then◌else◌}
 use Rattle.meaning.specs.Chars.{Due, due, broken, lead, gather, base, encode, is_scalar}
 use Rattle.meaning.specs.Answers.{filled}
 

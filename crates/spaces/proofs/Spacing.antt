@@ -8,7 +8,8 @@ use native.Mathlib.Decide.{dec_lt}
 use lib.Dec.{eqb, leb}
 use lib.ListN.{length, drop, get_or, length-drop, drop_of_length-le}
 use lib.Seq.{drop-cons, drop-drop}
-use Rattle.meaning.specs.Bytes.{if◌then◌else◌, within}
+use Rattle.meaning.specs.Bytes.{within}
+use Rattle.std.specs.Prelude.{if◌then◌else◌}
 use Rattle.meaning.specs.Chars.{Due, due, broken, lead, width, width_by, is_space, space, space_at}
 use Rattle.meaning.specs.Steps.{space_step, space_by, gap}
 use Rattle.laws.proofs.walking.Walks.{FitsIn}

@@ -1,6 +1,8 @@
 // [01 Cutting] White space: Unicode White_Space, ten ranges.
+#![tactic(auto)]
+
 ghost use Rattle.std.specs.Prelude.{◌≡◌, ◌<◌, drop};
-ghost use Rattle.meaning.specs.Bytes.{if◌then◌else◌};
+ghost use Rattle.std.specs.Prelude.{if◌then◌else◌};
 ghost use Rattle.meaning.specs.Chars.{is_space, space};
 ghost use Rattle.meaning.specs.Steps.{gap};
 ghost use Rattle.spaces.specs.Blanks.{is_blank};

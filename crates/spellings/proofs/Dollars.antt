@@ -8,7 +8,8 @@ use lib.Dec.{eqb, leb}
 use lib.ListN.{length, take, drop, length-drop, length-take}
 use lib.Seq.{get_or-drop, drop-drop}
 use borrow.Author.Tests.{eq-eqb, ne_eqb, le-leb, lt-leb}
-use Rattle.meaning.specs.Bytes.{if◌then◌else◌, ◌!◌, same, starts, span, starts_tag, in_tag}
+use Rattle.meaning.specs.Bytes.{◌!◌, same, starts, span, starts_tag, in_tag}
+use Rattle.std.specs.Prelude.{if◌then◌else◌}
 use Rattle.meaning.specs.Spelling.{dollar, unspelt, tag_length, delimiter, dollar_by}
 use Rattle.laws.proofs.cutting.Openings.{inside}
 use Rattle.leaves.proofs.RunSteps.{span_length}

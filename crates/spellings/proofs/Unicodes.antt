@@ -9,7 +9,8 @@ use lib.Dec.{eqb}
 use lib.ListN.{length, take, drop, length-drop, length-take}
 use lib.Seq.{drop-drop}
 use borrow.Author.Tests.{ne_eqb, not-true, not-false}
-use Rattle.meaning.specs.Bytes.{if◌then◌else◌, ◌!◌, part, ascii, has, quote}
+use Rattle.meaning.specs.Bytes.{◌!◌, part, ascii, has, quote}
+use Rattle.std.specs.Prelude.{if◌then◌else◌}
 use Rattle.meaning.specs.Walk.{Trace, walk, stops}
 use Rattle.meaning.specs.Steps.{closing_step, gap, trim}
 use Rattle.meaning.specs.Spelling.{Spelling, encloses, legal_escape, argument, chosen, unicode_by, is_unicode, unicode_spelling}

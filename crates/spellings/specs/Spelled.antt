@@ -1,7 +1,8 @@
 -- What the code's spellings mean. Assumes nothing.
 use Rattle.std.specs.Prelude.{Bool, ◌&&◌, ◌≡◌, List, [], ◌∷◌, ℕ, ◌-◌, ◌≤◌, eqb, ltb, length}
 use Prim.Native.Char.{code}
-use Rattle.meaning.specs.Bytes.{if◌then◌else◌, ◌!◌, part, quote, backslash}
+use Rattle.meaning.specs.Bytes.{◌!◌, part, quote, backslash}
+use Rattle.std.specs.Prelude.{if◌then◌else◌}
 use Rattle.meaning.specs.Cutting.{opening}
 use Rattle.meaning.specs.Spelling.{Spelling, standard, escape, unicode, dollar, unspelt, encloses, is_unicode, unicode_spelling, delimiter, dollar_by}
 use Rattle.cutting.specs.declared.marks.Mark.{Mark}

@@ -16,7 +16,7 @@ use uescape::{Clause, uescape_clause};
 
 // A body in its text: by which family it is read, from where to where it goes, and the part of the text in which its escape character lies; an empty part
 // stands for the backslash.
-#[derive(Drop)]
+#[derive(Clone, Copy)]
 pub struct Body {
     pub family: Family,
     pub from: usize,
@@ -26,7 +26,7 @@ pub struct Body {
 }
 
 // How a text is spelled: with a body, in dollars, or in no way that can be read.
-#[derive(Drop)]
+#[derive(Clone, Copy)]
 pub enum Spelled {
     Body(Body),
     Dollar { from: usize, until: usize },

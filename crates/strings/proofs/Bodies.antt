@@ -10,7 +10,8 @@ use borrow.Author.Tests.{eq-eqb, ne_eqb}
 use Rattle.meaning.specs.declared.Settings.{Settings}
 use Rattle.meaning.specs.declared.Read.{Read}
 use Rattle.meaning.specs.declared.Read.TheVariants as Read'
-use Rattle.meaning.specs.Bytes.{if◌then◌else◌, part, has, dquote}
+use Rattle.meaning.specs.Bytes.{part, has, dquote}
+use Rattle.std.specs.Prelude.{if◌then◌else◌}
 use Rattle.meaning.specs.Walk.{Trace, size, stops, plain, value, walk}
 use Rattle.meaning.specs.Steps.{unicode_step}
 use Rattle.meaning.specs.Spelling.{Spelling, spelling, unicode_spelling}

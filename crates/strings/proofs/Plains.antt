@@ -10,7 +10,8 @@ use lib.Seq.{drop-cons, get_or-drop}
 use borrow.Author.Tests.{ltb-true, eqb-true, not-true, not-false}
 use Rattle.meaning.specs.declared.Settings.{Settings}
 use Rattle.meaning.specs.declared.Read.TheVariants as Read'
-use Rattle.meaning.specs.Bytes.{if◌then◌else◌, ◌!◌, part, has, quote, backslash}
+use Rattle.meaning.specs.Bytes.{◌!◌, part, has, quote, backslash}
+use Rattle.std.specs.Prelude.{if◌then◌else◌}
 use Rattle.meaning.specs.Walk.{keep, walk, plain}
 use Rattle.meaning.specs.Steps.{standard_step}
 use Rattle.meaning.specs.Cutting.{segment}

@@ -10,7 +10,7 @@ use lib.Seq.{take_all, length-take-le, drop_at}
 use Rattle.meaning.specs.declared.Settings.{Settings}
 use Rattle.meaning.specs.declared.Read.{Read}
 use Rattle.meaning.specs.declared.Read.TheVariants as Read'
-use Rattle.meaning.specs.Bytes.{if◌then◌else◌}
+use Rattle.std.specs.Prelude.{if◌then◌else◌}
 use Rattle.meaning.specs.Answers.{filled}
 use Rattle.meaning.specs.Reading.{Answer, borrowed, written, read}
 use Rattle.meaning.specs.Reads.{Reads, read_of}

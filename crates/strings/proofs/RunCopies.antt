@@ -8,7 +8,8 @@ use native.Mathlib.Omega.{arith}
 use lib.Dec.{eqb, leb}
 use lib.ListN.{length, take, drop, get_or, set, length-append, length-take, length-drop, drop_of_length-le}
 use lib.Seq.{drop-cons, sets-eq, length-take-le, take_all, take-take, take-append-le, take-add, take_at, get_or-take}
-use Rattle.meaning.specs.Bytes.{if◌then◌else◌, ◌!◌, span}
+use Rattle.meaning.specs.Bytes.{◌!◌, span}
+use Rattle.std.specs.Prelude.{if◌then◌else◌}
 use Rattle.laws.proofs.basics.Copies.{Copying, copying_none, copying_turn, copying_all}
 use Rattle.laws.proofs.basics.Lists.{part_tail}
 use Rattle.laws.proofs.basics.Tests.{and_left, and_right, or_left, or_right}

@@ -9,7 +9,8 @@ use lib.Dec.{eqb}
 use lib.ListN.{length, take, drop}
 use lib.Seq.{take_all}
 use Rattle.meaning.specs.declared.Settings.{Settings}
-use Rattle.meaning.specs.Bytes.{if◌then◌else◌, ◌!◌, is_mark}
+use Rattle.meaning.specs.Bytes.{◌!◌, is_mark}
+use Rattle.std.specs.Prelude.{if◌then◌else◌}
 use Rattle.meaning.specs.Steps.{trim}
 use Rattle.meaning.specs.Cutting.{continues}
 use Rattle.meaning.specs.Reading.{borrowed, written, one}

@@ -9,7 +9,7 @@ use lib.ListN.{length, take, drop, length-take, length-drop}
 use Rattle.meaning.specs.declared.Settings.{Settings}
 use Rattle.meaning.specs.declared.Read.{Read}
 use Rattle.meaning.specs.declared.Read.TheVariants as Read'
-use Rattle.meaning.specs.Bytes.{if◌then◌else◌}
+use Rattle.std.specs.Prelude.{if◌then◌else◌}
 use Rattle.meaning.specs.Reading.{Answer, borrowed, written, refused, value_of, one, alone}
 use Rattle.meaning.specs.Answers.{filled}
 use Rattle.meaning.specs.Reads.{read_of, buffer_of, Reads}

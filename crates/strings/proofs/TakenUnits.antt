@@ -11,7 +11,8 @@ use borrow.Author.Tests.{le-leb, ne_eqb, eqb-true, eqb-false, lt-ltb, ltb-true, 
 use lib.Dec.{eqb, ltb, leb}
 use lib.ListN.{length, take, drop, length-append}
 use lib.Seq.{drop-drop, take-append_seam}
-use Rattle.meaning.specs.Bytes.{if◌then◌else◌, ◌!◌, ascii, has, starts, within, backslash, digit, digits, number}
+use Rattle.meaning.specs.Bytes.{◌!◌, ascii, has, starts, within, backslash, digit, digits, number}
+use Rattle.std.specs.Prelude.{if◌then◌else◌}
 use Rattle.meaning.specs.Answers.{filled}
 use Rattle.meaning.specs.Chars.{encode, is_scalar, whole, utf8}
 use Rattle.meaning.specs.Walk.{Step, keep, give, stop}

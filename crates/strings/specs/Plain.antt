@@ -1,7 +1,8 @@
 -- A string in ' that is read as its own body: no mark, no NUL and no active backslash in it. Assumes nothing.
 use Rattle.std.specs.Prelude.{Bool, ◌&&◌, List, ℕ, ◌-◌, length}
 use Rattle.meaning.specs.declared.Settings.{Settings}
-use Rattle.meaning.specs.Bytes.{if◌then◌else◌, part, quote, backslash}
+use Rattle.meaning.specs.Bytes.{part, quote, backslash}
+use Rattle.std.specs.Prelude.{if◌then◌else◌}
 use Rattle.meaning.specs.Spelling.{encloses}
 use Rattle.leaves.specs.declared.blocks.Stops.{Stops}
 use Rattle.leaves.specs.Blocks.{free_of, passes}

@@ -1,7 +1,8 @@
 -- What the quick reading owes, piece by piece: a front of the text behind an opening, and the bytes that it stands for. Nothing is said where it takes nothing:
 -- the reading by units answers there. Assumes nothing.
 use Rattle.std.specs.Prelude.{◌≡◌, Bool, true, false, List, [], ◌∷◌, ℕ, ◌≤◌, ◌<◌, ltb, length, take, drop}
-use Rattle.meaning.specs.Bytes.{if◌then◌else◌, quote, backslash}
+use Rattle.meaning.specs.Bytes.{quote, backslash}
+use Rattle.std.specs.Prelude.{if◌then◌else◌}
 use Rattle.meaning.specs.Chars.{encode}
 use Rattle.meaning.specs.Walk.{Step, give}
 use Rattle.meaning.specs.Steps.{byte_of, mysql_table, may_escape, low_half, escape_step}

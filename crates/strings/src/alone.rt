@@ -1,6 +1,7 @@
 // [01 One segment] One segment, or a whole text that is read as one, into a buffer: its spelling is found once, and its body is read by units.
 ghost use Rattle.std.specs.Prelude.{◌≡◌, ◌+◌, ◌≤◌, eqb, length};
-ghost use Rattle.meaning.specs.Bytes.{if◌then◌else◌, part};
+ghost use Rattle.meaning.specs.Bytes.{part};
+ghost use Rattle.std.specs.Prelude.{if◌then◌else◌};
 ghost use Rattle.meaning.specs.Reads.{Reads};
 ghost use Rattle.strings.specs.Answers.{BodyInside, body_of, place_of, placed_of, SpelledInside, spelled_as, SpellsAlone};
 

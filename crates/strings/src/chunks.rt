@@ -9,7 +9,7 @@ use escapes::units::Family;
 use leaves::bytes::byte_at;
 
 // What follows a turn.
-#[derive(Drop)]
+#[derive(Clone, Copy)]
 pub(crate) enum End {
     // another turn
     More,
@@ -20,7 +20,7 @@ pub(crate) enum End {
 }
 
 // What one turn read; `ends` where nothing stands behind it that could be read here.
-#[derive(Drop)]
+#[derive(Clone, Copy)]
 pub(crate) struct Turn {
     pub at: usize,
     pub n: usize,

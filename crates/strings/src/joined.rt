@@ -15,7 +15,7 @@ use meaning::{Read, Settings};
 use spaces::gap_at;
 
 // How long a value is, or where reading stops.
-#[derive(Drop)]
+#[derive(Clone, Copy)]
 pub(crate) enum Joined {
     Length(usize),
     Refused(usize),

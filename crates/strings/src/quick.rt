@@ -20,7 +20,7 @@ use meaning::Settings;
 use spaces::gap_at;
 
 // An answer, or none. It is no `Read` with a case more: one enum inside another is moved byte by byte, which cost 3 ns a row.
-#[derive(Drop)]
+#[derive(Clone, Copy)]
 pub(crate) enum Quick {
     Borrowed { from: usize, until: usize },
     Written { len: usize },
@@ -29,7 +29,7 @@ pub(crate) enum Quick {
 }
 
 // A segment's opening: the place behind it, and how its body is read.
-#[derive(Drop)]
+#[derive(Clone, Copy)]
 pub(crate) struct Opened {
     pub known: bool,
     pub from: usize,
@@ -37,7 +37,7 @@ pub(crate) struct Opened {
 }
 
 // A segment that was read: where its body begins, the place behind its closing mark, the place of what follows, whether its body stands for itself, and what is stored.
-#[derive(Drop)]
+#[derive(Clone, Copy)]
 pub(crate) struct Segment {
     pub read: bool,
     pub from: usize,

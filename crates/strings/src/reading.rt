@@ -13,14 +13,14 @@ use utf8::ascii::is_plain_run;
 use utf8::check::{is_clean, is_utf8};
 
 // What a text is, before its reading is told: not UTF-8, or read.
-#[derive(Drop)]
+#[derive(Clone, Copy)]
 pub enum Checked {
     NotUtf8,
     Text(Read),
 }
 
 // What is told of a text without the reading by units: its reading, that it is left to read, or that it is not UTF-8.
-#[derive(Drop)]
+#[derive(Clone, Copy)]
 pub(crate) enum Tried {
     Borrowed { from: usize, until: usize },
     Written { len: usize },
@@ -30,7 +30,7 @@ pub(crate) enum Tried {
 }
 
 // How a text may be read: as its own body, quickly, or by units alone.
-#[derive(Drop)]
+#[derive(Clone, Copy)]
 pub(crate) enum Fit {
     Plain,
     Clean,

@@ -8,14 +8,14 @@ use escapes::units::Family;
 use leaves::puts::put_bytes;
 
 // What is stored: `total` bytes in what is lent of the buffer, as far as they fit, and n behind them in the chunk.
-#[derive(Drop)]
+#[derive(Clone, Copy)]
 pub(crate) struct Store {
     pub total: usize,
     pub n: usize,
 }
 
 // How far a body is read, whether each of its bytes stands for itself, what is stored, and why nothing more is read.
-#[derive(Drop)]
+#[derive(Clone, Copy)]
 pub(crate) struct Body {
     pub at: usize,
     pub plain: bool,

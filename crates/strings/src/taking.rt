@@ -14,7 +14,7 @@ use scalars::encoding::{encode_utf8, is_scalar};
 use utf8::tail::{Utf8Tail, is_whole, utf8_tail_push};
 
 // What was taken: `len` bytes of the text, which stand for the first `put` of four bytes; 0 of the text for nothing.
-#[derive(Drop)]
+#[derive(Clone, Copy)]
 pub(crate) struct Taken {
     pub len: usize,
     pub put: usize,
@@ -89,7 +89,7 @@ fn scalar_taken(len: usize, value: u32) -> Taken
 }
 
 // A byte that E's backslash spells by octal digits or by x.
-#[derive(Drop)]
+#[derive(Clone, Copy)]
 pub(crate) struct Raw {
     pub len: usize,
     pub byte: u8,

@@ -9,7 +9,8 @@ use native.Mathlib.Omega.{arith}
 use lib.ListN.{length, take, drop, drop_of_length-le, length-drop}
 use lib.Seq.{drop-drop}
 use borrow.Author.Tests.{not-true, not-false}
-use Rattle.meaning.specs.Bytes.{if◌then◌else◌, ascii}
+use Rattle.meaning.specs.Bytes.{ascii}
+use Rattle.std.specs.Prelude.{if◌then◌else◌}
 use Rattle.meaning.specs.Steps.{gap, trim}
 use Rattle.meaning.specs.Spelling.{upper}
 use Rattle.laws.proofs.cutting.Gaps.{gap_fits}

@@ -1,6 +1,7 @@
 -- What the code's UESCAPE arguments and clauses mean. Assumes nothing.
 use Rattle.std.specs.Prelude.{Bool, true, ◌&&◌, List, [], ◌∷◌, map, ℕ, suc, ◌+◌, ◌-◌, length, take, drop}
-use Rattle.meaning.specs.Bytes.{if◌then◌else◌, ascii, same, within}
+use Rattle.meaning.specs.Bytes.{ascii, same, within}
+use Rattle.std.specs.Prelude.{if◌then◌else◌}
 use Rattle.meaning.specs.Steps.{gap, trim}
 use Rattle.meaning.specs.Spelling.{upper, argument}
 use Rattle.uescape.specs.declared.Argument.{Argument}

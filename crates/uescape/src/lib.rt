@@ -1,4 +1,6 @@
 // [01 One segment, U&] The UESCAPE clause, and its character.
+#![tactic(auto)]
+
 ghost use Rattle.std.specs.Prelude.{◌≡◌, drop};
 ghost use Rattle.meaning.specs.Spelling.{legal_escape, upper};
 ghost use Rattle.uescape.specs.Clauses.{all_later, is_keyword, argument_of, clause_of};
@@ -44,7 +46,7 @@ fn is_legal_uescape_char(bytes: &[u8]) -> bool
 }
 
 // A quoted argument's escape character.
-#[derive(Drop)]
+#[derive(Clone, Copy)]
 pub enum Argument {
     // its bytes lie from place 1 to the place before the last
     Legal,
@@ -98,7 +100,7 @@ fn is_uescape_keyword(text: &[u8], at: usize) -> bool
 }
 
 // What follows a U& body's closing mark: nothing but white space; a clause, whose character lies in a part of the text; or anything else.
-#[derive(Drop)]
+#[derive(Clone, Copy)]
 pub enum Clause {
     Default,
     Chosen { start: usize, end: usize },

@@ -2,7 +2,8 @@
 use Rattle.std.proofs.Common.{◌≡◌, ℕ, zero, suc, ◌+◌, ◌-◌, ◌<◌, ◌≤◌, Bool, true, false, not, ◌&&◌, ◌||◌, eqb, leb, List, [], ◌∷◌, length, get_or, drop, sym, refl, ap, ◌∙◌, add-one, arith, drop-cons, ne_eqb, le-leb}
 use mathlib.Core.Bool.{and-true, and-false}
 use borrow.Author.Tests.{not-true, not-false}
-use Rattle.meaning.specs.Bytes.{if◌then◌else◌, ◌!◌, within, has}
+use Rattle.meaning.specs.Bytes.{◌!◌, within, has}
+use Rattle.std.specs.Prelude.{if◌then◌else◌}
 use Rattle.meaning.specs.Chars.{utf8}
 use Rattle.leaves.specs.Blocks.{passes}
 use Rattle.leaves.proofs.Scans.{passes_append, Counting, counting_start, counting_on, Before, block_passes, block_fails, block_last}

@@ -1,6 +1,6 @@
 -- What is due tells the state: a contract that fixes what is due fixes the state. Assumes nothing.
 use Rattle.std.proofs.Common.{◌≡◌, eqb, sym, refl, ap, ◌∙◌}
-use Rattle.meaning.specs.Bytes.{if◌then◌else◌}
+use Rattle.std.specs.Prelude.{if◌then◌else◌}
 use Rattle.meaning.specs.Chars.{Due, due, broken}
 use Rattle.utf8.specs.declared.tail.Utf8Tail.{Utf8Tail}
 use Rattle.utf8.specs.declared.tail.Utf8Tail.TheVariants.{Start, One, Two, TwoFromA0, TwoUpTo9F, Three, ThreeFrom90, ThreeUpTo8F, Broken}

@@ -1,6 +1,7 @@
 -- UTF-8 by places: whether a byte may stand behind the three before it. That this is RFC 3629's rule is a theorem (proofs/ByPlaces). Assumes nothing.
 use Rattle.std.specs.Prelude.{ℕ, Bool, ◌&&◌, ◌||◌, List, [], ◌∷◌, ◌==◌, nat_le, nat_lt}
-use Rattle.meaning.specs.Bytes.{if◌then◌else◌, within}
+use Rattle.meaning.specs.Bytes.{within}
+use Rattle.std.specs.Prelude.{if◌then◌else◌}
 
 -- from where to where the second byte of a character may lie, by its first
 unfoldable pub low_of : ℕ → ℕ

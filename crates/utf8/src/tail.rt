@@ -5,7 +5,7 @@ ghost use Rattle.utf8.specs.Tails.{due_of, due_next};
 
 // What is due: nothing; some later bytes; some of which the first has a narrower range; or the text is broken. The eight states that
 // `utf8_tail_push` can reach, and the refusal.
-#[derive(Drop)]
+#[derive(Clone, Copy)]
 pub enum Utf8Tail {
     Start,
     One,

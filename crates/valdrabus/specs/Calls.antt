@@ -14,7 +14,7 @@ use Rattle.meaning.specs.declared.BitStringRadix.TheVariants.{Binary, Hex}
 use Rattle.meaning.specs.declared.PartSize.{PartSize}
 use Rattle.meaning.specs.declared.Form.{Form}
 use Rattle.meaning.specs.declared.RadixPrefix.{RadixPrefix}
-use Rattle.meaning.specs.Bytes.{if◌then◌else◌}
+use Rattle.std.specs.Prelude.{if◌then◌else◌}
 use Rattle.meaning.specs.Answers.{Outcome}
 use Rattle.meaning.specs.Questions.{string_question, decimal_question, bits_question, temporal_question, source_question, money_question, charset_question}
 use Rattle.meaning.specs.Questions.{i64_question, bool_question, null_question, is_null, identifier_question}

@@ -1,6 +1,7 @@
 -- What an answer by its numbers shows: which of source and buffer, and the range in it. Assumes nothing.
 use Rattle.std.specs.Prelude.{◌≡◌, ◌&&◌, List, [], ℕ, eqb, leb}
-use Rattle.meaning.specs.Bytes.{if◌then◌else◌, part}
+use Rattle.meaning.specs.Bytes.{part}
+use Rattle.std.specs.Prelude.{if◌then◌else◌}
 use Rattle.valdrabus.specs.declared.views.View.{View}
 
 abbrev pub viewed : ℕ → ℕ → ℕ → View

@@ -6,7 +6,7 @@ use crate::told::{Told, number_told, refusal_told};
 use meaning::Integer;
 
 // The value is 0 on a refusal.
-#[derive(Drop)]
+#[derive(Clone, Copy)]
 pub(crate) struct Counted {
     pub told: Told,
     pub value: i64,

@@ -6,7 +6,7 @@ use crate::told::{Told, number_told, refusal_told};
 use meaning::{CalendarDay, Dated, Day};
 
 // What is told, and the day: on a refusal all its numbers are 0.
-#[derive(Drop)]
+#[derive(Clone, Copy)]
 pub(crate) struct DayTold {
     pub told: Told,
     pub on: CalendarDay,

@@ -6,7 +6,7 @@ use crate::told::{Told, refusal_told, written_told};
 use meaning::PackedBits;
 
 // What is told, and how many bits the packed bytes hold: none on a refusal.
-#[derive(Drop)]
+#[derive(Clone, Copy)]
 pub(crate) struct PackedTold {
     pub told: Told,
     pub bits: u64,

@@ -11,7 +11,7 @@ use meaning::{
     Writing,
 };
 
-#[derive(Drop)]
+#[derive(Clone, Copy)]
 pub(crate) struct Told {
     pub number: u32,
     pub how: u32,

@@ -3,7 +3,7 @@ ghost use Rattle.std.specs.Prelude.{◌≡◌};
 ghost use Rattle.valdrabus.specs.Views.{view_call, Shows};
 
 // Which of source and buffer is shown (0 neither, 1 the source, 2 the buffer), and the range in it.
-#[derive(Drop)]
+#[derive(Clone, Copy)]
 pub(crate) struct View {
     pub which: u32,
     pub from: usize,

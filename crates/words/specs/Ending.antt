@@ -1,6 +1,7 @@
 -- What the words behind a program's name ask for, and by which statuses a program may end then. Assumes nothing.
 use Rattle.std.specs.Prelude.{◌≡◌, List, [], ◌∷◌, ◌++◌, ℕ, ◌≤◌, eqb, length}
-use Rattle.meaning.specs.Bytes.{if◌then◌else◌, ascii, starts}
+use Rattle.meaning.specs.Bytes.{ascii, starts}
+use Rattle.std.specs.Prelude.{if◌then◌else◌}
 use Rattle.words.specs.declared.Asked.{Asked}
 use Rattle.words.specs.declared.Asked.TheVariants.{Work, Help, Other}
 

@@ -1,10 +1,12 @@
 // The words behind a program's name: what they ask for. Each is ended by a 0 byte, and they stand one behind the other.
+#![tactic(auto)]
+
 ghost use Rattle.std.specs.Prelude.{◌≡◌};
 ghost use Rattle.words.specs.Ending.{asked_of};
 
 use leaves::texts::starts_at;
 
-#[derive(Drop)]
+#[derive(Clone, Copy)]
 pub enum Asked {
     // no word: the program's work
     Work,

@@ -10,7 +10,8 @@ use lib.Dec.{eqb}
 use lib.ListN.{length, drop, drop_of_length-le}
 use lib.Seq.{drop-cons, drop-drop}
 use Rattle.meaning.specs.declared.BitStringRadix.{BitStringRadix}
-use Rattle.meaning.specs.Bytes.{if◌then◌else◌, ◌!◌, all_zero}
+use Rattle.meaning.specs.Bytes.{◌!◌, all_zero}
+use Rattle.std.specs.Prelude.{if◌then◌else◌}
 use Rattle.meaning.specs.Packing.{bits_of_number, spread, radix_bits, packed_length, bad_bits}
 use Rattle.laws.proofs.basics.Tests.{or_left, or_right}
 use Rattle.laws.proofs.packing.Gathered.{length_spread}

@@ -8,7 +8,8 @@ use lib.Dec.{eqb, leb, ltb}
 use borrow.Author.Tests.{eqb-true}
 use Rattle.meaning.specs.declared.Form.{Form}
 use Rattle.meaning.specs.declared.Form.TheVariants as Form'
-use Rattle.meaning.specs.Bytes.{if◌then◌else◌, within}
+use Rattle.meaning.specs.Bytes.{within}
+use Rattle.std.specs.Prelude.{if◌then◌else◌}
 use Rattle.meaning.specs.Steps.{escape_table}
 use Rattle.meaning.specs.Forms.{letter_of, is_doubled}
 use Rattle.laws.proofs.basics.Tests.{and_left, and_right}

@@ -11,7 +11,8 @@ use lib.Seq.{take-suc, take_all, take-length, drop-length, drop-drop, get_or-dro
 use borrow.Author.Tests.{leb-true, ne_eqb, not-true}
 use Rattle.meaning.specs.declared.Form.{Form}
 use Rattle.meaning.specs.declared.Form.TheVariants as Form'
-use Rattle.meaning.specs.Bytes.{if◌then◌else◌, has, quote, backslash}
+use Rattle.meaning.specs.Bytes.{has, quote, backslash}
+use Rattle.std.specs.Prelude.{if◌then◌else◌}
 use Rattle.meaning.specs.Chars.{utf8}
 use Rattle.meaning.specs.Walk.{Step, keep, give, stop, Trace, kept, gave, after, walk, value}
 use Rattle.meaning.specs.Writer.{spell, spells}

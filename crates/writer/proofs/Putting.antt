@@ -9,7 +9,8 @@ use lib.Dec.{leb}
 use borrow.Author.Tests.{le-leb, lt-leb}
 use lib.ListN.{length, take, drop, set, length-append, length-drop, length-set}
 use lib.Seq.{sets, sets-eq, take_at, drop_at, take-append_seam, drop-append_seam, drop-drop, length-take-le}
-use Rattle.meaning.specs.Bytes.{if◌then◌else◌, quote}
+use Rattle.meaning.specs.Bytes.{quote}
+use Rattle.std.specs.Prelude.{if◌then◌else◌}
 use Rattle.meaning.specs.Answers.{filled}
 use Rattle.meaning.specs.Forms.{figure, figures, unicode_figures}
 use Rattle.laws.proofs.writing.Figures.{figures_length}

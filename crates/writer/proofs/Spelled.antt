@@ -9,7 +9,8 @@ use lib.Dec.{eqb, leb, ltb}
 use lib.ListN.{length, drop}
 use lib.Seq.{drop-cons}
 use borrow.Author.Tests.{eqb-true, le-leb, ltb-false}
-use Rattle.meaning.specs.Bytes.{if◌then◌else◌, ◌!◌, within, quote, backslash}
+use Rattle.meaning.specs.Bytes.{◌!◌, within, quote, backslash}
+use Rattle.std.specs.Prelude.{if◌then◌else◌}
 use Rattle.meaning.specs.Chars.{Due, due, broken, lead, width}
 use Rattle.meaning.specs.Chars as chars
 use Rattle.meaning.specs.Walk.{keep, give}

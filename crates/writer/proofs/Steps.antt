@@ -7,7 +7,8 @@ use native.Mathlib.Omega.{arith}
 use lib.Dec.{eqb, leb, ltb}
 use borrow.Author.Tests.{leb-true, le-leb, le-ltb, ltb-false, not-true}
 use Rattle.meaning.specs.declared.Form.TheVariants as Form'
-use Rattle.meaning.specs.Bytes.{if◌then◌else◌, within, quote, backslash}
+use Rattle.meaning.specs.Bytes.{within, quote, backslash}
+use Rattle.std.specs.Prelude.{if◌then◌else◌}
 use Rattle.meaning.specs.Chars.{Due, due, broken, fresh, lead, base, gather, width}
 use Rattle.meaning.specs.Chars as chars
 use Rattle.meaning.specs.Walk.{Step, keep, give}

@@ -8,7 +8,8 @@ use lib.Dec.{eqb, leb}
 use lib.ListN.{length, take, drop, set, length-append, length-drop, drop_of_length-le}
 use lib.Seq.{drop-cons, drop-drop}
 use borrow.Author.Tests.{leb-true}
-use Rattle.meaning.specs.Bytes.{if◌then◌else◌, within, span, quote, backslash, ◌!◌}
+use Rattle.meaning.specs.Bytes.{within, span, quote, backslash, ◌!◌}
+use Rattle.std.specs.Prelude.{if◌then◌else◌}
 use Rattle.meaning.specs.Chars.{Due, due, broken, fresh, lead, pushes, whole, utf8, width}
 use Rattle.meaning.specs.Chars as chars
 use Rattle.meaning.specs.Walk.{Step, Trace, after, walk, value}

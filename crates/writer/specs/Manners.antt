@@ -3,7 +3,8 @@
 use Rattle.std.specs.Prelude.{Bool, true, false, ◌&&◌, ◌||◌, not, List, [], ◌∷◌, ◌++◌, ℕ, ◌+◌, eqb, leb, ltb}
 use Rattle.meaning.specs.declared.Form.{Form}
 use Rattle.meaning.specs.declared.Form.TheVariants as Form'
-use Rattle.meaning.specs.Bytes.{if◌then◌else◌, quote, backslash}
+use Rattle.meaning.specs.Bytes.{quote, backslash}
+use Rattle.std.specs.Prelude.{if◌then◌else◌}
 use Rattle.meaning.specs.Chars.{width}
 use Rattle.meaning.specs.Walk.{Step, keep, give, stop, walk, value}
 use Rattle.meaning.specs.Steps.{escape_table}

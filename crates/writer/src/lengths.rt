@@ -7,7 +7,7 @@ use crate::manners::{Manner, byte_cost, kept_by};
 use crate::scans::is_all_kept;
 
 // The length of a text, and whether each byte of the value stands for itself.
-#[derive(Drop)]
+#[derive(Clone, Copy)]
 pub(crate) struct Measured {
     pub len: usize,
     pub whole: bool,

@@ -1,5 +1,7 @@
 // [01 The writer; 02 T-01, T-02, T-07] Values as literals: plain ones, whole or in parts, and E and U& ones. A value is tested, then measured, then written. How
 // one character is spelled is all that the three manners differ by. And packed bits as B and X literals.
+#![tactic(auto)]
+
 pub mod bits;
 pub mod figures;
 pub mod forms;

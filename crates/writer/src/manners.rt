@@ -9,7 +9,7 @@ use leaves::blocks::one_if;
 use meaning::Form;
 
 // Between quote marks at a setting, or by a form.
-#[derive(Drop)]
+#[derive(Clone, Copy)]
 pub(crate) enum Manner {
     Plain { backslash: bool },
     Escape,
@@ -17,7 +17,7 @@ pub(crate) enum Manner {
 }
 
 // The bytes that stand for themselves: from `low` up to 7E hex, or to the last where it is `wide`; but not the quote mark, nor one other.
-#[derive(Drop)]
+#[derive(Clone, Copy)]
 pub(crate) struct Kept {
     pub low: u8,
     pub wide: bool,

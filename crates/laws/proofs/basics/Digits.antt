@@ -9,7 +9,8 @@ use native.Mathlib.Omega.{arith}
 use borrow.Author.Tests.{ltb-true, lt-ltb, le-ltb, eqb-true, eq-eqb}
 use lib.Dec.{ltb}
 use lib.ListN.{length}
-use Rattle.meaning.specs.Bytes.{if◌then◌else◌, ◌!◌, within, digit, digits, number, all_digits}
+use Rattle.meaning.specs.Bytes.{◌!◌, within, digit, digits, number, all_digits}
+use Rattle.std.specs.Prelude.{if◌then◌else◌}
 use Rattle.laws.proofs.basics.Tests.{within_bounds}
 
 -- every byte before place n is a digit of base β

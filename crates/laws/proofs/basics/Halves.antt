@@ -11,7 +11,7 @@ use lib.Arith.{digits_lt}
 use lib.Dec.{ltb, eqb, eqb-suc-zero, lit≤, lit<}
 use lib.IntN.{ℤ, pos, negsuc, neg_ℤ}
 use lib.ListN.{length, length-append}
-use Rattle.meaning.specs.Bytes.{if◌then◌else◌}
+use Rattle.std.specs.Prelude.{if◌then◌else◌}
 use Rattle.meaning.specs.Numbers.{fits, digits_by, digits_of, printed}
 use Rattle.meaning.specs.Halves.{joined_halves, bits_of, text_of, negated_low, negated_high}
 

@@ -8,7 +8,8 @@ use lib.Dec.{T, eqb}
 use lib.ListN.{length, take, drop, length-drop, take-append-drop, get_or-append}
 use lib.Seq.{drop-append-le, length-take-le}
 use Rattle.meaning.specs.declared.Settings.{Settings}
-use Rattle.meaning.specs.Bytes.{if◌then◌else◌, ◌!◌, backslash, in_name, span}
+use Rattle.meaning.specs.Bytes.{◌!◌, backslash, in_name, span}
+use Rattle.std.specs.Prelude.{if◌then◌else◌}
 use Rattle.meaning.specs.Walk.{Step, keep, give, stop, kept, gave, after, walk, size, stops}
 use Rattle.meaning.specs.Steps.{closing_step, doubled}
 use Rattle.meaning.specs.Cutting.{opening, named, hides, segment}

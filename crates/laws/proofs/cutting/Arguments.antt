@@ -8,7 +8,8 @@ use native.Mathlib.Omega.{arith}
 use lib.Dec.{eqb, ltb}
 use lib.ListN.{length}
 use borrow.Author.Tests.{eqb-true, ne_eqb}
-use Rattle.meaning.specs.Bytes.{if◌then◌else◌, ◌!◌, part, ascii, has, within, quote, digit}
+use Rattle.meaning.specs.Bytes.{◌!◌, part, ascii, has, within, quote, digit}
+use Rattle.std.specs.Prelude.{if◌then◌else◌}
 use Rattle.meaning.specs.Chars.{Due, due, broken, lead, laters, space}
 use Rattle.meaning.specs.Walk.{walk, stops, value}
 use Rattle.meaning.specs.Steps.{standard_step, doubled}

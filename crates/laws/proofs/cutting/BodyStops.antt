@@ -7,7 +7,8 @@ use Prim.Native.Nat.{ℕ, zero, suc, ◌+◌, ◌-◌, ◌<◌}
 use native.Mathlib.Omega.{arith}
 use lib.Dec.{T, eqb, ltb}
 use lib.ListN.{length, take, drop, length-drop, length-take, take-append-drop}
-use Rattle.meaning.specs.Bytes.{if◌then◌else◌, ◌!◌, has, ascii, backslash, part}
+use Rattle.meaning.specs.Bytes.{◌!◌, has, ascii, backslash, part}
+use Rattle.std.specs.Prelude.{if◌then◌else◌}
 use Rattle.meaning.specs.Walk.{keep, give, stop, Trace, ended, stopped, kept, gave, after, walk, size, stops, plain}
 use Rattle.meaning.specs.Steps.{closing_step, doubled, standard_step, mysql, mysql_table, byte_of}
 use Rattle.meaning.specs.Reading.{borrowed, written, refused, means, fails, value_of, answer}

@@ -10,7 +10,8 @@ use native.Mathlib.Decide.{dec_lt}
 use lib.Dec.{eqb, leb, leb→le}
 use borrow.Author.Tests.{lt-leb, leb-false, eqb-true}
 use lib.ListN.{length, take}
-use Rattle.meaning.specs.Bytes.{if◌then◌else◌, ◌!◌, is_mark, is_letter, is_decimal, within, quote, dquote, backslash, in_name}
+use Rattle.meaning.specs.Bytes.{◌!◌, is_mark, is_letter, is_decimal, within, quote, dquote, backslash, in_name}
+use Rattle.std.specs.Prelude.{if◌then◌else◌}
 use Rattle.meaning.specs.Chars.{Due, due, broken, lead, gather, base, is_space, space, space_at}
 use Rattle.meaning.specs.Walk.{after, walk, size}
 use Rattle.meaning.specs.Steps.{space_step, space_by}

@@ -13,7 +13,8 @@ use borrow.Author.Tests.{eqb-true}
 use lib.ListN.{length, take, drop, length-drop, take-append-drop, drop_of_length-le}
 use lib.Seq.{split_at, drop-append-add, get_or-drop}
 use Rattle.meaning.specs.declared.Settings.{Settings}
-use Rattle.meaning.specs.Bytes.{if◌then◌else◌, ◌!◌, has, same, ascii, is_mark, is_letter, is_decimal, within, quote, dquote, backslash, in_name, digit, part}
+use Rattle.meaning.specs.Bytes.{◌!◌, has, same, ascii, is_mark, is_letter, is_decimal, within, quote, dquote, backslash, in_name, digit, part}
+use Rattle.std.specs.Prelude.{if◌then◌else◌}
 use Rattle.meaning.specs.Chars.{Due, due, broken, lead, gather, base, laters, is_space, space}
 use Rattle.meaning.specs.Walk.{Trace, stopped, walk, size, stops, value}
 use Rattle.meaning.specs.Steps.{closing_step, doubled, standard_step, gap, trim}

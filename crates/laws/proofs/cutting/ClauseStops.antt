@@ -12,7 +12,8 @@ use borrow.Author.Tests.{eqb-true}
 use lib.ListN.{length, drop, length-drop}
 use lib.Seq.{drop-append-le, drop-append-add}
 use Rattle.meaning.specs.declared.Settings.{Settings}
-use Rattle.meaning.specs.Bytes.{if◌then◌else◌, ◌!◌, has, ascii, is_mark, is_letter, is_decimal, within, quote, dquote, backslash, in_name, span}
+use Rattle.meaning.specs.Bytes.{◌!◌, has, ascii, is_mark, is_letter, is_decimal, within, quote, dquote, backslash, in_name, span}
+use Rattle.std.specs.Prelude.{if◌then◌else◌}
 use Rattle.meaning.specs.Chars.{Due, due, broken, lead, gather, base, is_space}
 use Rattle.meaning.specs.Walk.{after, walk, size, stops}
 use Rattle.meaning.specs.Steps.{closing_step, doubled, space_step, space_by, gap}

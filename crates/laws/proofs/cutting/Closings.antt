@@ -9,7 +9,8 @@ use lib.Dec.{eqb}
 use borrow.Author.Tests.{eqb-true}
 use lib.ListN.{length, drop, length-drop}
 use lib.Seq.{drop-cons, get_or-drop}
-use Rattle.meaning.specs.Bytes.{if◌then◌else◌, ◌!◌, quote, backslash}
+use Rattle.meaning.specs.Bytes.{◌!◌, quote, backslash}
+use Rattle.std.specs.Prelude.{if◌then◌else◌}
 use Rattle.meaning.specs.Walk.{Step, keep, give, stop, Trace, ended, stopped, kept, gave, walk, size, stops}
 use Rattle.meaning.specs.Steps.{doubled, mysql, standard_step, escaped, escape_step, uescaped, unicode_step, closing_step}
 use Rattle.laws.proofs.basics.Tests.{eqb_same, eqb_sym}

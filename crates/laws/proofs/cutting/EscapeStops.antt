@@ -6,7 +6,8 @@ use Prim.Native.Nat.{ℕ, zero, suc, ◌%◌}
 use Prim.Native.Char.{code}
 use lib.Dec.{T, eqb, ltb}
 use borrow.Author.Tests.{eqb-true}
-use Rattle.meaning.specs.Bytes.{if◌then◌else◌, ◌!◌, quote, backslash, within, digit, digits, number}
+use Rattle.meaning.specs.Bytes.{◌!◌, quote, backslash, within, digit, digits, number}
+use Rattle.std.specs.Prelude.{if◌then◌else◌}
 use Rattle.meaning.specs.Chars.{Due, due, broken, push, pushes, encode}
 use Rattle.meaning.specs.Walk.{Step, keep, give, stop, Trace, ended, stopped, kept, gave, after, walk, stops}
 use Rattle.meaning.specs.Steps.{may_escape, closing_step, doubled, escape_step, escaped, escape_table, byte_of, one_byte, scalar_by, checked, unless_broken}

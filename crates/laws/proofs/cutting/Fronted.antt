@@ -7,7 +7,8 @@ use Prim.Native.Nat.{ℕ, suc, ◌+◌, ◌<◌}
 use lib.Dec.{eqb}
 use lib.ListN.{length, take, drop}
 use Rattle.meaning.specs.declared.Settings.{Settings}
-use Rattle.meaning.specs.Bytes.{if◌then◌else◌, ◌!◌, part, ascii, has, is_mark, quote, backslash}
+use Rattle.meaning.specs.Bytes.{◌!◌, part, ascii, has, is_mark, quote, backslash}
+use Rattle.std.specs.Prelude.{if◌then◌else◌}
 use Rattle.meaning.specs.Chars.{fresh, pushes, whole, utf8}
 use Rattle.meaning.specs.Walk.{Step, Trace, walk, size, stops, plain, value}
 use Rattle.meaning.specs.Steps.{standard_step, escape_step, unicode_step, closing_step, checked, trim}

@@ -9,7 +9,8 @@ use native.Mathlib.Omega.{arith}
 use lib.Dec.{T, eqb, leb}
 use borrow.Author.Tests.{le-leb, leb-true, leb-false, eqb-true}
 use lib.ListN.{length, drop}
-use Rattle.meaning.specs.Bytes.{if◌then◌else◌, has, within, is_mark}
+use Rattle.meaning.specs.Bytes.{has, within, is_mark}
+use Rattle.std.specs.Prelude.{if◌then◌else◌}
 use Rattle.meaning.specs.Chars.{Due, due, broken, lead, gather, base, is_space, space, space_at}
 use Rattle.meaning.specs.Walk.{walk, size}
 use Rattle.meaning.specs.Steps.{space_step, space_by, gap}

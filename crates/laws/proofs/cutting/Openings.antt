@@ -10,7 +10,8 @@ use borrow.Author.Tests.{eqb-true}
 use lib.ListN.{length, drop, length-drop, get_or-append}
 use lib.Seq.{drop-append-le}
 use Rattle.meaning.specs.declared.Settings.{Settings}
-use Rattle.meaning.specs.Bytes.{if◌then◌else◌, ◌!◌, has, ascii, within, is_mark, quote, in_name, span}
+use Rattle.meaning.specs.Bytes.{◌!◌, has, ascii, within, is_mark, quote, in_name, span}
+use Rattle.std.specs.Prelude.{if◌then◌else◌}
 use Rattle.meaning.specs.Chars.{lead, is_space}
 use Rattle.meaning.specs.Walk.{walk, size, stops}
 use Rattle.meaning.specs.Steps.{closing_step, doubled}

@@ -11,7 +11,8 @@ use borrow.Author.Tests.{eqb-true, lt-ltb}
 use lib.ListN.{length, take, drop, drop_of_length-le, take-append-drop}
 use lib.Seq.{length-take-le, get_or-take, get_or-drop, drop-drop, drop_at, take-add, take-take}
 use Rattle.meaning.specs.declared.Settings.{Settings}
-use Rattle.meaning.specs.Bytes.{if◌then◌else◌, ◌!◌, part, has, ascii, is_mark, in_name, span, quote, dquote, backslash}
+use Rattle.meaning.specs.Bytes.{◌!◌, part, has, ascii, is_mark, in_name, span, quote, dquote, backslash}
+use Rattle.std.specs.Prelude.{if◌then◌else◌}
 use Rattle.meaning.specs.Chars.{fresh}
 use Rattle.meaning.specs.Walk.{keep, give, stop, walk, size, stops}
 use Rattle.meaning.specs.Steps.{standard_step, escape_step, unicode_step, closing_step, doubled, checked, trim}

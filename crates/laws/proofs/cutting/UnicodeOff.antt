@@ -10,7 +10,8 @@ use lib.Dec.{eqb}
 use borrow.Author.Tests.{eqb-true}
 use lib.ListN.{take, drop}
 use Rattle.meaning.specs.declared.Settings.{Settings}
-use Rattle.meaning.specs.Bytes.{if◌then◌else◌, ◌!◌, has, same, ascii, is_mark, quote, backslash, within}
+use Rattle.meaning.specs.Bytes.{◌!◌, has, same, ascii, is_mark, quote, backslash, within}
+use Rattle.std.specs.Prelude.{if◌then◌else◌}
 use Rattle.meaning.specs.Walk.{walk, size, stops}
 use Rattle.meaning.specs.Steps.{closing_step, trim}
 use Rattle.meaning.specs.Cutting.{opening, named, hides, segment}

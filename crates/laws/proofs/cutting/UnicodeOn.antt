@@ -9,7 +9,8 @@ use lib.Dec.{eqb}
 use borrow.Author.Tests.{eqb-true}
 use lib.ListN.{length, take, drop, length-take, take-append-drop}
 use Rattle.meaning.specs.declared.Settings.{Settings}
-use Rattle.meaning.specs.Bytes.{if◌then◌else◌, ◌!◌, is_mark, quote, backslash, part}
+use Rattle.meaning.specs.Bytes.{◌!◌, is_mark, quote, backslash, part}
+use Rattle.std.specs.Prelude.{if◌then◌else◌}
 use Rattle.meaning.specs.Walk.{Step, keep, give, stop, Trace, ended, stopped, after, walk, size, stops}
 use Rattle.meaning.specs.Steps.{closing_step, doubled, unicode_step, trim}
 use Rattle.meaning.specs.Cutting.{complete, cut}

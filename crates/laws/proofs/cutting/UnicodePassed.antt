@@ -9,7 +9,8 @@ use native.Mathlib.Omega.{arith}
 use lib.Dec.{eqb}
 use borrow.Author.Tests.{eqb-true}
 use lib.ListN.{length, drop}
-use Rattle.meaning.specs.Bytes.{if◌then◌else◌, ◌!◌, quote, backslash, within, digits, number, starts}
+use Rattle.meaning.specs.Bytes.{◌!◌, quote, backslash, within, digits, number, starts}
+use Rattle.std.specs.Prelude.{if◌then◌else◌}
 use Rattle.meaning.specs.Chars.{encode}
 use Rattle.meaning.specs.Walk.{Step, keep, give, stop, after, walk, size, stops}
 use Rattle.meaning.specs.Steps.{may_escape, closing_step, doubled, scalar_by, uescaped, low_half, pair, unicode_step}

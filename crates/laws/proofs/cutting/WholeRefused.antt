@@ -9,7 +9,8 @@ use lib.Dec.{T, eqb, ltb}
 use borrow.Author.Tests.{eqb-true}
 use lib.ListN.{length, drop}
 use Rattle.meaning.specs.declared.Settings.{Settings}
-use Rattle.meaning.specs.Bytes.{if◌then◌else◌, ◌!◌, has, ascii, is_mark, quote, dquote, backslash, part}
+use Rattle.meaning.specs.Bytes.{◌!◌, has, ascii, is_mark, quote, dquote, backslash, part}
+use Rattle.std.specs.Prelude.{if◌then◌else◌}
 use Rattle.meaning.specs.Chars.{fresh}
 use Rattle.meaning.specs.Walk.{walk, size, stops}
 use Rattle.meaning.specs.Steps.{closing_step, standard_step, escape_step, checked}

@@ -9,7 +9,8 @@ use lib.Dec.{eqb, ltb}
 use borrow.Author.Tests.{ltb-true, ltb-false}
 use Rattle.meaning.specs.declared.CalendarDay.{CalendarDay}
 use Rattle.meaning.specs.declared.Day.TheVariants as Day'
-use Rattle.meaning.specs.Bytes.{if◌then◌else◌, has, within}
+use Rattle.meaning.specs.Bytes.{has, within}
+use Rattle.std.specs.Prelude.{if◌then◌else◌}
 use Rattle.meaning.specs.Dates.{is_leap, length_by, month_length, year_length, before, day_number, is_day, calendar_day, Fall, seek, month_found, year_found, date_of}
 use Rattle.meaning.specs.Dates.{last_day, day_question}
 use Rattle.laws.proofs.basics.Tests.{and_left, and_right, within_yes, within_below, within_above, within_bounds}

@@ -14,7 +14,8 @@ use lib.ListN.{length, take, drop, length-drop, take-append-drop}
 use lib.Seq.{take_all, drop-cons, drop-drop, length-take-le}
 use Rattle.meaning.specs.declared.CalendarDay.{CalendarDay}
 use Rattle.meaning.specs.declared.Day.TheVariants as Day'
-use Rattle.meaning.specs.Bytes.{if◌then◌else◌, ◌!◌, part, has, within, digit, number, all_digits}
+use Rattle.meaning.specs.Bytes.{◌!◌, part, has, within, digit, number, all_digits}
+use Rattle.std.specs.Prelude.{if◌then◌else◌}
 use Rattle.meaning.specs.Forms.{figure, figures}
 use Rattle.meaning.specs.Dates.{is_leap, month_length, is_day, calendar_day, digits_in, is_ten_bytes, is_date, spelled_day, day_in}
 use Rattle.laws.proofs.basics.Digits.{DigitsTo, all_digits_at}

@@ -17,7 +17,8 @@ use Rattle.meaning.specs.declared.Literal.{Literal}
 use Rattle.meaning.specs.declared.Refusal.TheVariants.{InvalidString, NoRoom}
 use Rattle.meaning.specs.declared.Text.TheVariants.{Written, Refused}
 use Rattle.meaning.specs.Answers.{text_number}
-use Rattle.meaning.specs.Bytes.{if◌then◌else◌, ◌!◌, is_mark}
+use Rattle.meaning.specs.Bytes.{◌!◌, is_mark}
+use Rattle.std.specs.Prelude.{if◌then◌else◌}
 use Rattle.meaning.specs.Chars.{utf8}
 use Rattle.meaning.specs.Cutting.{continues, segment, segment_step, cut, complete}
 use Rattle.meaning.specs.Questions.{is_string, told_as, string_question}

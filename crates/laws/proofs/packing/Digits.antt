@@ -15,7 +15,8 @@ use lib.Seq.{length-take-le, take-append_seam, drop-append_seam}
 use Rattle.meaning.specs.declared.BitStringRadix.{BitStringRadix}
 use Rattle.meaning.specs.declared.BitStringRadix.TheVariants.{Binary, Hex}
 use Rattle.meaning.specs.declared.LiteralKind.TheVariants as Kind
-use Rattle.meaning.specs.Bytes.{if◌then◌else◌, ◌!◌, within, digit, all_zero}
+use Rattle.meaning.specs.Bytes.{◌!◌, within, digit, all_zero}
+use Rattle.std.specs.Prelude.{if◌then◌else◌}
 use Rattle.meaning.specs.Questions.{bit_base}
 use Rattle.meaning.specs.Forms.{figure}
 use Rattle.meaning.specs.Packing.{spread, gather, bits_per, bits_in, pack_bits, radix_bits, packed_length}

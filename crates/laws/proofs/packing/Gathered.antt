@@ -12,7 +12,8 @@ use borrow.Author.Tests.{ne_eqb, eqb-true, eqb-false}
 use lib.Dec.{eqb}
 use lib.Pow.{pow-add, pow_pos}
 use lib.ListN.{length, replicate, length-append, length-map, length-replicate}
-use Rattle.meaning.specs.Bytes.{if◌then◌else◌, ◌!◌, digit}
+use Rattle.meaning.specs.Bytes.{◌!◌, digit}
+use Rattle.std.specs.Prelude.{if◌then◌else◌}
 use Rattle.meaning.specs.Packing.{bits_of_number, spread, gathered, gather, bits_in, pack_bits, packed_length}
 use Rattle.laws.proofs.basics.Tests.{eqb_same}
 

@@ -13,7 +13,8 @@ use lib.Seq.{take_at}
 use Rattle.meaning.specs.declared.BitStringRadix.{BitStringRadix}
 use Rattle.meaning.specs.declared.BitWriting.{BitWriting}
 use Rattle.meaning.specs.declared.BitWriting.TheVariants.{Written, OverLimit, BadBits, NoRoom}
-use Rattle.meaning.specs.Bytes.{if◌then◌else◌, has, quote, all_zero}
+use Rattle.meaning.specs.Bytes.{has, quote, all_zero}
+use Rattle.std.specs.Prelude.{if◌then◌else◌}
 use Rattle.meaning.specs.Answers.{Outcome, bit_writing_number, filled}
 use Rattle.meaning.specs.Writer.{over_limit}
 use Rattle.meaning.specs.Forms.{figure}

@@ -13,7 +13,8 @@ use lib.Seq.{take-length, drop-length, get_or-drop}
 use Rattle.meaning.specs.declared.Settings.{Settings}
 use Rattle.meaning.specs.declared.BitStringRadix.{BitStringRadix}
 use Rattle.meaning.specs.declared.BitStringRadix.TheVariants.{Binary, Hex}
-use Rattle.meaning.specs.Bytes.{if◌then◌else◌, ◌!◌, part, ascii, has, quote, backslash, is_mark, within, digit, all_digits}
+use Rattle.meaning.specs.Bytes.{◌!◌, part, ascii, has, quote, backslash, is_mark, within, digit, all_digits}
+use Rattle.std.specs.Prelude.{if◌then◌else◌}
 use Rattle.meaning.specs.Chars.{Due, utf8, whole, pushes}
 use Rattle.meaning.specs.Walk.{keep, give, stop, gave, ended, after, walk, size, stops}
 use Rattle.meaning.specs.Steps.{closing_step, doubled}

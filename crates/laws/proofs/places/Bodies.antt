@@ -11,7 +11,8 @@ use lib.ListN.{length, take, drop}
 use lib.Seq.{drop-drop}
 use borrow.Author.Tests.{eqb-true}
 use Rattle.meaning.specs.declared.Settings.{Settings}
-use Rattle.meaning.specs.Bytes.{if◌then◌else◌, part, has, starts, quote, backslash}
+use Rattle.meaning.specs.Bytes.{part, has, starts, quote, backslash}
+use Rattle.std.specs.Prelude.{if◌then◌else◌}
 use Rattle.meaning.specs.Chars.{Due, due, broken, fresh, push, pushes, whole}
 use Rattle.meaning.specs.Walk.{Step, keep, give, stop, Trace, ended, stopped, kept, gave, after, walk, size, stops, plain, value}
 use Rattle.meaning.specs.Steps.{doubled, mysql, standard_step, escaped, escape_step, uescaped, unicode_step, checked, unless_broken}

@@ -10,7 +10,8 @@ use native.Mathlib.Omega.{arith}
 use lib.Dec.{eqb, ltb}
 use lib.ListN.{length, take, take-append-drop, drop}
 use borrow.Author.Tests.{eqb-true, ltb-true}
-use Rattle.meaning.specs.Bytes.{if◌then◌else◌, ◌!◌, quote, backslash, within, digits, number}
+use Rattle.meaning.specs.Bytes.{◌!◌, quote, backslash, within, digits, number}
+use Rattle.std.specs.Prelude.{if◌then◌else◌}
 use Rattle.meaning.specs.Chars.{Due, due, broken, fresh, push, pushes, whole, lead, encode}
 use Rattle.meaning.specs.Walk.{Step, keep, give, stop, after, walk, stops, value}
 use Rattle.meaning.specs.Steps.{byte_of, doubled, escape_table, one_byte, may_escape, scalar_by, escaped, escape_step}

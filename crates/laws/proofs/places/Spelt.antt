@@ -9,7 +9,8 @@ use native.Mathlib.Omega.{arith}
 use lib.Dec.{eqb, leb, ltb}
 use lib.ListN.{length, take, drop}
 use borrow.Author.Tests.{eqb-true, ltb-true}
-use Rattle.meaning.specs.Bytes.{if◌then◌else◌, ◌!◌, part, ascii, has, same, quote, dquote, within, is_mark, digit}
+use Rattle.meaning.specs.Bytes.{◌!◌, part, ascii, has, same, quote, dquote, within, is_mark, digit}
+use Rattle.std.specs.Prelude.{if◌then◌else◌}
 use Rattle.meaning.specs.Chars.{lead, is_space}
 use Rattle.meaning.specs.Walk.{Trace, walk, size, stops}
 use Rattle.meaning.specs.Steps.{closing_step, trim}

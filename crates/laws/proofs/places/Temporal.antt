@@ -14,7 +14,8 @@ use lib.Dec.{eqb, ltb}
 use lib.ListN.{length, take, drop, length-drop}
 use lib.Seq.{get_or-take, get_or-drop, length-take-le}
 use Rattle.meaning.specs.declared.Settings.{Settings}
-use Rattle.meaning.specs.Bytes.{if◌then◌else◌, ◌!◌, part, ascii, has, starts, within, quote, in_tag}
+use Rattle.meaning.specs.Bytes.{◌!◌, part, ascii, has, starts, within, quote, in_tag}
+use Rattle.std.specs.Prelude.{if◌then◌else◌}
 use Rattle.meaning.specs.Chars.{utf8}
 use Rattle.meaning.specs.Kinds.{Token, token, no_token, first_place_of, last_by, past_last, place_by, found, closed_token, dollar_token, token_start, quote_token}
 use Rattle.meaning.specs.Kinds.{temporal_token, behind, read_token, temporal}

@@ -16,7 +16,8 @@ use Rattle.meaning.specs.declared.Refusal.TheVariants.{WrongKind, MissingSource,
 use Rattle.meaning.specs.declared.Refusal.TheVariants.{InvalidBitString, InvalidMoney, NoRoom, InvalidDate}
 use Rattle.meaning.specs.declared.Text.{Text}
 use Rattle.meaning.specs.declared.Text.TheVariants.{Borrowed, Written, Refused}
-use Rattle.meaning.specs.Bytes.{if◌then◌else◌, ◌!◌, is_mark}
+use Rattle.meaning.specs.Bytes.{◌!◌, is_mark}
+use Rattle.std.specs.Prelude.{if◌then◌else◌}
 use Rattle.meaning.specs.Chars.{utf8}
 use Rattle.meaning.specs.Cutting.{off, segment}
 use Rattle.meaning.specs.Steps.{gap, trim}

@@ -12,7 +12,8 @@ use native.Mathlib.Omega.{arith}
 use lib.ListN.{length, take, drop, length-take, length-drop}
 use lib.Seq.{drop-cons, drop-drop, get_or-take, get_or-drop}
 use Rattle.meaning.specs.declared.Settings.{Settings}
-use Rattle.meaning.specs.Bytes.{if◌then◌else◌, ◌!◌, part, within, is_mark}
+use Rattle.meaning.specs.Bytes.{◌!◌, part, within, is_mark}
+use Rattle.std.specs.Prelude.{if◌then◌else◌}
 use Rattle.meaning.specs.Chars.{utf8}
 use Rattle.meaning.specs.Cutting.{continues, hides, segment, segment_by, segment_step, cut}
 use Rattle.meaning.specs.Reading.{Answer, borrowed, written, refused, Value, means, fails, value_of, onward, both, one, alone, joined, as_written, read}

@@ -20,7 +20,8 @@ use Rattle.meaning.specs.declared.Range.{Range}
 use Rattle.meaning.specs.declared.Range.TheVariants as Range'
 use Rattle.meaning.specs.declared.Charset.{Charset}
 use Rattle.meaning.specs.declared.Charset.TheVariants as Charset'
-use Rattle.meaning.specs.Bytes.{if◌then◌else◌, ◌!◌, part}
+use Rattle.meaning.specs.Bytes.{◌!◌, part}
+use Rattle.std.specs.Prelude.{if◌then◌else◌}
 use Rattle.meaning.specs.Chars.{utf8}
 use Rattle.meaning.specs.Cutting.{opening}
 use Rattle.meaning.specs.Reading.{borrowed, refused}
@@ -136,10 +137,10 @@ module _ (l : Literal) (s s' : Bor (List ℕ)) (a : Agree l s.now s'.now) (r r' 
       (record { ordered = omega arith; inside = omega arith }))
       )
 
-  none_agrees : IsPart [] s.ptr r → IsPart [] s'.ptr r' → SameShown s s' r r'
+  none_agrees : IsPart [] s.ref_ptr r → IsPart [] s'.ref_ptr r' → SameShown s s' r r'
   none_agrees h h' =
-      let z : s.ptr.1 + 0 ≡ s.ptr.1 = omega arith in
-      let z' : s'.ptr.1 + 0 ≡ s'.ptr.1 = omega arith in
+      let z : s.ref_ptr.1 + 0 ≡ s.ref_ptr.1 = omega arith in
+      let z' : s'.ref_ptr.1 + 0 ≡ s'.ref_ptr.1 = omega arith in
       record { bytes = h.bytes ∙ sym h'.bytes; offset = (0, rw z h.place, rw z' h'.place) }
 
   -- THE LAW of any range that lies in the span; one that ends before it begins shows nothing, at the start of each

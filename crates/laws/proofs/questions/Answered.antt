@@ -14,7 +14,8 @@ use Rattle.meaning.specs.declared.Refusal.{Refusal}
 use Rattle.meaning.specs.declared.Refusal.TheVariants.{WrongKind, MissingSource, InvalidSourceRange, NotUtf8, InvalidInteger, InvalidString}
 use Rattle.meaning.specs.declared.Refusal.TheVariants.{InvalidBitString, InvalidMoney, NoRoom, InvalidDate}
 use Rattle.meaning.specs.declared.Text.TheVariants.{Written, Refused}
-use Rattle.meaning.specs.Bytes.{if◌then◌else◌, ◌!◌, part, is_mark}
+use Rattle.meaning.specs.Bytes.{◌!◌, part, is_mark}
+use Rattle.std.specs.Prelude.{if◌then◌else◌}
 use Rattle.meaning.specs.Chars.{utf8}
 use Rattle.meaning.specs.Cutting.{complete}
 use Rattle.meaning.specs.Reading.{Answer, borrowed, written, refused, means, value_of, read}

@@ -12,7 +12,8 @@ use lib.Seq.{take_at, drop_at}
 use borrow.Author.Tests.{eq-eqb, eqb-true, le-ltb, ltb-false, not-false}
 use Rattle.meaning.specs.declared.Item.{Item}
 use Rattle.meaning.specs.declared.Four.{Four}
-use Rattle.meaning.specs.Bytes.{if◌then◌else◌, part}
+use Rattle.meaning.specs.Bytes.{part}
+use Rattle.std.specs.Prelude.{if◌then◌else◌}
 use Rattle.meaning.specs.Questions.{string_question}
 use Rattle.meaning.specs.Codes.{is_known, literal_of, settings_of}
 use Rattle.meaning.specs.Blocks.{items_of, numbers_of, four_of, Asked, item_asked, Block, block_at, bad_block, BlockOutcome, block_told, block_call}

@@ -14,7 +14,8 @@ use Rattle.meaning.specs.declared.Item.{Item}
 use Rattle.meaning.specs.declared.Four.{Four}
 use Rattle.meaning.specs.declared.Text.{Text}
 use Rattle.meaning.specs.declared.Text.TheVariants as Text'
-use Rattle.meaning.specs.Bytes.{if◌then◌else◌, ◌!◌, part}
+use Rattle.meaning.specs.Bytes.{◌!◌, part}
+use Rattle.std.specs.Prelude.{if◌then◌else◌}
 use Rattle.meaning.specs.Answers.{Meets, part_shown, shown}
 use Rattle.meaning.specs.Questions.{string_question}
 use Rattle.meaning.specs.Codes.{is_known, literal_of, settings_of}

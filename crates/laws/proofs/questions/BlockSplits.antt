@@ -8,7 +8,7 @@ use lib.Dec.{eqb}
 use lib.ListN.{length, take, drop, length-append, length-drop}
 use lib.Seq.{drop-drop}
 use Rattle.meaning.specs.declared.Four.{Four}
-use Rattle.meaning.specs.Bytes.{if◌then◌else◌}
+use Rattle.std.specs.Prelude.{if◌then◌else◌}
 use Rattle.meaning.specs.Blocks.{items_of, numbers_of, Block, block_at, BlockOutcome, block_call}
 use Rattle.laws.proofs.questions.Items.{moved}
 use Rattle.laws.proofs.questions.Blocks.{taken, blocks_joined, block_append, block_moved}

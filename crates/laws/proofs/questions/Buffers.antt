@@ -29,7 +29,8 @@ use Rattle.meaning.specs.declared.PackedBits.{PackedBits}
 use Rattle.meaning.specs.declared.PackedBits.TheVariants as Packed'
 use Rattle.meaning.specs.declared.BitWriting.{BitWriting}
 use Rattle.meaning.specs.declared.BitWriting.TheVariants as BitWriting'
-use Rattle.meaning.specs.Bytes.{if◌then◌else◌, has}
+use Rattle.meaning.specs.Bytes.{has}
+use Rattle.std.specs.Prelude.{if◌then◌else◌}
 use Rattle.meaning.specs.Chars.{utf8}
 use Rattle.meaning.specs.Cutting.{off}
 use Rattle.meaning.specs.Reading.{Answer, borrowed, written, refused, Value, means, fails, value_of, read}

@@ -16,7 +16,7 @@ use Rattle.meaning.specs.declared.Refusal.TheVariants.{WrongKind, MissingSource,
 use Rattle.meaning.specs.declared.Refusal.TheVariants.{InvalidBitString, InvalidMoney, NoRoom, InvalidDate}
 use Rattle.meaning.specs.declared.Text.{Text}
 use Rattle.meaning.specs.declared.Text.TheVariants as Text'
-use Rattle.meaning.specs.Bytes.{if◌then◌else◌}
+use Rattle.std.specs.Prelude.{if◌then◌else◌}
 use Rattle.meaning.specs.Answers.{Outcome, refusal_number}
 use Rattle.meaning.specs.Codes.{is_known, literal_of, settings_of}
 use Rattle.meaning.specs.Blocks.{four, refused_four, four_of, takes, Asked, item_question, asked_as, item_asked}

@@ -10,7 +10,7 @@ use Rattle.meaning.specs.declared.LiteralExpected.TheVariants as Expected
 use Rattle.meaning.specs.declared.Refusal.TheVariants.{WrongKind}
 use Rattle.meaning.specs.declared.Truth.TheVariants as Truth'
 use Rattle.meaning.specs.declared.Nullness.TheVariants as Nullness'
-use Rattle.meaning.specs.Bytes.{if◌then◌else◌}
+use Rattle.std.specs.Prelude.{if◌then◌else◌}
 use Rattle.meaning.specs.Answers.{kind_code, truth_number, nullness_number}
 use Rattle.meaning.specs.Questions.{bool_question, null_question}
 

@@ -15,7 +15,8 @@ use Rattle.meaning.specs.declared.Literal.{Literal}
 use Rattle.meaning.specs.declared.Refusal.{Refusal}
 use Rattle.meaning.specs.declared.Refusal.TheVariants.{InvalidString}
 use Rattle.meaning.specs.declared.Text.{Text}
-use Rattle.meaning.specs.Bytes.{if◌then◌else◌, ◌!◌, part, has, ascii, same, is_mark, quote, dquote}
+use Rattle.meaning.specs.Bytes.{◌!◌, part, has, ascii, same, is_mark, quote, dquote}
+use Rattle.std.specs.Prelude.{if◌then◌else◌}
 use Rattle.meaning.specs.Chars.{utf8}
 use Rattle.meaning.specs.Walk.{Trace, walk, size, stops, plain, value}
 use Rattle.meaning.specs.Steps.{closing_step, trim}

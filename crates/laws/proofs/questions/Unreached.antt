@@ -13,7 +13,8 @@ use Rattle.meaning.specs.declared.LiteralExpected.{LiteralExpected}
 use Rattle.meaning.specs.declared.LiteralExpected.TheVariants as Expected
 use Rattle.meaning.specs.declared.Literal.{Literal}
 use Rattle.meaning.specs.declared.Refusal.TheVariants.{MissingSource, InvalidSourceRange, NotUtf8, InvalidMoney}
-use Rattle.meaning.specs.Bytes.{if◌then◌else◌, ◌!◌, part}
+use Rattle.meaning.specs.Bytes.{◌!◌, part}
+use Rattle.std.specs.Prelude.{if◌then◌else◌}
 use Rattle.meaning.specs.Chars.{utf8}
 use Rattle.meaning.specs.Walk.{Trace, walk, size, stops}
 use Rattle.meaning.specs.Steps.{closing_step, trim}

@@ -25,7 +25,7 @@ module _ (f u : ℕ) (lent r : Bor (List ℕ)) (h : IsPart (part_shown f u lent.
   pub shown_none : (u < f) ⊎ (length lent.now < u) → IsPart [] lent.ref_ptr r
   unfolding part_shown
   shown_none o =
-      let e = misfits o in let z : lent.ptr.1 + 0 ≡ lent.ptr.1 = omega arith in
+      let e = misfits o in let z : lent.ref_ptr.1 + 0 ≡ lent.ref_ptr.1 = omega arith in
       record { bytes = rw e at h.bytes; place = rw (e, z) at h.place }
     where
       misfits : (u < f) ⊎ (length lent.now < u) → (leb f u && leb u (length lent.now)) ≡ false

@@ -14,7 +14,8 @@ use Rattle.meaning.specs.declared.Refusal.TheVariants.{InvalidInteger, InvalidSt
 use Rattle.meaning.specs.declared.Text.TheVariants as Text'
 use Rattle.meaning.specs.declared.Identifier.TheVariants as Identifier'
 use Rattle.meaning.specs.declared.PackedBits.TheVariants as Packed'
-use Rattle.meaning.specs.Bytes.{if◌then◌else◌, part}
+use Rattle.meaning.specs.Bytes.{part}
+use Rattle.std.specs.Prelude.{if◌then◌else◌}
 use Rattle.meaning.specs.Chars.{utf8}
 use Rattle.meaning.specs.Cutting.{off}
 use Rattle.meaning.specs.Reading.{Answer, borrowed, written, refused, Value, means, fails, value_of, read}

@@ -14,7 +14,7 @@ use Rattle.meaning.specs.declared.Refusal.TheVariants.{InvalidString, NoRoom}
 use Rattle.meaning.specs.declared.Text.{Text}
 use Rattle.meaning.specs.declared.Text.TheVariants as Text'
 use Rattle.meaning.specs.declared.Identifier.{Identifier}
-use Rattle.meaning.specs.Bytes.{if◌then◌else◌}
+use Rattle.std.specs.Prelude.{if◌then◌else◌}
 use Rattle.meaning.specs.Chars.{utf8}
 use Rattle.meaning.specs.Reading.{Answer, borrowed, written, refused, read}
 use Rattle.meaning.specs.Answers.{Meets, text_number, packed_number, identifier_number}

@@ -9,7 +9,8 @@ use native.Mathlib.Omega.{arith}
 use lib.Dec.{eqb, ltb}
 use lib.ListN.{length}
 use borrow.Author.Tests.{ltb-true, ltb-false}
-use Rattle.meaning.specs.Bytes.{if◌then◌else◌, has}
+use Rattle.meaning.specs.Bytes.{has}
+use Rattle.std.specs.Prelude.{if◌then◌else◌}
 use Rattle.meaning.specs.Reading.{borrowed, written, refused}
 use Rattle.meaning.specs.Numbers.{Parsed, none, int, fits, within_bits, negated_by, parsed, is_minus, strip, separated, base_of, number_body, radix_value}
 use Rattle.meaning.specs.Numbers.{printed_by, decimal_of}

@@ -8,7 +8,8 @@ use native.Mathlib.Omega.{arith}
 use lib.Dec.{eqb}
 use lib.ListN.{length, take, drop, length-take}
 use Rattle.meaning.specs.declared.Settings.{Settings}
-use Rattle.meaning.specs.Bytes.{if◌then◌else◌, ◌!◌, part, ascii, has, quote, all_digits}
+use Rattle.meaning.specs.Bytes.{◌!◌, part, ascii, has, quote, all_digits}
+use Rattle.std.specs.Prelude.{if◌then◌else◌}
 use Rattle.meaning.specs.Walk.{after, walk}
 use Rattle.meaning.specs.Cutting.{segment, segment_by, segment_step, cut}
 use Rattle.meaning.specs.Reading.{Value, means, fails, value_of, both, as_written}

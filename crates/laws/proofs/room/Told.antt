@@ -21,7 +21,8 @@ use Rattle.meaning.specs.declared.Identifier.{Identifier}
 use Rattle.meaning.specs.declared.Identifier.TheVariants as Identifier'
 use Rattle.meaning.specs.declared.PackedBits.{PackedBits}
 use Rattle.meaning.specs.declared.PackedBits.TheVariants as Packed'
-use Rattle.meaning.specs.Bytes.{if◌then◌else◌, part}
+use Rattle.meaning.specs.Bytes.{part}
+use Rattle.std.specs.Prelude.{if◌then◌else◌}
 use Rattle.meaning.specs.Chars.{utf8}
 use Rattle.meaning.specs.Reading.{Answer, borrowed, written, refused}
 use Rattle.meaning.specs.Answers.{by_room, refusal_number, text_number, packed_number, identifier_number}

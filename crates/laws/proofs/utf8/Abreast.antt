@@ -7,7 +7,8 @@ use Prim.Native.Nat.{ℕ, zero, suc, ◌<◌}
 use native.Mathlib.Omega.{arith}
 use lib.ListN.{length, take, drop, take-append-drop}
 use lib.Seq.{drop-cons}
-use Rattle.meaning.specs.Bytes.{if◌then◌else◌, ◌!◌, backslash}
+use Rattle.meaning.specs.Bytes.{◌!◌, backslash}
+use Rattle.std.specs.Prelude.{if◌then◌else◌}
 use Rattle.meaning.specs.Chars.{Due, due, broken, fresh, push, pushes, whole, utf8}
 use Rattle.laws.proofs.utf8.Utf8.{pushes_append, pushes_broken, Good, fresh_good, push_good, pushes_good, ascii_push}
 

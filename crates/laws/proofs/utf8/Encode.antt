@@ -11,7 +11,8 @@ use native.Mathlib.Decide.{dec_le}
 use lib.Dec.{eqb, leb}
 use lib.ListN.{length}
 use borrow.Author.Tests.{le-leb, leb-true, lt-ltb, le-ltb, eqb-true, not-true}
-use Rattle.meaning.specs.Bytes.{if◌then◌else◌, within}
+use Rattle.meaning.specs.Bytes.{within}
+use Rattle.std.specs.Prelude.{if◌then◌else◌}
 use Rattle.meaning.specs.Chars.{Due, due, pushes, whole, utf8, lead, leads, lead_in, base, later, more, encode, is_scalar, gather}
 use Rattle.laws.proofs.basics.Tests.{and_left, and_right, within_yes, within_above, within_bounds, within_outside}
 use Rattle.laws.proofs.utf8.Utf8.{Rows, lead_row, Ranged, ranged_all, lead_good}

@@ -7,7 +7,8 @@ use native.Mathlib.Nat.{add-zero}
 use native.Mathlib.Omega.{arith}
 use lib.ListN.{length, take, drop, length-append, take-append-drop}
 use lib.Seq.{get_or-drop}
-use Rattle.meaning.specs.Bytes.{if◌then◌else◌, within, ◌!◌}
+use Rattle.meaning.specs.Bytes.{within, ◌!◌}
+use Rattle.std.specs.Prelude.{if◌then◌else◌}
 use Rattle.meaning.specs.Chars.{Due, due, broken, fresh, pushes, whole, utf8, lead, base, encode, is_scalar, gather}
 use Rattle.laws.proofs.basics.Tests.{within_yes, within_bounds}
 use Rattle.laws.proofs.utf8.Utf8.{pushes_append, pushes_broken, utf8_append, Good, fresh_good, pushes_good, later_lead}

@@ -6,7 +6,8 @@ use Prim.Native.Nat.{ℕ, zero, suc, ◌+◌, ◌-◌, ◌*◌}
 use native.Mathlib.Nat.{zero-add, suc-add}
 use lib.ListN.{take}
 use lib.Seq.{take-nil, take-length}
-use Rattle.meaning.specs.Bytes.{if◌then◌else◌, within}
+use Rattle.meaning.specs.Bytes.{within}
+use Rattle.std.specs.Prelude.{if◌then◌else◌}
 use Rattle.meaning.specs.Chars.{Due, due, broken, fresh, push, pushes, whole, utf8, lead, base, gather, is_space}
 use Rattle.meaning.specs.Walk.{after, walk, size}
 use Rattle.meaning.specs.Steps.{space_step, space_by, gap}

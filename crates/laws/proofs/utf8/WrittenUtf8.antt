@@ -6,7 +6,8 @@ use Prim.Native.Nat.{ℕ, ◌<◌}
 use native.Mathlib.Omega.{arith}
 use lib.Dec.{eqb}
 use borrow.Author.Tests.{eqb-true}
-use Rattle.meaning.specs.Bytes.{if◌then◌else◌, within, quote, backslash}
+use Rattle.meaning.specs.Bytes.{within, quote, backslash}
+use Rattle.std.specs.Prelude.{if◌then◌else◌}
 use Rattle.meaning.specs.Chars.{Due, broken, fresh, push, pushes, whole, utf8, lead}
 use Rattle.meaning.specs.Writer.{spell, spells, literal}
 use Rattle.laws.proofs.basics.Tests.{and_right}

@@ -9,7 +9,8 @@ use lib.Dec.{eqb, ltb}
 use lib.ListN.{length, take, drop, length-drop, take-append-drop}
 use lib.Seq.{length-take-le, drop-append-le}
 use borrow.Author.Tests.{ltb-false}
-use Rattle.meaning.specs.Bytes.{if◌then◌else◌, ◌!◌, ascii, has, starts, within, quote, backslash, digit, digits, number}
+use Rattle.meaning.specs.Bytes.{◌!◌, ascii, has, starts, within, quote, backslash, digit, digits, number}
+use Rattle.std.specs.Prelude.{if◌then◌else◌}
 use Rattle.meaning.specs.Chars.{encode}
 use Rattle.meaning.specs.Walk.{Step, keep, give, stop, Trace, ended, stopped, kept, gave, walk, size, stops}
 use Rattle.meaning.specs.Steps.{byte_of, doubled, mysql_table, mysql, standard_step, escape_table, one_byte, may_escape, scalar_by, escaped, escape_step, pair, low_half}

@@ -10,7 +10,8 @@ use lib.Dec.{eqb, ltb}
 use lib.ListN.{length, get_or, drop, length-drop}
 use lib.Seq.{drop-cons}
 use borrow.Author.Tests.{eqb-true}
-use Rattle.meaning.specs.Bytes.{if◌then◌else◌, ◌!◌, ascii, has, starts, within, quote, backslash, digits, number}
+use Rattle.meaning.specs.Bytes.{◌!◌, ascii, has, starts, within, quote, backslash, digits, number}
+use Rattle.std.specs.Prelude.{if◌then◌else◌}
 use Rattle.meaning.specs.Chars.{more, encode}
 use Rattle.meaning.specs.Walk.{Step, keep, give, stop}
 use Rattle.meaning.specs.Steps.{byte_of, doubled, mysql_table, mysql, standard_step, escape_table, one_byte, may_escape, scalar_by, escaped, escape_step, pair, low_half}

@@ -8,7 +8,8 @@ use native.Mathlib.Omega.{arith}
 use lib.Dec.{eqb, ltb}
 use borrow.Author.Tests.{ltb-true, ltb-false, le-leb, lt-ltb, eqb-true, eqb-false, ne_eqb}
 use Rattle.meaning.specs.declared.Form.TheVariants.{Escape}
-use Rattle.meaning.specs.Bytes.{if◌then◌else◌, has, within, quote, backslash, digits, number}
+use Rattle.meaning.specs.Bytes.{has, within, quote, backslash, digits, number}
+use Rattle.std.specs.Prelude.{if◌then◌else◌}
 use Rattle.meaning.specs.Walk.{Step, keep, give, after, walk, value}
 use Rattle.meaning.specs.Steps.{byte_of, escape_table, escaped, one_byte}
 use Rattle.meaning.specs.Forms.{figure, figures, letter_of, is_doubled, escape_form, form_step}

@@ -9,7 +9,8 @@ use native.Mathlib.Omega.{arith}
 use borrow.Author.Tests.{ltb-true, ltb-false, lt-ltb}
 use lib.Dec.{ltb}
 use lib.ListN.{length}
-use Rattle.meaning.specs.Bytes.{if◌then◌else◌, within, digit, digits, number}
+use Rattle.meaning.specs.Bytes.{within, digit, digits, number}
+use Rattle.std.specs.Prelude.{if◌then◌else◌}
 use Rattle.meaning.specs.Forms.{figure, figures}
 use Rattle.laws.proofs.basics.Tests.{within_yes, within_above}
 use Rattle.laws.proofs.writing.FormUnits.{Every}

@@ -9,7 +9,8 @@ use lib.Dec.{leb, ltb}
 use lib.ListN.{length}
 use Rattle.meaning.specs.declared.Form.{Form}
 use Rattle.meaning.specs.declared.Form.TheVariants.{Escape, Unicode}
-use Rattle.meaning.specs.Bytes.{if◌then◌else◌, within, quote, backslash}
+use Rattle.meaning.specs.Bytes.{within, quote, backslash}
+use Rattle.std.specs.Prelude.{if◌then◌else◌}
 use Rattle.meaning.specs.Chars.{Due, pushes}
 use Rattle.meaning.specs.Walk.{Step, give}
 use Rattle.meaning.specs.Steps.{escape_table, escape_step, unicode_step, closing_step}

@@ -8,7 +8,8 @@ use native.Mathlib.Omega.{arith}
 use lib.ListN.{length, take, drop, length-append, drop_of_length-le}
 use lib.Seq.{take-append_seam, drop-append_seam, take_all, get_or-drop}
 use borrow.Author.Tests.{lt-ltb, le-ltb}
-use Rattle.meaning.specs.Bytes.{if◌then◌else◌, ◌!◌, within}
+use Rattle.meaning.specs.Bytes.{◌!◌, within}
+use Rattle.std.specs.Prelude.{if◌then◌else◌}
 use Rattle.meaning.specs.Chars.{Due, due, broken, pushes, whole, utf8, lead, width, width_by}
 use Rattle.meaning.specs.Writer.{on_first, parts_from}
 use Rattle.laws.proofs.basics.Tests.{within_yes, within_bounds}

@@ -9,7 +9,8 @@ use lib.ListN.{length}
 use borrow.Author.Tests.{eqb-true, ne_eqb}
 use Rattle.meaning.specs.declared.Form.{Form}
 use Rattle.meaning.specs.declared.Form.TheVariants.{Escape, Unicode}
-use Rattle.meaning.specs.Bytes.{if◌then◌else◌, within, quote, backslash, digit}
+use Rattle.meaning.specs.Bytes.{within, quote, backslash, digit}
+use Rattle.std.specs.Prelude.{if◌then◌else◌}
 use Rattle.meaning.specs.Chars.{Due, due, broken, fresh, lead, pushes, whole, utf8}
 use Rattle.meaning.specs.Walk.{give}
 use Rattle.meaning.specs.Steps.{closing_step, doubled, one_byte, uescaped}

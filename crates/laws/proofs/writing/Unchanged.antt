@@ -10,7 +10,8 @@ use lib.Dec.{T, eqb}
 use lib.ListN.{length, length-append}
 use lib.Seq.{take-append_seam, drop-append_seam}
 use Rattle.meaning.specs.declared.Settings.{Settings}
-use Rattle.meaning.specs.Bytes.{if◌then◌else◌, quote, backslash}
+use Rattle.meaning.specs.Bytes.{quote, backslash}
+use Rattle.std.specs.Prelude.{if◌then◌else◌}
 use Rattle.meaning.specs.Walk.{Step, keep, walk, stops, plain, value}
 use Rattle.meaning.specs.Steps.{mysql, doubled, standard_step}
 use Rattle.meaning.specs.Cutting.{segment}

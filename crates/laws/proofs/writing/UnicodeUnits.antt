@@ -9,7 +9,8 @@ use lib.Dec.{eqb, leb, ltb}
 use lib.ListN.{length}
 use borrow.Author.Tests.{leb-true, leb-false, le-leb, lt-leb, lt-ltb, le-ltb, ltb-true, ne_eqb}
 use Rattle.meaning.specs.declared.Form.TheVariants.{Unicode}
-use Rattle.meaning.specs.Bytes.{if◌then◌else◌, has, within, quote, backslash, digits, number}
+use Rattle.meaning.specs.Bytes.{has, within, quote, backslash, digits, number}
+use Rattle.std.specs.Prelude.{if◌then◌else◌}
 use Rattle.meaning.specs.Chars.{due, lead, base, later, more, encode, is_scalar, gather, utf8}
 use Rattle.meaning.specs.Walk.{Step, keep, give, after, walk, value}
 use Rattle.meaning.specs.Steps.{may_escape, scalar_by, uescaped}

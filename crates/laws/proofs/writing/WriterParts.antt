@@ -11,7 +11,8 @@ use borrow.Author.Tests.{lt-ltb, le-ltb, ltb-true, ltb-false}
 use Rattle.meaning.specs.declared.Settings.{Settings}
 use Rattle.meaning.specs.declared.PartSize.{PartSize}
 use Rattle.meaning.specs.declared.PartSize.TheVariants.{Whole, AtMost}
-use Rattle.meaning.specs.Bytes.{if◌then◌else◌, ◌!◌, has, within}
+use Rattle.meaning.specs.Bytes.{◌!◌, has, within}
+use Rattle.std.specs.Prelude.{if◌then◌else◌}
 use Rattle.meaning.specs.Chars.{Due, due, broken, fresh, push, pushes, whole, utf8, lead, leads, width, width_by}
 use Rattle.meaning.specs.Writer.{on_first, parts_from, parts_of, part_too_small, over_limit, unwritable_nul, written_text, writes, write_question}
 use Rattle.laws.proofs.basics.Tests.{or_left, or_right}

@@ -8,7 +8,8 @@ use lib.Dec.{eqb}
 use lib.ListN.{length, length-append}
 use Rattle.meaning.specs.declared.Settings.{Settings}
 use Rattle.meaning.specs.declared.PartSize.{PartSize}
-use Rattle.meaning.specs.Bytes.{if◌then◌else◌, ◌!◌, within, quote, backslash}
+use Rattle.meaning.specs.Bytes.{◌!◌, within, quote, backslash}
+use Rattle.std.specs.Prelude.{if◌then◌else◌}
 use Rattle.meaning.specs.Chars.{lead, is_space}
 use Rattle.meaning.specs.Reading.{borrowed, written, read}
 use Rattle.meaning.specs.Writer.{spell, spells, literal, between, literals, parts_of, written_text}

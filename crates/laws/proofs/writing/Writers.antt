@@ -11,7 +11,7 @@ use lib.Seq.{take-append_seam}
 use borrow.Author.Tests.{le-leb, lt-leb}
 use Rattle.meaning.specs.declared.Writing.{Writing}
 use Rattle.meaning.specs.declared.Writing.TheVariants.{Written, OverLimit, NotUtf8, HoldsNul, NoRoom}
-use Rattle.meaning.specs.Bytes.{if◌then◌else◌}
+use Rattle.std.specs.Prelude.{if◌then◌else◌}
 use Rattle.meaning.specs.Answers.{Outcome, writing_number, by_room, filled}
 use Rattle.meaning.specs.Writer.{writes}
 

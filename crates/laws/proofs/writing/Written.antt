@@ -10,7 +10,8 @@ use borrow.Author.Tests.{eqb-true}
 use lib.ListN.{length, length-append}
 use lib.Seq.{drop-length}
 use Rattle.meaning.specs.declared.Settings.{Settings}
-use Rattle.meaning.specs.Bytes.{if◌then◌else◌, ◌!◌, has, quote, backslash, is_mark}
+use Rattle.meaning.specs.Bytes.{◌!◌, has, quote, backslash, is_mark}
+use Rattle.std.specs.Prelude.{if◌then◌else◌}
 use Rattle.meaning.specs.Walk.{keep, give, stop, stopped, walk, size, stops, value}
 use Rattle.meaning.specs.Steps.{standard_step, closing_step, doubled}
 use Rattle.meaning.specs.Cutting.{closed_at, segment, continues}
