@@ -6,8 +6,6 @@ use mathlib.Core.List.{List, [], ◌∷◌, ◌++◌}
 use Prim.Native.Nat.{ℕ, ◌+◌, ◌-◌, ◌^◌, ◌≤◌, ◌<◌}
 use native.Mathlib.Omega.{arith}
 use borrow.Author.Tests.{lt-ltb, le-leb, eq-eqb, ne_eqb, eqb-true, eqb-false, not-true, not-false}
-use denote.Enum.Declared.{tag_of}
-use types.Run.{OneOf, miss}
 use lib.Dec.{eqb, ltb, leb}
 use lib.ListN.{length, take, drop, length-append, drop_of_length-le}
 use lib.Seq.{take-append_seam, length-take-le}
@@ -26,7 +24,6 @@ use Rattle.leaves.specs.Puts.{Least, Puts}
 use Rattle.scalars.specs.Scalars.{Encodes}
 use Rattle.utf8.specs.declared.tail.Utf8Tail.{Utf8Tail}
 use Rattle.utf8.specs.declared.tail.Utf8Tail.TheVariants as Tail
-use Rattle.utf8.specs.contracts.tail.Utf8Tail.{the_type}
 use Rattle.utf8.specs.Tails.{due_of}
 use Rattle.cutting.specs.declared.marks.Mark.{Mark}
 use Rattle.cutting.specs.declared.marks.Mark.TheVariants.{Quote, DoubleQuote}
@@ -185,7 +182,7 @@ module _ (f : Family) (e l : List ℕ) (s : Pass) (r : Ready f e l s) (p : Piece
       record { place = omega (arith, r.short, t.next.inside); count = omega (arith, r.short, r.counted.short, t.brief, t.next.inside) }
 
 -- PAST A UNIT
-unbroken_by : (t : Utf8Tail) → OneOf (0 ∷ 1 ∷ 2 ∷ 3 ∷ 4 ∷ 5 ∷ 6 ∷ 7 ∷ []) (tag_of the_type t) → Unbroken (due_of t)
+unbroken_by : (t : Utf8Tail) → (t ≡ Tail.Broken → ⊥) → Unbroken (due_of t)
 unbroken_by Tail.Start k = tt
 unbroken_by Tail.One k = tt
 unbroken_by Tail.Two k = tt
@@ -194,13 +191,13 @@ unbroken_by Tail.TwoUpTo9F k = tt
 unbroken_by Tail.Three k = tt
 unbroken_by Tail.ThreeFrom90 k = tt
 unbroken_by Tail.ThreeUpTo8F k = tt
-unbroken_by Tail.Broken k = miss (0 ∷ 1 ∷ 2 ∷ 3 ∷ 4 ∷ 5 ∷ 6 ∷ 7 ∷ []) 8 tt k
+unbroken_by Tail.Broken k = absurd (k refl)
 
 module _ (f : Family) (p : Pass) (y : Bool) (m : ℕ) (v out : List ℕ) (t : Utf8Tail) (dt : due_of t ≡ due_by (checks f) (due_of p.tail) v) where
   pub moves_broken : t ≡ Tail.Broken → broken ≡ due_by (checks f) (due_of p.tail) v
   moves_broken q = sym (ap due_of q) ∙ dt
 
-  pub moves_on : OneOf (0 ∷ 1 ∷ 2 ∷ 3 ∷ 4 ∷ 5 ∷ 6 ∷ 7 ∷ []) (tag_of the_type t) → (k : ℕ) → Least p.n (length out) k
+  pub moves_on : (t ≡ Tail.Broken → ⊥) → (k : ℕ) → Least p.n (length out) k
       → (n : ℕ) (last : List ℕ) → Puts v (take (length out - k) (drop k out)) n last
       → length (take k out ++ (last ++ drop (length out - k) (drop k out))) ≡ length out
       → Moved f p y m v out (record { at = p.at + 1 + m; n = p.n + length v; plain = p.plain && y; tail = t })

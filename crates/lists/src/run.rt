@@ -21,10 +21,17 @@ use crate::said::{say, tell};
 use crate::state::State;
 use words::{Asked, asked_by};
 
+// An array of zeros; its length is a parameter, so that nothing is proved of a long list of them.
+fn zeros<const N: usize>() -> [u8; N]
+    ensures { N ≡ length result }
+{
+    [0; N]
+}
+
 fn room() -> [u8; 524288]
     ensures { 524288 ≡ length result }
 {
-    [0; 524288]
+    zeros()
 }
 
 // A line on standard error, and the status that goes with it.

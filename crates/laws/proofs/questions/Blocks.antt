@@ -72,7 +72,7 @@ module _ (S : List ℕ) where
 
   pub block_count : (used : ℕ) (room : List ℕ) (is : List Item) → length (block_at S used room is).fours ≡ length is
   block_count used room [] = refl
-  block_count used room (i ∷ is) = ap suc (block_count _ _ is)
+  block_count used room (i ∷ is) = ap suc (block_count (used + (item_asked S used room i).took) (drop (item_asked S used room i).took (item_asked S used room i).room) is)
 
   -- THE BUFFER: what is written, one after the other, and the rest as lent
   pub block_buffer : (used : ℕ) (room : List ℕ) (is : List Item)

@@ -3,6 +3,7 @@
 use mathlib.Core.Path.{◌≡◌, refl, ap}
 use mathlib.Core.Bool.{Bool, true, false}
 use mathlib.Core.List.{List}
+use lib.ListN.{length}
 use Prim.Native.Nat.{ℕ}
 use Rattle.meaning.specs.declared.Settings.{Settings}
 use Rattle.meaning.specs.declared.LiteralExpected.{LiteralExpected}
@@ -10,7 +11,7 @@ use Rattle.meaning.specs.declared.Literal.{Literal}
 use Rattle.meaning.specs.declared.Refusal.TheVariants.{NotUtf8, InvalidString, InvalidInteger, InvalidBitString, InvalidMoney}
 use Rattle.meaning.specs.Bytes.{part}
 use Rattle.meaning.specs.Cutting.{off}
-use Rattle.meaning.specs.Reading.{read}
+use Rattle.meaning.specs.Reading.{read, borrowed}
 use Rattle.meaning.specs.Numbers.{decimal_of}
 use Rattle.meaning.specs.Kinds.{bits, money, temporal}
 use Rattle.meaning.specs.Questions.{bad_span, source_text, tested, told, ranged, charset_by, integer_by, bit_base, string_question, decimal_question, bits_question}
@@ -53,7 +54,7 @@ module _ (l : Literal) (S S' : List ℕ) (a : Agree l S S') where
 
   pub source_question_same : source_question l S ≡ source_question l S'
   unfolding source_question
-  source_question_same = ap (ranged _ NotUtf8 l) source_text_same
+  source_question_same = ap (ranged (λ t. borrowed 0 (length t)) NotUtf8 l) source_text_same
 
   pub money_question_same : money_question l S ≡ money_question l S'
   unfolding money_question

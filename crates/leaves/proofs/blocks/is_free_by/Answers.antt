@@ -1,0 +1,18 @@
+-- `leaves::blocks::is_free_by` meets its contract. The loop's invariant, `Before`: no byte before i is one of the three. The measure is what is left of the
+-- length. Assumes nothing.
+use Rattle.std.proofs.Common.{◌-◌, length, arith}
+use Rattle.leaves.specs.Blocks.{free_of}
+use Rattle.leaves.proofs.Scans.{Before, before_none, block_passes, block_fails, block_last}
+use Rattle.leaves.proofs.blocks.is_free_by.Goals as goal
+
+pub loop-i-init : goal.loop-i-init
+loop-i-init c = search before_none
+
+pub returns-then-not-is_free_block : goal.returns-then-not-is_free_block
+returns-then-not-is_free_block c = search block_fails
+
+pub loop-i-preserved : goal.loop-i-preserved
+loop-i-preserved c = search block_passes
+
+pub returns : goal.returns
+returns c = search block_last

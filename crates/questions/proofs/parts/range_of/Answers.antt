@@ -1,0 +1,22 @@
+-- `questions::parts::range_of` meets its contract: by the reading, whose places fit. Assumes nothing.
+use Rattle.questions.proofs.Moved.{first_fits, last_fits, range_borrowed, range_written, range_refused, range_short}
+use borrow.Author.Rules.{rules}
+use Rattle.questions.proofs.parts.range_of.Goals as goal
+
+pub overflow_add-result : goal.overflow_add-result
+overflow_add-result c = search first_fits
+
+pub overflow_add-result-in-Borrowed : goal.overflow_add-result-in-Borrowed
+overflow_add-result-in-Borrowed c = search last_fits
+
+pub returns-in-Borrowed : goal.returns-in-Borrowed
+returns-in-Borrowed c = search range_borrowed
+
+pub returns-in-Written : goal.returns-in-Written
+returns-in-Written c = search range_written
+
+pub returns-in-Refused : goal.returns-in-Refused
+returns-in-Refused c = search range_refused
+
+pub returns-in-NoRoom : goal.returns-in-NoRoom
+returns-in-NoRoom c = search range_short

@@ -1,0 +1,29 @@
+-- `writer::units::escape_letter` meets its contract: at each arm the table computes, and at the last it has no such byte. Assumes nothing.
+use mathlib.Core.Path.{ap, sym}
+use Rattle.writer.specs.Manners.{letter_for}
+use Rattle.writer.proofs.Spelled.{letter_other}
+use Rattle.std.proofs.Common.{arith}
+use Rattle.writer.proofs.units.escape_letter.Goals as goal
+
+pub returns-in-8 : goal.returns-in-8
+unfolding letter_for
+returns-in-8 c = sym (ap letter_for c.in-8.is)
+
+pub returns-in-9 : goal.returns-in-9
+unfolding letter_for
+returns-in-9 c = sym (ap letter_for c.in-9.is)
+
+pub returns-in-10 : goal.returns-in-10
+unfolding letter_for
+returns-in-10 c = sym (ap letter_for c.in-10.is)
+
+pub returns-in-12 : goal.returns-in-12
+unfolding letter_for
+returns-in-12 c = sym (ap letter_for c.in-12.is)
+
+pub returns-in-13 : goal.returns-in-13
+unfolding letter_for
+returns-in-13 c = sym (ap letter_for c.in-13.is)
+
+pub returns-in_default : goal.returns-in_default
+returns-in_default c = letter_other _ (omega arith) (omega arith) (omega arith) (omega arith) (omega arith)
