@@ -90,8 +90,10 @@ pub fn test_source(literal: Literal, source: &[u8]) -> Tested
     Tested::Passes { start, end }
 }
 
-// The tests 1 to 4: `right` says whether the kind fits the question, which expects `expected`.
+// The tests 1 to 4: `right` says whether the kind fits the question, which expects `expected`. It is always put in place: where LLVM leaves it a call of its own,
+// as for Arm, a decimal question takes more stack than it may.
 // Rules out: the kind passed over; another family told (must-fail: another_expected, kind_passed_over).
+#[inline(always)]
 pub fn test(right: bool, expected: LiteralExpected, literal: Literal, source: &[u8]) -> Tested
     ensures { Tests literal source.now result (tested right expected literal source.now) }
 {

@@ -3,6 +3,6 @@
 
 use lists::run::valdrabus_keys;
 
-fn main() {
-    valdrabus_keys(b"");
+fn main(rt: HostRuntime) {
+    valdrabus_keys(rt.stdin(), b"");
 }

@@ -1,7 +1,6 @@
 // A row that is not UTF-8, byte by byte: those that are no visible ASCII by their numbers, between marks.
-use crate::said::say;
+use crate::said::{STDOUT_FILENO, say};
 use crate::shown::show_marked;
-use libc::STDOUT_FILENO;
 use utf8::tail::{Utf8Tail, is_whole, utf8_tail_push};
 
 // Up to where a text is UTF-8: behind its last whole character before a byte that may not stand there, or before the end that comes too soon.

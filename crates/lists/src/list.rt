@@ -5,7 +5,7 @@ use crate::rows::{after_line, after_window, cut_off};
 use crate::state::{State, none};
 use leaves::blocks::{Stops, free_run};
 use leaves::views::part_of;
-use libc::STDIN_FILENO;
+use std::io::{Read, Stdin};
 
 // Where the line at a place ends: at its CR or line feed, or where the text does.
 fn line_end(text: &[u8], at: usize) -> usize
@@ -89,16 +89,21 @@ struct Held {
 }
 
 // Reads on behind the first bytes of the window. A list that cannot be read on has not ended: its last line may be cut off.
-fn read_on(window: &mut [u8], unfinished: usize) -> Held
+fn read_on(from: &mut Stdin, window: &mut [u8], unfinished: usize) -> Held
     requires { unfinished ≤ length window.old }
     ensures { result.bytes ≤ length window.new }
 {
-    let got = libc::read(STDIN_FILENO, &mut window[unfinished..]);
-    let n = io::count(got, &window[unfinished..]);
-    Held {
-        bytes: unfinished + n,
-        ended: got == 0,
-        failed: got < 0,
+    match from.read(&mut window[unfinished..]) {
+        Ok(n) => Held {
+            bytes: unfinished + n,
+            ended: n == 0,
+            failed: false,
+        },
+        Err(_) => Held {
+            bytes: unfinished,
+            ended: false,
+            failed: true,
+        },
     }
 }
 
@@ -164,6 +169,7 @@ fn after_bytes(
 
 // Reads on, and takes the lines that end in the window.
 fn next_block(
+    from: &mut Stdin,
     state: State,
     window: &mut [u8],
     value: &mut [u8],
@@ -175,7 +181,7 @@ fn next_block(
     requires { state.unfinished ≤ length window.old }
     ensures { result.unfinished ≤ length window.new }
 {
-    let held = read_on(window, state.unfinished);
+    let held = read_on(from, window, state.unfinished);
     let mut after = after_bytes(state, window, held, value, other, store, ends, lines);
     after.unfinished = to_front(window, after.begun, held.bytes);
     after
@@ -183,6 +189,7 @@ fn next_block(
 
 // Reads the list to its end, or as far as it can be read and its rows be written.
 pub(crate) fn after_list(
+    from: &mut Stdin,
     window: &mut [u8],
     value: &mut [u8],
     other: &mut [u8],
@@ -193,7 +200,7 @@ pub(crate) fn after_list(
     let mut state = none();
     let mut blocks: u64 = 0xFFFF_FFFF_FFFF_FFFF;
     while 0 < blocks {
-        state = next_block(state, window, value, other, store, ends, lines);
+        state = next_block(from, state, window, value, other, store, ends, lines);
         if state.last | state.stopped {
             return state;
         }

@@ -74,7 +74,7 @@ fn stopped_status(state: State) -> u32
     2
 }
 
-fn list_status() -> u32
+fn list_status(from: &mut Stdin) -> u32
     ensures { result ≤ 3 }
 {
     let mut window = room();
@@ -84,6 +84,7 @@ fn list_status() -> u32
     let mut ends = for_rows();
     let mut lines = for_rows();
     let state = after_list(
+        from,
         &mut window,
         &mut value,
         &mut other,
@@ -120,12 +121,13 @@ end, the output cannot be written, or a word is not understood; then standard er
 // The program. Its words are those behind its name, each ended by a 0 byte; its result is the status to end with.
 // Rules out: a wrong word that ends with the list's status; one that ends with that of --help (must-fail: work_for_a_wrong_word, help_for_a_wrong_word).
 #[unsafe(no_mangle)]
-pub extern "C" fn valdrabus_keys(words: &[u8]) -> u32
+pub extern "C" fn valdrabus_keys(input: Stdin, words: &[u8]) -> u32
     ensures { Ends 3 (asked_of words.now) result }
 {
+    let mut from = input;
     let what = asked_by(words);
     match what {
-        Asked::Work => list_status(),
+        Asked::Work => list_status(&mut from),
         Asked::Help => help(),
         Asked::Other => failed(b"keys: it takes no word but --help\nusage: keys [--help] <LIST\n"),
     }

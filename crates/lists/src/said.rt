@@ -1,7 +1,10 @@
 // Writing: rows to standard output, what went wrong to standard error. Each function tells whether all of it was written; what is told to standard error alone
 // need not, since there is nobody left to tell.
 use leaves::views::part_of;
-use libc::{STDERR_FILENO, STDOUT_FILENO};
+
+pub(crate) const STDOUT_FILENO: i32 = 1;
+
+pub(crate) const STDERR_FILENO: i32 = 2;
 
 pub(crate) fn say(bytes: &[u8]) -> bool {
     io::write_all(STDOUT_FILENO, bytes)

@@ -1,8 +1,8 @@
 // A key as it can stand in a line: control characters by their numbers, between marks. The opening mark is shown so too, so that no two keys look alike.
 ghost use Rattle.std.specs.Prelude.{◌+◌, ◌<◌, ◌≤◌, length};
 
+use crate::said::{STDERR_FILENO, STDOUT_FILENO};
 use leaves::texts::starts_at;
-use libc::{STDERR_FILENO, STDOUT_FILENO};
 
 // How many bytes a character has that is shown by its number; 0 for any other character.
 fn marked_len(key: &[u8], at: usize) -> usize

@@ -3,6 +3,6 @@
 
 use records::run::valdrabus_litrec;
 
-fn main() {
-    valdrabus_litrec(b"");
+fn main(rt: HostRuntime) {
+    valdrabus_litrec(rt.stdin(), b"");
 }

@@ -2,8 +2,8 @@
 use mathlib.Core.Bool.{true, false}
 use mathlib.Core.List.{List, [], ◌∷◌}
 use Rattle.meaning.specs.declared.PartSize.TheVariants.{Whole, AtMost}
-use Rattle.meaning.proofs.Rows.{Row, asks, spans, detached, helps, names, prefixed, spells, prints, wrote, needs, refused, string, decimal_text}
-use Rattle.meaning.proofs.Rows.{bit_text, temporal_text, money_text, source_part, charset, i64, bool, null, uescape_legality, escape_validity, unicode_validity}
+use Rattle.meaning.proofs.Rows.{Row, asks, spans, detached, helps, names, prefixed, spells, prints, wrote, needs, refused, string, decimal_text, bit_text}
+use Rattle.meaning.proofs.Rows.{temporal_text, money_text, source_part, charset, i64, bool, null, uescape_legality, escape_validity, unicode_validity}
 use Rattle.meaning.proofs.Rows.{embedded_nul, is_ident, borrows, writes, plus, minus, unnamed, says, refuses, breaks, unfit}
 
 abbrev pub rows : List Row

@@ -36,146 +36,146 @@ use Rattle.meaning.proofs.PrintRows as PrintRows
 use Rattle.meaning.proofs.PackRows as PackRows
 
 oracle1_right : T (all Oracle1.rows)
-unfolding within is_mark is_letter is_decimal in_name starts_tag in_tag digit all_digits lead utf8 more encode is_scalar width is_space doubled one_byte may_escape
-    scalar_by pair low_half uescaped named segment segment_step cut continues encloses argument upper is_unicode unicode_spelling delimiter spelling answer one
-    read sign_length is_minus base_by radix_prefix parsed separated radix_value i64_of digits_by digits_of decimal_of text_of bit_body bits money token_start
-    quote_token temporal_token temporal charset_end uescape_legal escape_valid unicode_valid ident part_shown filled cuts_character bad_span source_text tested
-    string_question decimal_question bits_question temporal_question source_question money_question charset_question i64_question identifier_question spell
-    written_text over_limit unwritable_nul write_question figure is_doubled escape_form unicode_figures form_text form_question line good_record record_line output
-    item_asked bad_block block_call is_leap month_length year_length day_number is_day calendar_day date_of day_question is_ten_bytes is_date day_in date_question bits_in
-    pack_bits packed_question bit_digits bit_literal bad_bits bit_write_question
+unfolding within is_mark is_letter is_decimal in_name starts_tag in_tag digit all_digits lead utf8 more encode is_scalar width is_space doubled one_byte
+    may_escape scalar_by pair low_half uescaped named segment segment_step cut continues encloses argument upper is_unicode unicode_spelling delimiter
+    spelling answer one read sign_length is_minus base_by radix_prefix parsed separated radix_value i64_of digits_by digits_of decimal_of text_of bit_body
+    bits money token_start quote_token temporal_token temporal charset_end uescape_legal escape_valid unicode_valid ident part_shown filled cuts_character
+    bad_span source_text tested string_question decimal_question bits_question temporal_question source_question money_question charset_question
+    i64_question identifier_question spell written_text over_limit unwritable_nul write_question figure is_doubled escape_form unicode_figures form_text
+    form_question line good_record record_line output item_asked bad_block block_call is_leap month_length year_length day_number is_day calendar_day
+    date_of day_question is_ten_bytes is_date day_in date_question bits_in pack_bits packed_question bit_digits bit_literal bad_bits bit_write_question
 oracle1_right = tt
 
 oracle2_right : T (all Oracle2.rows)
-unfolding within is_mark is_letter is_decimal in_name starts_tag in_tag digit all_digits lead utf8 more encode is_scalar width is_space doubled one_byte may_escape
-    scalar_by pair low_half uescaped named segment segment_step cut continues encloses argument upper is_unicode unicode_spelling delimiter spelling answer one
-    read sign_length is_minus base_by radix_prefix parsed separated radix_value i64_of digits_by digits_of decimal_of text_of bit_body bits money token_start
-    quote_token temporal_token temporal charset_end uescape_legal escape_valid unicode_valid ident part_shown filled cuts_character bad_span source_text tested
-    string_question decimal_question bits_question temporal_question source_question money_question charset_question i64_question identifier_question spell
-    written_text over_limit unwritable_nul write_question figure is_doubled escape_form unicode_figures form_text form_question line good_record record_line output
-    item_asked bad_block block_call is_leap month_length year_length day_number is_day calendar_day date_of day_question is_ten_bytes is_date day_in date_question bits_in
-    pack_bits packed_question bit_digits bit_literal bad_bits bit_write_question
+unfolding within is_mark is_letter is_decimal in_name starts_tag in_tag digit all_digits lead utf8 more encode is_scalar width is_space doubled one_byte
+    may_escape scalar_by pair low_half uescaped named segment segment_step cut continues encloses argument upper is_unicode unicode_spelling delimiter
+    spelling answer one read sign_length is_minus base_by radix_prefix parsed separated radix_value i64_of digits_by digits_of decimal_of text_of bit_body
+    bits money token_start quote_token temporal_token temporal charset_end uescape_legal escape_valid unicode_valid ident part_shown filled cuts_character
+    bad_span source_text tested string_question decimal_question bits_question temporal_question source_question money_question charset_question
+    i64_question identifier_question spell written_text over_limit unwritable_nul write_question figure is_doubled escape_form unicode_figures form_text
+    form_question line good_record record_line output item_asked bad_block block_call is_leap month_length year_length day_number is_day calendar_day
+    date_of day_question is_ten_bytes is_date day_in date_question bits_in pack_bits packed_question bit_digits bit_literal bad_bits bit_write_question
 oracle2_right = tt
 
 oracle3_right : T (all Oracle3.rows)
-unfolding within is_mark is_letter is_decimal in_name starts_tag in_tag digit all_digits lead utf8 more encode is_scalar width is_space doubled one_byte may_escape
-    scalar_by pair low_half uescaped named segment segment_step cut continues encloses argument upper is_unicode unicode_spelling delimiter spelling answer one
-    read sign_length is_minus base_by radix_prefix parsed separated radix_value i64_of digits_by digits_of decimal_of text_of bit_body bits money token_start
-    quote_token temporal_token temporal charset_end uescape_legal escape_valid unicode_valid ident part_shown filled cuts_character bad_span source_text tested
-    string_question decimal_question bits_question temporal_question source_question money_question charset_question i64_question identifier_question spell
-    written_text over_limit unwritable_nul write_question figure is_doubled escape_form unicode_figures form_text form_question line good_record record_line output
-    item_asked bad_block block_call is_leap month_length year_length day_number is_day calendar_day date_of day_question is_ten_bytes is_date day_in date_question bits_in
-    pack_bits packed_question bit_digits bit_literal bad_bits bit_write_question
+unfolding within is_mark is_letter is_decimal in_name starts_tag in_tag digit all_digits lead utf8 more encode is_scalar width is_space doubled one_byte
+    may_escape scalar_by pair low_half uescaped named segment segment_step cut continues encloses argument upper is_unicode unicode_spelling delimiter
+    spelling answer one read sign_length is_minus base_by radix_prefix parsed separated radix_value i64_of digits_by digits_of decimal_of text_of bit_body
+    bits money token_start quote_token temporal_token temporal charset_end uescape_legal escape_valid unicode_valid ident part_shown filled cuts_character
+    bad_span source_text tested string_question decimal_question bits_question temporal_question source_question money_question charset_question
+    i64_question identifier_question spell written_text over_limit unwritable_nul write_question figure is_doubled escape_form unicode_figures form_text
+    form_question line good_record record_line output item_asked bad_block block_call is_leap month_length year_length day_number is_day calendar_day
+    date_of day_question is_ten_bytes is_date day_in date_question bits_in pack_bits packed_question bit_digits bit_literal bad_bits bit_write_question
 oracle3_right = tt
 
 oracle4_right : T (all Oracle4.rows)
-unfolding within is_mark is_letter is_decimal in_name starts_tag in_tag digit all_digits lead utf8 more encode is_scalar width is_space doubled one_byte may_escape
-    scalar_by pair low_half uescaped named segment segment_step cut continues encloses argument upper is_unicode unicode_spelling delimiter spelling answer one
-    read sign_length is_minus base_by radix_prefix parsed separated radix_value i64_of digits_by digits_of decimal_of text_of bit_body bits money token_start
-    quote_token temporal_token temporal charset_end uescape_legal escape_valid unicode_valid ident part_shown filled cuts_character bad_span source_text tested
-    string_question decimal_question bits_question temporal_question source_question money_question charset_question i64_question identifier_question spell
-    written_text over_limit unwritable_nul write_question figure is_doubled escape_form unicode_figures form_text form_question line good_record record_line output
-    item_asked bad_block block_call is_leap month_length year_length day_number is_day calendar_day date_of day_question is_ten_bytes is_date day_in date_question bits_in
-    pack_bits packed_question bit_digits bit_literal bad_bits bit_write_question
+unfolding within is_mark is_letter is_decimal in_name starts_tag in_tag digit all_digits lead utf8 more encode is_scalar width is_space doubled one_byte
+    may_escape scalar_by pair low_half uescaped named segment segment_step cut continues encloses argument upper is_unicode unicode_spelling delimiter
+    spelling answer one read sign_length is_minus base_by radix_prefix parsed separated radix_value i64_of digits_by digits_of decimal_of text_of bit_body
+    bits money token_start quote_token temporal_token temporal charset_end uescape_legal escape_valid unicode_valid ident part_shown filled cuts_character
+    bad_span source_text tested string_question decimal_question bits_question temporal_question source_question money_question charset_question
+    i64_question identifier_question spell written_text over_limit unwritable_nul write_question figure is_doubled escape_form unicode_figures form_text
+    form_question line good_record record_line output item_asked bad_block block_call is_leap month_length year_length day_number is_day calendar_day
+    date_of day_question is_ten_bytes is_date day_in date_question bits_in pack_bits packed_question bit_digits bit_literal bad_bits bit_write_question
 oracle4_right = tt
 
 oracle5_right : T (all Oracle5.rows)
-unfolding within is_mark is_letter is_decimal in_name starts_tag in_tag digit all_digits lead utf8 more encode is_scalar width is_space doubled one_byte may_escape
-    scalar_by pair low_half uescaped named segment segment_step cut continues encloses argument upper is_unicode unicode_spelling delimiter spelling answer one
-    read sign_length is_minus base_by radix_prefix parsed separated radix_value i64_of digits_by digits_of decimal_of text_of bit_body bits money token_start
-    quote_token temporal_token temporal charset_end uescape_legal escape_valid unicode_valid ident part_shown filled cuts_character bad_span source_text tested
-    string_question decimal_question bits_question temporal_question source_question money_question charset_question i64_question identifier_question spell
-    written_text over_limit unwritable_nul write_question figure is_doubled escape_form unicode_figures form_text form_question line good_record record_line output
-    item_asked bad_block block_call is_leap month_length year_length day_number is_day calendar_day date_of day_question is_ten_bytes is_date day_in date_question bits_in
-    pack_bits packed_question bit_digits bit_literal bad_bits bit_write_question
+unfolding within is_mark is_letter is_decimal in_name starts_tag in_tag digit all_digits lead utf8 more encode is_scalar width is_space doubled one_byte
+    may_escape scalar_by pair low_half uescaped named segment segment_step cut continues encloses argument upper is_unicode unicode_spelling delimiter
+    spelling answer one read sign_length is_minus base_by radix_prefix parsed separated radix_value i64_of digits_by digits_of decimal_of text_of bit_body
+    bits money token_start quote_token temporal_token temporal charset_end uescape_legal escape_valid unicode_valid ident part_shown filled cuts_character
+    bad_span source_text tested string_question decimal_question bits_question temporal_question source_question money_question charset_question
+    i64_question identifier_question spell written_text over_limit unwritable_nul write_question figure is_doubled escape_form unicode_figures form_text
+    form_question line good_record record_line output item_asked bad_block block_call is_leap month_length year_length day_number is_day calendar_day
+    date_of day_question is_ten_bytes is_date day_in date_question bits_in pack_bits packed_question bit_digits bit_literal bad_bits bit_write_question
 oracle5_right = tt
 
 clarified_right : T (all Clarified.rows)
-unfolding within is_mark is_letter is_decimal in_name starts_tag in_tag digit all_digits lead utf8 more encode is_scalar width is_space doubled one_byte may_escape
-    scalar_by pair low_half uescaped named segment segment_step cut continues encloses argument upper is_unicode unicode_spelling delimiter spelling answer one
-    read sign_length is_minus base_by radix_prefix parsed separated radix_value i64_of digits_by digits_of decimal_of text_of bit_body bits money token_start
-    quote_token temporal_token temporal charset_end uescape_legal escape_valid unicode_valid ident part_shown filled cuts_character bad_span source_text tested
-    string_question decimal_question bits_question temporal_question source_question money_question charset_question i64_question identifier_question spell
-    written_text over_limit unwritable_nul write_question figure is_doubled escape_form unicode_figures form_text form_question line good_record record_line output
-    item_asked bad_block block_call is_leap month_length year_length day_number is_day calendar_day date_of day_question is_ten_bytes is_date day_in date_question bits_in
-    pack_bits packed_question bit_digits bit_literal bad_bits bit_write_question
+unfolding within is_mark is_letter is_decimal in_name starts_tag in_tag digit all_digits lead utf8 more encode is_scalar width is_space doubled one_byte
+    may_escape scalar_by pair low_half uescaped named segment segment_step cut continues encloses argument upper is_unicode unicode_spelling delimiter
+    spelling answer one read sign_length is_minus base_by radix_prefix parsed separated radix_value i64_of digits_by digits_of decimal_of text_of bit_body
+    bits money token_start quote_token temporal_token temporal charset_end uescape_legal escape_valid unicode_valid ident part_shown filled cuts_character
+    bad_span source_text tested string_question decimal_question bits_question temporal_question source_question money_question charset_question
+    i64_question identifier_question spell written_text over_limit unwritable_nul write_question figure is_doubled escape_form unicode_figures form_text
+    form_question line good_record record_line output item_asked bad_block block_call is_leap month_length year_length day_number is_day calendar_day
+    date_of day_question is_ten_bytes is_date day_in date_question bits_in pack_bits packed_question bit_digits bit_literal bad_bits bit_write_question
 clarified_right = tt
 
 formrows_right : T (all FormRows.rows)
-unfolding within is_mark is_letter is_decimal in_name starts_tag in_tag digit all_digits lead utf8 more encode is_scalar width is_space doubled one_byte may_escape
-    scalar_by pair low_half uescaped named segment segment_step cut continues encloses argument upper is_unicode unicode_spelling delimiter spelling answer one
-    read sign_length is_minus base_by radix_prefix parsed separated radix_value i64_of digits_by digits_of decimal_of text_of bit_body bits money token_start
-    quote_token temporal_token temporal charset_end uescape_legal escape_valid unicode_valid ident part_shown filled cuts_character bad_span source_text tested
-    string_question decimal_question bits_question temporal_question source_question money_question charset_question i64_question identifier_question spell
-    written_text over_limit unwritable_nul write_question figure is_doubled escape_form unicode_figures form_text form_question line good_record record_line output
-    item_asked bad_block block_call is_leap month_length year_length day_number is_day calendar_day date_of day_question is_ten_bytes is_date day_in date_question bits_in
-    pack_bits packed_question bit_digits bit_literal bad_bits bit_write_question
+unfolding within is_mark is_letter is_decimal in_name starts_tag in_tag digit all_digits lead utf8 more encode is_scalar width is_space doubled one_byte
+    may_escape scalar_by pair low_half uescaped named segment segment_step cut continues encloses argument upper is_unicode unicode_spelling delimiter
+    spelling answer one read sign_length is_minus base_by radix_prefix parsed separated radix_value i64_of digits_by digits_of decimal_of text_of bit_body
+    bits money token_start quote_token temporal_token temporal charset_end uescape_legal escape_valid unicode_valid ident part_shown filled cuts_character
+    bad_span source_text tested string_question decimal_question bits_question temporal_question source_question money_question charset_question
+    i64_question identifier_question spell written_text over_limit unwritable_nul write_question figure is_doubled escape_form unicode_figures form_text
+    form_question line good_record record_line output item_asked bad_block block_call is_leap month_length year_length day_number is_day calendar_day
+    date_of day_question is_ten_bytes is_date day_in date_question bits_in pack_bits packed_question bit_digits bit_literal bad_bits bit_write_question
 formrows_right = tt
 
 partrows_right : T (all PartRows.rows)
-unfolding within is_mark is_letter is_decimal in_name starts_tag in_tag digit all_digits lead utf8 more encode is_scalar width is_space doubled one_byte may_escape
-    scalar_by pair low_half uescaped named segment segment_step cut continues encloses argument upper is_unicode unicode_spelling delimiter spelling answer one
-    read sign_length is_minus base_by radix_prefix parsed separated radix_value i64_of digits_by digits_of decimal_of text_of bit_body bits money token_start
-    quote_token temporal_token temporal charset_end uescape_legal escape_valid unicode_valid ident part_shown filled cuts_character bad_span source_text tested
-    string_question decimal_question bits_question temporal_question source_question money_question charset_question i64_question identifier_question spell
-    written_text over_limit unwritable_nul write_question figure is_doubled escape_form unicode_figures form_text form_question line good_record record_line output
-    item_asked bad_block block_call is_leap month_length year_length day_number is_day calendar_day date_of day_question is_ten_bytes is_date day_in date_question bits_in
-    pack_bits packed_question bit_digits bit_literal bad_bits bit_write_question
+unfolding within is_mark is_letter is_decimal in_name starts_tag in_tag digit all_digits lead utf8 more encode is_scalar width is_space doubled one_byte
+    may_escape scalar_by pair low_half uescaped named segment segment_step cut continues encloses argument upper is_unicode unicode_spelling delimiter
+    spelling answer one read sign_length is_minus base_by radix_prefix parsed separated radix_value i64_of digits_by digits_of decimal_of text_of bit_body
+    bits money token_start quote_token temporal_token temporal charset_end uescape_legal escape_valid unicode_valid ident part_shown filled cuts_character
+    bad_span source_text tested string_question decimal_question bits_question temporal_question source_question money_question charset_question
+    i64_question identifier_question spell written_text over_limit unwritable_nul write_question figure is_doubled escape_form unicode_figures form_text
+    form_question line good_record record_line output item_asked bad_block block_call is_leap month_length year_length day_number is_day calendar_day
+    date_of day_question is_ten_bytes is_date day_in date_question bits_in pack_bits packed_question bit_digits bit_literal bad_bits bit_write_question
 partrows_right = tt
 
 placerows_right : T (all PlaceRows.rows)
-unfolding within is_mark is_letter is_decimal in_name starts_tag in_tag digit all_digits lead utf8 more encode is_scalar width is_space doubled one_byte may_escape
-    scalar_by pair low_half uescaped named segment segment_step cut continues encloses argument upper is_unicode unicode_spelling delimiter spelling answer one
-    read sign_length is_minus base_by radix_prefix parsed separated radix_value i64_of digits_by digits_of decimal_of text_of bit_body bits money token_start
-    quote_token temporal_token temporal charset_end uescape_legal escape_valid unicode_valid ident part_shown filled cuts_character bad_span source_text tested
-    string_question decimal_question bits_question temporal_question source_question money_question charset_question i64_question identifier_question spell
-    written_text over_limit unwritable_nul write_question figure is_doubled escape_form unicode_figures form_text form_question line good_record record_line output
-    item_asked bad_block block_call is_leap month_length year_length day_number is_day calendar_day date_of day_question is_ten_bytes is_date day_in date_question bits_in
-    pack_bits packed_question bit_digits bit_literal bad_bits bit_write_question
+unfolding within is_mark is_letter is_decimal in_name starts_tag in_tag digit all_digits lead utf8 more encode is_scalar width is_space doubled one_byte
+    may_escape scalar_by pair low_half uescaped named segment segment_step cut continues encloses argument upper is_unicode unicode_spelling delimiter
+    spelling answer one read sign_length is_minus base_by radix_prefix parsed separated radix_value i64_of digits_by digits_of decimal_of text_of bit_body
+    bits money token_start quote_token temporal_token temporal charset_end uescape_legal escape_valid unicode_valid ident part_shown filled cuts_character
+    bad_span source_text tested string_question decimal_question bits_question temporal_question source_question money_question charset_question
+    i64_question identifier_question spell written_text over_limit unwritable_nul write_question figure is_doubled escape_form unicode_figures form_text
+    form_question line good_record record_line output item_asked bad_block block_call is_leap month_length year_length day_number is_day calendar_day
+    date_of day_question is_ten_bytes is_date day_in date_question bits_in pack_bits packed_question bit_digits bit_literal bad_bits bit_write_question
 placerows_right = tt
 
 blockrows_right : T (all BlockRows.rows)
-unfolding within is_mark is_letter is_decimal in_name starts_tag in_tag digit all_digits lead utf8 more encode is_scalar width is_space doubled one_byte may_escape
-    scalar_by pair low_half uescaped named segment segment_step cut continues encloses argument upper is_unicode unicode_spelling delimiter spelling answer one
-    read sign_length is_minus base_by radix_prefix parsed separated radix_value i64_of digits_by digits_of decimal_of text_of bit_body bits money token_start
-    quote_token temporal_token temporal charset_end uescape_legal escape_valid unicode_valid ident part_shown filled cuts_character bad_span source_text tested
-    string_question decimal_question bits_question temporal_question source_question money_question charset_question i64_question identifier_question spell
-    written_text over_limit unwritable_nul write_question figure is_doubled escape_form unicode_figures form_text form_question line good_record record_line output
-    item_asked bad_block block_call is_leap month_length year_length day_number is_day calendar_day date_of day_question is_ten_bytes is_date day_in date_question bits_in
-    pack_bits packed_question bit_digits bit_literal bad_bits bit_write_question
+unfolding within is_mark is_letter is_decimal in_name starts_tag in_tag digit all_digits lead utf8 more encode is_scalar width is_space doubled one_byte
+    may_escape scalar_by pair low_half uescaped named segment segment_step cut continues encloses argument upper is_unicode unicode_spelling delimiter
+    spelling answer one read sign_length is_minus base_by radix_prefix parsed separated radix_value i64_of digits_by digits_of decimal_of text_of bit_body
+    bits money token_start quote_token temporal_token temporal charset_end uescape_legal escape_valid unicode_valid ident part_shown filled cuts_character
+    bad_span source_text tested string_question decimal_question bits_question temporal_question source_question money_question charset_question
+    i64_question identifier_question spell written_text over_limit unwritable_nul write_question figure is_doubled escape_form unicode_figures form_text
+    form_question line good_record record_line output item_asked bad_block block_call is_leap month_length year_length day_number is_day calendar_day
+    date_of day_question is_ten_bytes is_date day_in date_question bits_in pack_bits packed_question bit_digits bit_literal bad_bits bit_write_question
 blockrows_right = tt
 
 daterows_right : T (all DateRows.rows)
-unfolding within is_mark is_letter is_decimal in_name starts_tag in_tag digit all_digits lead utf8 more encode is_scalar width is_space doubled one_byte may_escape
-    scalar_by pair low_half uescaped named segment segment_step cut continues encloses argument upper is_unicode unicode_spelling delimiter spelling answer one
-    read sign_length is_minus base_by radix_prefix parsed separated radix_value i64_of digits_by digits_of decimal_of text_of bit_body bits money token_start
-    quote_token temporal_token temporal charset_end uescape_legal escape_valid unicode_valid ident part_shown filled cuts_character bad_span source_text tested
-    string_question decimal_question bits_question temporal_question source_question money_question charset_question i64_question identifier_question spell
-    written_text over_limit unwritable_nul write_question figure is_doubled escape_form unicode_figures form_text form_question line good_record record_line output
-    item_asked bad_block block_call is_leap month_length year_length day_number is_day calendar_day date_of day_question is_ten_bytes is_date day_in date_question bits_in
-    pack_bits packed_question bit_digits bit_literal bad_bits bit_write_question
+unfolding within is_mark is_letter is_decimal in_name starts_tag in_tag digit all_digits lead utf8 more encode is_scalar width is_space doubled one_byte
+    may_escape scalar_by pair low_half uescaped named segment segment_step cut continues encloses argument upper is_unicode unicode_spelling delimiter
+    spelling answer one read sign_length is_minus base_by radix_prefix parsed separated radix_value i64_of digits_by digits_of decimal_of text_of bit_body
+    bits money token_start quote_token temporal_token temporal charset_end uescape_legal escape_valid unicode_valid ident part_shown filled cuts_character
+    bad_span source_text tested string_question decimal_question bits_question temporal_question source_question money_question charset_question
+    i64_question identifier_question spell written_text over_limit unwritable_nul write_question figure is_doubled escape_form unicode_figures form_text
+    form_question line good_record record_line output item_asked bad_block block_call is_leap month_length year_length day_number is_day calendar_day
+    date_of day_question is_ten_bytes is_date day_in date_question bits_in pack_bits packed_question bit_digits bit_literal bad_bits bit_write_question
 daterows_right = tt
 
 printrows_right : T (all PrintRows.rows)
-unfolding within is_mark is_letter is_decimal in_name starts_tag in_tag digit all_digits lead utf8 more encode is_scalar width is_space doubled one_byte may_escape
-    scalar_by pair low_half uescaped named segment segment_step cut continues encloses argument upper is_unicode unicode_spelling delimiter spelling answer one
-    read sign_length is_minus base_by radix_prefix parsed separated radix_value i64_of digits_by digits_of decimal_of text_of bit_body bits money token_start
-    quote_token temporal_token temporal charset_end uescape_legal escape_valid unicode_valid ident part_shown filled cuts_character bad_span source_text tested
-    string_question decimal_question bits_question temporal_question source_question money_question charset_question i64_question identifier_question spell
-    written_text over_limit unwritable_nul write_question figure is_doubled escape_form unicode_figures form_text form_question line good_record record_line output
-    item_asked bad_block block_call is_leap month_length year_length day_number is_day calendar_day date_of day_question is_ten_bytes is_date day_in date_question bits_in
-    pack_bits packed_question bit_digits bit_literal bad_bits bit_write_question
+unfolding within is_mark is_letter is_decimal in_name starts_tag in_tag digit all_digits lead utf8 more encode is_scalar width is_space doubled one_byte
+    may_escape scalar_by pair low_half uescaped named segment segment_step cut continues encloses argument upper is_unicode unicode_spelling delimiter
+    spelling answer one read sign_length is_minus base_by radix_prefix parsed separated radix_value i64_of digits_by digits_of decimal_of text_of bit_body
+    bits money token_start quote_token temporal_token temporal charset_end uescape_legal escape_valid unicode_valid ident part_shown filled cuts_character
+    bad_span source_text tested string_question decimal_question bits_question temporal_question source_question money_question charset_question
+    i64_question identifier_question spell written_text over_limit unwritable_nul write_question figure is_doubled escape_form unicode_figures form_text
+    form_question line good_record record_line output item_asked bad_block block_call is_leap month_length year_length day_number is_day calendar_day
+    date_of day_question is_ten_bytes is_date day_in date_question bits_in pack_bits packed_question bit_digits bit_literal bad_bits bit_write_question
 printrows_right = tt
 
 packrows_right : T (all PackRows.rows)
-unfolding within is_mark is_letter is_decimal in_name starts_tag in_tag digit all_digits lead utf8 more encode is_scalar width is_space doubled one_byte may_escape
-    scalar_by pair low_half uescaped named segment segment_step cut continues encloses argument upper is_unicode unicode_spelling delimiter spelling answer one
-    read sign_length is_minus base_by radix_prefix parsed separated radix_value i64_of digits_by digits_of decimal_of text_of bit_body bits money token_start
-    quote_token temporal_token temporal charset_end uescape_legal escape_valid unicode_valid ident part_shown filled cuts_character bad_span source_text tested
-    string_question decimal_question bits_question temporal_question source_question money_question charset_question i64_question identifier_question spell
-    written_text over_limit unwritable_nul write_question figure is_doubled escape_form unicode_figures form_text form_question line good_record record_line output
-    item_asked bad_block block_call is_leap month_length year_length day_number is_day calendar_day date_of day_question is_ten_bytes is_date day_in date_question bits_in
-    pack_bits packed_question bit_digits bit_literal bad_bits bit_write_question
+unfolding within is_mark is_letter is_decimal in_name starts_tag in_tag digit all_digits lead utf8 more encode is_scalar width is_space doubled one_byte
+    may_escape scalar_by pair low_half uescaped named segment segment_step cut continues encloses argument upper is_unicode unicode_spelling delimiter
+    spelling answer one read sign_length is_minus base_by radix_prefix parsed separated radix_value i64_of digits_by digits_of decimal_of text_of bit_body
+    bits money token_start quote_token temporal_token temporal charset_end uescape_legal escape_valid unicode_valid ident part_shown filled cuts_character
+    bad_span source_text tested string_question decimal_question bits_question temporal_question source_question money_question charset_question
+    i64_question identifier_question spell written_text over_limit unwritable_nul write_question figure is_doubled escape_form unicode_figures form_text
+    form_question line good_record record_line output item_asked bad_block block_call is_leap month_length year_length day_number is_day calendar_day
+    date_of day_question is_ten_bytes is_date day_in date_question bits_in pack_bits packed_question bit_digits bit_literal bad_bits bit_write_question
 packrows_right = tt
 
 pub rows_right : T (all Oracle1.rows) × T (all Oracle2.rows) × T (all Oracle3.rows) × T (all Oracle4.rows) × T (all Oracle5.rows) × T (all Clarified.rows)

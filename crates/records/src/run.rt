@@ -7,8 +7,12 @@ ghost use Rattle.records.specs.Lines.{Lines};
 ghost use Rattle.words.specs.Ending.{asked_of, Ends};
 
 use crate::record::record_line;
-use libc::{STDERR_FILENO, STDIN_FILENO, STDOUT_FILENO};
+use std::io::{Read, Stdin};
 use words::{Asked, asked_by};
+
+const STDOUT_FILENO: i32 = 1;
+
+const STDERR_FILENO: i32 = 2;
 
 // Where the record at a place ends: 64 bytes on, or where the input does.
 fn record_end(input: &[u8], at: usize) -> usize
@@ -47,21 +51,30 @@ struct Filled {
 }
 
 // Reads until the block is full. `io::read_full` does not tell the end of the input from a failure.
-fn fill(input: &mut [u8]) -> Filled
+fn fill(from: &mut Stdin, input: &mut [u8]) -> Filled
     ensures { IsPrefixLen result.bytes input.new }
 {
     let mut done: usize = 0;
     while done < input.len() {
-        let got = libc::read(STDIN_FILENO, &mut input[done..]);
-        let n = io::count(got, &input[done..]);
-        if n == 0 {
-            return Filled {
-                bytes: done,
-                ended: got == 0,
-                failed: got != 0,
-            };
+        match from.read(&mut input[done..]) {
+            Ok(n) => {
+                if n == 0 {
+                    return Filled {
+                        bytes: done,
+                        ended: true,
+                        failed: false,
+                    };
+                }
+                done += n;
+            }
+            Err(_) => {
+                return Filled {
+                    bytes: done,
+                    ended: false,
+                    failed: true,
+                };
+            }
         }
-        done += n;
     }
     Filled {
         bytes: done,
@@ -80,10 +93,10 @@ enum Block {
 }
 
 // Answers a block of records. Of one that is cut off by a failure none is answered: its last record may not be short.
-fn answer_block(input: &mut [u8], output: &mut [u8]) -> Block
+fn answer_block(from: &mut Stdin, input: &mut [u8], output: &mut [u8]) -> Block
     requires { 3 * length input.old + 192 ≤ length output.old }
 {
-    let filled = fill(input);
+    let filled = fill(from, input);
     if filled.failed {
         return Block::Unread;
     }
@@ -100,12 +113,12 @@ fn answer_block(input: &mut [u8], output: &mut [u8]) -> Block
 
 // Every block but the last fills the buffer with 256 whole records, so that the lines of the blocks, one behind the other, are the lines of the whole
 // input (laws: blocks-output). The buffers are made once: to clear them for each block took as long as all else.
-fn answer_input() -> Block {
+fn answer_input(from: &mut Stdin) -> Block {
     let mut input = [0u8; 16384];
     let mut output = io::large_buffer();
     let mut blocks: u64 = 0xFFFF_FFFF_FFFF_FFFF;
     while 0 < blocks {
-        let block = answer_block(&mut input, &mut output);
+        let block = answer_block(from, &mut input, &mut output);
         match block {
             Block::Whole => {}
             Block::Last => return block,
@@ -165,12 +178,13 @@ error says which.
 // The program. Its words are those behind its name, each ended by a 0 byte; its result is the status to end with.
 // Rules out: a wrong word that ends with the records' status; one that ends with that of --help (must-fail: work_for_a_wrong_word, help_for_a_wrong_word).
 #[unsafe(no_mangle)]
-pub extern "C" fn valdrabus_litrec(words: &[u8]) -> u32
+pub extern "C" fn valdrabus_litrec(input: Stdin, words: &[u8]) -> u32
     ensures { Ends 2 (asked_of words.now) result }
 {
+    let mut from = input;
     let what = asked_by(words);
     match what {
-        Asked::Work => status_of(answer_input()),
+        Asked::Work => status_of(answer_input(&mut from)),
         Asked::Help => help(),
         Asked::Other => failed(
             b"litrec: it takes no word but --help\nusage: litrec [--help] <RECORDS\n",

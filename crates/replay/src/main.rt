@@ -14,8 +14,9 @@ mod told;
 ghost use Rattle.std.specs.Prelude.{◌<◌, ◌≤◌, length};
 
 use askings::{Tally, after_row, none};
-use libc::STDIN_FILENO;
 use rows::row_len;
+
+const STDIN_FILENO: i32 = 0;
 
 // Where the row at a place ends: by its head, or where the block does.
 fn row_end(block: &[u8], at: usize) -> usize

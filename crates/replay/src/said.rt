@@ -1,7 +1,8 @@
 // Printing: how an answer differs, and the counts.
 use crate::rows::name_of;
 use crate::told::Told;
-use libc::STDOUT_FILENO;
+
+const STDOUT_FILENO: i32 = 1;
 
 pub(crate) fn say(bytes: &[u8]) {
     io::write_all(STDOUT_FILENO, bytes);

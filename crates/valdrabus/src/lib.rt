@@ -4,7 +4,7 @@
 #![tactic(auto)]
 
 pub mod bare;
-pub mod bits;
+pub mod bit_strings;
 pub mod block;
 mod counted;
 mod dated;

@@ -19,9 +19,9 @@ loop-i-init c = search alike_none
 
 pub returns-then-upper_byte-word : goal.returns-then-upper_byte-word
 returns-then-upper_byte-word c = search (
-      keyword_by,
-      alike_not _ _ _ _ _ c.loop-i.invariant (omega arith) _ c.upper_byte.ensures c.if-upper_byte-word.true,
-    )
+  keyword_by,
+  alike_not _ _ _ _ _ c.loop-i.invariant (omega arith) _ c.upper_byte.ensures c.if-upper_byte-word.true,
+)
 
 pub loop-i-preserved : goal.loop-i-preserved
 loop-i-preserved c = alike_more _ _ _ _ _ c.loop-i.invariant (omega arith) _ c.upper_byte.ensures c.if-upper_byte-word.false

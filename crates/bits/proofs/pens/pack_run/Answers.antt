@@ -34,9 +34,9 @@ overflow_add-at c = let r = c.args.radix in
 
 pub overflow_add-i : goal.overflow_add-i
 overflow_add-i c = omega (
-      arith,
-      going_step c.args.radix c.loop-i.invariant c.requires c.bits_of-bits.result c.bits_of-bits.ensures c.if-missing-whole.true,
-    )
+  arith,
+  going_step c.args.radix c.loop-i.invariant c.requires c.bits_of-bits.result c.bits_of-bits.ensures c.if-missing-whole.true,
+)
 
 pub loop-i-smaller-then-missing-whole : goal.loop-i-smaller-then-missing-whole
 loop-i-smaller-then-missing-whole c = search going_shorter

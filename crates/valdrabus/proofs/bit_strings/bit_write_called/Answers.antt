@@ -1,7 +1,7 @@
--- `valdrabus::bits::bit_write_called` meets its contract, whether the kind is a bit string's or not. Assumes nothing.
+-- `valdrabus::bit_strings::bit_write_called` meets its contract, whether the kind is a bit string's or not. Assumes nothing.
 use Rattle.valdrabus.proofs.Calling.{bit_write_answered, bit_write_unknown}
 use borrow.Author.Rules.{rules}
-use Rattle.valdrabus.proofs.bits.bit_write_called.Goals as goal
+use Rattle.valdrabus.proofs.bit_strings.bit_write_called.Goals as goal
 
 pub returns-then-not-is_bit_kind : goal.returns-then-not-is_bit_kind
 returns-then-not-is_bit_kind c = search bit_write_unknown

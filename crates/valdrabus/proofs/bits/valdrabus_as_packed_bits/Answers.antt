@@ -1,7 +1,0 @@
--- `valdrabus::bits::valdrabus_as_packed_bits` meets its contract. Assumes nothing.
-use Rattle.valdrabus.proofs.Lending.{packs_of}
-use borrow.Author.Rules.{rules}
-use Rattle.valdrabus.proofs.bits.valdrabus_as_packed_bits.Goals as goal
-
-pub returns : goal.returns
-returns c = search packs_of

@@ -1,7 +1,0 @@
--- `valdrabus::bits::valdrabus_write_bit_literal` meets its contract. Assumes nothing.
-use Rattle.valdrabus.proofs.Lending.{lengths_of}
-use borrow.Author.Rules.{rules}
-use Rattle.valdrabus.proofs.bits.valdrabus_write_bit_literal.Goals as goal
-
-pub returns : goal.returns
-returns c = search lengths_of
