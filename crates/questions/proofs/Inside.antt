@@ -1,5 +1,5 @@
--- What each reader borrows lies in its text. Of strings and temporal texts this is Ranges' read-inside and temporal-inside, of bits Segment's bits-inside, of a charset's name
--- AgreedParts' charset-inside. Assumes nothing.
+-- What each reader borrows lies in its text. Of strings and temporal texts this is Ranges' read_inside and temporal_inside, of bits Segment's bits_inside, of a charset's name
+-- AgreedParts' charset_inside. Assumes nothing.
 use mathlib.Core.Path.{◌≡◌, refl}
 use mathlib.Core.Bool.{Bool, true, false, not}
 use mathlib.Core.List.{List, [], ◌∷◌}

@@ -112,7 +112,7 @@ fn answer_block(from: &mut Stdin, input: &mut [u8], output: &mut [u8]) -> Block
 }
 
 // Every block but the last fills the buffer with 256 whole records, so that the lines of the blocks, one behind the other, are the lines of the whole
-// input (laws: blocks-output). The buffers are made once: to clear them for each block took as long as all else.
+// input (laws: blocks_output). The buffers are made once: to clear them for each block took as long as all else.
 fn answer_input(from: &mut Stdin) -> Block {
     let mut input = [0u8; 16384];
     let mut output = io::large_buffer();
