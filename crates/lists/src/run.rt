@@ -19,6 +19,7 @@ use crate::doubled::{Counts, for_rows, report};
 use crate::list::after_list;
 use crate::said::{say, tell};
 use crate::state::State;
+use std::io::Stdin;
 use words::{Asked, asked_by};
 
 // An array of zeros; its length is a parameter, so that nothing is proved of a long list of them.
