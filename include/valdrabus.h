@@ -2,8 +2,7 @@
  * valdrabus: reads the literals of SQL dumps, dates as days and bit strings as packed bytes too, and writes values as literals: plain, E'..' and U&'..', and
  * packed bytes as B'..' and X'..'.
  *
- * Link libvaldrabus.a (made by `tools/archive`, for x86-64, x86-64-v2 and later, or Arm), or what `tools/install` puts beside it. No function allocates, keeps a
- * pointer, or has any state.
+ * Link libvaldrabus.a (made by `tools/archive`, for x86-64 or Arm), or what `tools/install` puts beside it. No function allocates, keeps a pointer, or has any state.
  *
  * WHAT THE CALLER OWES, and no more:
  *   - a pointer with a length is valid for that many bytes, for reading, and for writing where it is not const; with the length 0 it is any pointer, NULL too;
