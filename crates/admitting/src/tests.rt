@@ -4,15 +4,8 @@ ghost use Rattle.meaning.specs.Questions.{cuts_character, bad_span, source_text,
 ghost use Rattle.admitting.specs.Tests.{is_placed, misplaced_of, Tests, Locates};
 
 use leaves::bytes::byte_at;
-use meaning::{Literal, LiteralExpected, Refusal, Span};
+use meaning::{Literal, LiteralExpected, Part, Refusal, Span};
 use utf8::check::is_utf8;
-
-// The text of a literal, from a place of the source up to another; or why there is none.
-#[derive(Clone, Copy)]
-pub enum Tested {
-    Passes { start: usize, end: usize },
-    Barred(Refusal),
-}
 
 // Whether a place cuts a character: it is below the source's length, and its byte is 80 to BF hex.
 fn cuts_character(source: &[u8], at: usize) -> bool
@@ -55,51 +48,61 @@ fn misplaced(literal: Literal) -> Refusal
 
 // The tests 1 to 3: `right` says whether the kind fits the question, which expects `expected`. Whoever reads the text tests 4.
 // Rules out: the kind passed over; another family told (must-fail: located_for_another, located_whatever_its_kind).
-pub fn locate(right: bool, expected: LiteralExpected, literal: Literal, source: &[u8]) -> Tested
+pub fn locate(
+    right: bool,
+    expected: LiteralExpected,
+    literal: Literal,
+    source: &[u8],
+) -> Result<Part, Refusal>
     ensures { Locates literal source.now result (tested right expected literal source.now) }
 {
     if !right {
         let found = literal.kind;
-        return Tested::Barred(Refusal::WrongKind(expected, found));
+        return Err(Refusal::WrongKind(expected, found));
     }
     if !is_placed(literal, source) {
-        return Tested::Barred(misplaced(literal));
+        return Err(misplaced(literal));
     }
     let span = literal.span;
-    Tested::Passes {
+    Ok(Part {
         start: span.start as usize,
         end: span.end as usize,
-    }
+    })
 }
 
 // The tests 2, 3 and 4: the literal stands in a source, its span is one of the source, and its text is UTF-8. Each way out is made where it is known: an answer
 // that is taken apart and put together again goes through memory, which cost 18 ns here.
 // Rules out: the text's end given for its start; a text that is not UTF-8 told as one without a source (must-fail: end_for_start, two_told_as_one).
-pub fn test_source(literal: Literal, source: &[u8]) -> Tested
+pub fn test_source(literal: Literal, source: &[u8]) -> Result<Part, Refusal>
     ensures { Tests literal source.now result (source_text literal source.now) }
 {
     if !is_placed(literal, source) {
-        return Tested::Barred(misplaced(literal));
+        return Err(misplaced(literal));
     }
     let span = literal.span;
     let start = span.start as usize;
     let end = span.end as usize;
     if !is_utf8(&source[start..end]) {
-        return Tested::Barred(Refusal::NotUtf8(span));
+        return Err(Refusal::NotUtf8(span));
     }
-    Tested::Passes { start, end }
+    Ok(Part { start, end })
 }
 
 // The tests 1 to 4: `right` says whether the kind fits the question, which expects `expected`. It is always put in place: where LLVM leaves it a call of its own,
 // as for Arm, a decimal question takes more stack than it may.
 // Rules out: the kind passed over; another family told (must-fail: another_expected, kind_passed_over).
 #[inline(always)]
-pub fn test(right: bool, expected: LiteralExpected, literal: Literal, source: &[u8]) -> Tested
+pub fn test(
+    right: bool,
+    expected: LiteralExpected,
+    literal: Literal,
+    source: &[u8],
+) -> Result<Part, Refusal>
     ensures { Tests literal source.now result (tested right expected literal source.now) }
 {
     if right {
         return test_source(literal, source);
     }
     let kind = literal.kind;
-    Tested::Barred(Refusal::WrongKind(expected, kind))
+    Err(Refusal::WrongKind(expected, kind))
 }

@@ -2,7 +2,7 @@
 use mathlib.Core.Path.{◌≡◌, refl, ap, ap₂, sym, ◌∙◌, subst}
 use mathlib.Core.Bool.{Bool, true, false, ◌&&◌, not}
 use mathlib.Core.List.{List, [], ◌∷◌, ◌++◌}
-use Prim.Native.Nat.{ℕ, suc, ◌+◌, ◌-◌, ◌≤◌, ◌<◌}
+use Prim.Native.Nat.{ℕ, suc, ◌+◌, ◌-◌, ◌≤◌}
 use native.Mathlib.Nat.{zero-add}
 use native.Mathlib.Omega.{arith}
 use lib.Dec.{eqb}
@@ -12,7 +12,7 @@ use borrow.Author.Tests.{not-true, not-false, eqb-true, eq-eqb}
 use Rattle.meaning.specs.declared.Settings.{Settings}
 use Rattle.meaning.specs.Bytes.{part, ascii, has, all_digits}
 use Rattle.std.specs.Prelude.{if◌then◌else◌}
-use Rattle.meaning.specs.Walk.{give, stop, gave, walk, stops}
+use Rattle.meaning.specs.Walk.{give, stop, gave, walk}
 use Rattle.meaning.specs.Cutting.{segment_step, cut}
 use Rattle.meaning.specs.Reading.{borrowed, written, refused, Value, means, fails, onward, both, each, as_written}
 use Rattle.meaning.specs.Kinds.{first_bits, later_bits, borrowed_as, bits_by, bits}
@@ -27,34 +27,30 @@ use Rattle.cutting.specs.declared.cursor.Cursor.{Cursor}
 use Rattle.cutting.specs.declared.cursor.Next.{Next}
 use Rattle.cutting.specs.declared.cursor.Next.TheVariants as Next'
 use Rattle.cutting.proofs.Cursors.{UnitAt, at_end, at_remainder, at_segment}
-use Rattle.bits.specs.declared.later.Later.{Later}
-use Rattle.bits.specs.declared.later.Later.TheVariants as Later'
 use Rattle.bits.specs.declared.finding.Digits.{Digits}
-use Rattle.bits.specs.declared.finding.Digits.TheVariants as Digits'
 use Rattle.bits.specs.Bodies.{later_of, number_in, Measures, bodies, FoundAt, Finds}
 use Rattle.bits.proofs.Bodies.{each_bodies, digits_append, each_digits, own_length, first_by, letter_two}
 use Rattle.bits.proofs.Wholes.{later_means, later_fails}
+use Rattle.std.specs.Prelude.{Result, Ok, Err}
+use Rattle.bits.specs.declared.later.Misfit.{Misfit}
+use Rattle.bits.specs.Bodies.{misfit_at}
+use Rattle.bits.specs.Bodies.{digits_at}
 
 -- nothing stands behind a text's end
 later_none : (σ : Settings) (β i : ℕ) (t : List ℕ) → length t ≤ i → each (later_bits β) (cut σ (drop i t)) ≡ means []
 unfolding cut
 later_none σ β i t h = rw (drop_of_length-le t h)
 
-finds_bad : (σ : Settings) (β : ℕ) (t : List ℕ) (p : ℕ) → bits σ β t ≡ refused p → Finds σ β t (Digits'.Refused p)
+finds_bad : (σ : Settings) (β : ℕ) (t : List ℕ) (p : ℕ) → bits σ β t ≡ refused p → Finds σ β t (Err (misfit_at p))
 finds_bad σ β t p e = record {
-  found = λ f l i n k. let z : ◌≡◌ {A = ℕ} 0 1 = cc in absurd (omega arith);
-  bad = λ q k. cc;
+  found = λ d k. let z : ◌≡◌ {A = ℕ} 0 1 = cc in absurd (omega arith);
+  bad = λ m k. let z : misfit_at p ≡ m = cc in e ∙ ap (λ (x : Misfit). refused x.place) z;
 }
 
-finds_at : (σ : Settings) (β : ℕ) (t : List ℕ) (f l i n : ℕ) → FoundAt σ β t f l i n → Finds σ β t (Digits'.Found f l i n)
+finds_at : (σ : Settings) (β : ℕ) (t : List ℕ) (f l i n : ℕ) → FoundAt σ β t f l i n → Finds σ β t (Ok (digits_at f l i n))
 finds_at σ β t f l i n a = record {
-  found = λ f' l' i' n' k.
-      let ef : f ≡ f' = cc in
-      let el : l ≡ l' = cc in
-      let ei : i ≡ i' = cc in
-      let en : n ≡ n' = cc in
-      rw (← ef, ← el, ← ei, ← en) a;
-  bad = λ q k. let z : ◌≡◌ {A = ℕ} 0 1 = cc in absurd (omega arith);
+  found = λ d k. let z : digits_at f l i n ≡ d = cc in subst (λ (x : Digits). FoundAt σ β t x.from x.last x.at x.later) z a;
+  bad = λ m k. let z : ◌≡◌ {A = ℕ} 0 1 = cc in absurd (omega arith);
 }
 
 -- FOUND, from the text's front
@@ -62,7 +58,7 @@ module _ (σ : Settings) (β : ℕ) (t : List ℕ) (i : ℕ) (z : i ≡ 0) (r : 
   front : r ≡ next_of σ t 0
   front = e ∙ ap (next_of σ t) z
 
-  pub finds_end : r ≡ Next'.End → Finds σ β t (Digits'.Refused 0)
+  pub finds_end : r ≡ Next'.End → Finds σ β t (Err (misfit_at 0))
   unfolding bits cut
   finds_end q = finds_bad σ β t 0 (go t (at_end σ t 0 r front q))
     where
@@ -70,7 +66,7 @@ module _ (σ : Settings) (β : ℕ) (t : List ℕ) (i : ℕ) (z : i ≡ 0) (r : 
       go [] h = refl
       go (b ∷ t) h = absurd (omega arith)
 
-  pub finds_remainder : r ≡ Next'.Remainder → Finds σ β t (Digits'.Refused 0)
+  pub finds_remainder : r ≡ Next'.Remainder → Finds σ β t (Err (misfit_at 0))
   unfolding bits cut
   finds_remainder q =
       let k = at_remainder σ t 0 r front q in
@@ -119,7 +115,7 @@ module _ (σ : Settings) (β : ℕ) (t : List ℕ) (i : ℕ) (z : i ≡ 0) (r : 
           first_by unit β b d eb digits x ex
           ∙ ap₂ (λ (z : Bool) (j : ℕ). if z then means (take (u - 1 - j) (drop j t)) else fails 0) k (zero-add o)
 
-      pub finds_no_bits : not (x && d) ≡ true → Finds σ β t (Digits'.Refused 0)
+      pub finds_no_bits : not (x && d) ≡ true → Finds σ β t (Err (misfit_at 0))
       finds_no_bits n = finds_bad σ β t 0 (go (eqb u (length t)) refl)
         where
           go : (y : Bool) → eqb u (length t) ≡ y → bits σ β t ≡ refused 0
@@ -150,7 +146,7 @@ module _ (σ : Settings) (β : ℕ) (t : List ℕ) (i : ℕ) (z : i ≡ 0) (r : 
             ∙ rw (p, f, eg)
 
         found : (k : ℕ) (w : List ℕ) → each (later_bits β) (cut σ (drop c.at t)) ≡ means w → length w ≡ k → c.at + k ≤ length t
-            → Finds σ β t (Digits'.Found o (u - 1) c.at k)
+            → Finds σ β t (Ok (digits_at o (u - 1) c.at k))
         unfolding cut
         found k w ew l h =
             let g = each_bodies σ β 0 (drop c.at t) w ew in
@@ -170,11 +166,11 @@ module _ (σ : Settings) (β : ℕ) (t : List ℕ) (i : ℕ) (z : i ≡ 0) (r : 
             }
 
         -- there are none
-        pub finds_lone : u ≡ length t → Finds σ β t (Digits'.Found o (u - 1) c.at 0)
+        pub finds_lone : u ≡ length t → Finds σ β t (Ok (digits_at o (u - 1) c.at 0))
         finds_lone e = found 0 [] (later_none σ β c.at t (omega (arith, unit.ends))) refl (omega (arith, unit.inside))
 
         -- as they were measured
-        module _ (a : Later)
+        module _ (a : Result ℕ Misfit)
             (m : Measures (each (later_bits β) (cut σ (take (length t - c.at) (drop c.at t)))) (length (take (length t - c.at) (drop c.at t))) a) where
           told : later_of (each (later_bits β) (cut σ (drop c.at t))) ≡ a
           told = ap (λ (w : List ℕ). later_of (each (later_bits β) (cut σ w))) (sym (part_tail t c.at)) ∙ sym m.answer
@@ -182,33 +178,33 @@ module _ (σ : Settings) (β : ℕ) (t : List ℕ) (i : ℕ) (z : i ≡ 0) (r : 
           number_inside : c.at + number_in a ≤ length t
           number_inside = omega (arith, m.within, length-take (length t - c.at) (drop c.at t), length-drop c.at t, unit.inside)
 
-          pub place_fits : (p : ℕ) → a ≡ Later'.Refused p → c.at + p ≤ length t
-          place_fits p k = omega (arith, number_inside, ap number_in k)
+          pub place_fits : (w : Misfit) → a ≡ Err w → c.at + w.place ≤ length t
+          place_fits w k = omega (arith, number_inside, ap number_in k)
 
-          pub finds_refused : (p : ℕ) → a ≡ Later'.Refused p → Finds σ β t (Digits'.Refused (c.at + p))
-          finds_refused p k = finds_bad σ β t (c.at + p) (go (eqb u (length t)) refl)
+          pub finds_refused : (w : Misfit) → a ≡ Err w → Finds σ β t (Err (misfit_at (c.at + w.place)))
+          finds_refused w k = finds_bad σ β t (c.at + w.place) (go (eqb u (length t)) refl)
             where
-              bad : each (later_bits β) (cut σ (drop c.at t)) ≡ fails p
-              bad = later_fails (each (later_bits β) (cut σ (drop c.at t))) p (told ∙ k)
+              bad : each (later_bits β) (cut σ (drop c.at t)) ≡ fails w.place
+              bad = later_fails (each (later_bits β) (cut σ (drop c.at t))) w (told ∙ k)
 
-              go : (y : Bool) → eqb u (length t) ≡ y → bits σ β t ≡ refused (c.at + p)
-              go true h = absurd (fails≢means p [] (sym bad ∙ later_none σ β c.at t (omega (arith, eqb-true u (length t) h, unit.ends))))
+              go : (y : Bool) → eqb u (length t) ≡ y → bits σ β t ≡ refused (c.at + w.place)
+              go true h = absurd (fails≢means w.place [] (sym bad ∙ later_none σ β c.at t (omega (arith, eqb-true u (length t) h, unit.ends))))
               go false h =
                   bits_by_lem false h (means (take (u - 1 - o) (drop o t))) (first true right)
-                  ∙ ap (λ (w : Value). as_written (both (means (take (u - 1 - o) (drop o t))) (onward c.at w))) bad
+                  ∙ ap (λ (v : Value). as_written (both (means (take (u - 1 - o) (drop o t))) (onward c.at v))) bad
 
-          pub finds_found : (k : ℕ) → a ≡ Later'.Length k → Finds σ β t (Digits'.Found o (u - 1) c.at k)
+          pub finds_found : (k : ℕ) → a ≡ Ok k → Finds σ β t (Ok (digits_at o (u - 1) c.at k))
           finds_found k h =
               let w = later_means (each (later_bits β) (cut σ (drop c.at t))) k (told ∙ h) in
               found k w.0 w.1 w.2 (omega (arith, number_inside, ap number_in h))
 
 -- HOW MANY there are
-module _ {σ : Settings} {β : ℕ} {t : List ℕ} {r : Digits} (a : Finds σ β t r) (f l i n : ℕ) (e : r ≡ Digits'.Found f l i n) where
-  at : FoundAt σ β t f l i n
-  at = a.found f l i n e
+module _ {σ : Settings} {β : ℕ} {t : List ℕ} {r : Result Digits Misfit} (a : Finds σ β t r) (d : Digits) (e : r ≡ Ok d) where
+  at : FoundAt σ β t d.from d.last d.at d.later
+  at = a.found d e
 
-  first_length : length (part f l t) ≡ l - f
-  first_length = length-take (l - f) (drop f t) ∙ omega (arith, length-drop f t, at.body, at.behind, at.inside)
+  first_length : length (part d.from d.last t) ≡ d.last - d.from
+  first_length = length-take (d.last - d.from) (drop d.from t) ∙ omega (arith, length-drop d.from t, at.body, at.behind, at.inside)
 
-  pub digits_length : length (part f l t ++ bodies σ (drop i t)) ≡ l - f + n
-  digits_length = length-append (part f l t) (bodies σ (drop i t)) ∙ omega (arith, first_length, at.count)
+  pub digits_length : length (part d.from d.last t ++ bodies σ (drop d.at t)) ≡ d.last - d.from + d.later
+  digits_length = length-append (part d.from d.last t) (bodies σ (drop d.at t)) ∙ omega (arith, first_length, at.count)

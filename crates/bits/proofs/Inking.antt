@@ -1,26 +1,25 @@
 -- [02 T-07] A pen that packs digits: what a digit, a whole byte and the end of the digits do to it, once over the bits of a digit. Assumes nothing.
 use mathlib.Core.Path.{◌≡◌, refl, ap, sym, ◌∙◌, subst}
-use mathlib.Core.Bool.{Bool, true, false, not}
+use mathlib.Core.Bool.{Bool, true, false}
 use mathlib.Core.List.{List, [], ◌∷◌, ◌++◌}
 use Prim.Native.Nat.{ℕ, zero, suc, ◌+◌, ◌-◌, ◌*◌, ◌/◌, ◌%◌, ◌^◌, ◌≤◌, ◌<◌}
-use native.Mathlib.Nat.{zero-add, add_comm, add-zero, zero-mul, mul-one, mul-suc, mul_comm, mul_assoc, pow-zero, pow-suc, pow-succ', le_trans, mul-le-mul_right}
+use native.Mathlib.Nat.{mod-eq_of_lt, zero-add, add_comm, add-zero, zero-mul, mul-one, mul-suc, mul_comm, mul_assoc, le_trans, mul-le-mul_right}
 use native.Mathlib.Omega.{arith}
-use borrow.Author.Tests.{ltb-true, ltb-false, ne_eqb, eq-eqb}
-use lib.Dec.{eqb, ltb}
+use borrow.Author.Tests.{ne_eqb, eq-eqb}
 use lib.Pow.{pow-add, pow_pos}
-use lib.ListN.{length, get_or, take, drop, set, length-append, length-drop}
-use lib.Seq.{get_or-drop, drop-cons, drop-drop}
+use lib.ListN.{length, get_or, drop, set, length-drop}
+use lib.Seq.{get_or-drop, drop-cons}
 use Rattle.meaning.specs.declared.BitStringRadix.{BitStringRadix}
 use Rattle.meaning.specs.declared.BitStringRadix.TheVariants.{Binary, Hex}
 use Rattle.meaning.specs.Bytes.{within, digit, number}
 use Rattle.std.specs.Prelude.{if◌then◌else◌}
-use Rattle.meaning.specs.Packing.{bits_of_number, spread, gathered, bits_in, radix_bits, packed_length}
+use Rattle.meaning.specs.Packing.{gathered, bits_in, radix_bits}
 use Rattle.laws.proofs.basics.Tests.{within_bounds}
 use Rattle.laws.proofs.basics.Digits.{DigitsTo, number_suc}
-use Rattle.laws.proofs.basics.Laying.{Laid, laid_same, laid_all, laid_inside, laid_byte, laid_rest}
+use Rattle.laws.proofs.basics.Laying.{laid_all, laid_inside, laid_byte, laid_rest}
 use Rattle.laws.proofs.packing.Gathered.{next, gathered_number}
 use Rattle.bits.specs.declared.pens.Pen.{Pen}
-use Rattle.bits.specs.Pens.{Low, DigitsAt, Packing, Packable, Closable}
+use Rattle.bits.specs.Pens.{Low, DigitsAt, Packing, Closable}
 
 -- NUMBERS. A digit more leaves one bit fewer missing for each of its own
 pub low_turn : (k n v d : ℕ) → Low v (k + n) → d < 2 ^ k → Low (v * 2 ^ k + d) n
@@ -263,40 +262,11 @@ module _ {k : ℕ} {whole d out : List ℕ} {p : Pen} {t : List ℕ} (a : Packin
     digits = λ i l. subst (λ (x : ℕ). digit x < 2 ^ k) (sym (get_or-drop (suc m) t i 0)) (a.digits (suc m + i) (omega (arith, length-drop (suc m) t)));
   }
 
--- AT THE END. The missing bits are zero
-pub record Filling (v n f left : ℕ) : Type 0 where
-  pub product : f * 2 ^ left ≡ v * 2 ^ n
-
-module _ {v n f left : ℕ} (a : Filling v n f left) (l : Low v n) where
-  most : v * 2 ^ n < 256
-  most = let s : v * 2 ^ n < suc v * 2 ^ n = omega (arith, pow_pos n) in omega arith
-
-  pub filling_fits : 0 < left → f * 2 < 256
-  filling_fits h = go left refl
-    where
-      go : (j : ℕ) → left ≡ j → f * 2 < 256
-      go zero e = absurd (omega arith)
-      go (suc j) e =
-          let x : f * 2 * 2 ^ j ≡ v * 2 ^ n = mul_assoc f 2 (2 ^ j) ∙ ap (f *◌) (sym (pow-succ' 2 j)) ∙ ap (λ (i : ℕ). f * 2 ^ i) (sym e) ∙ a.product in
-          let y : f * 2 * 1 ≤ f * 2 * 2 ^ j = rw (mul_comm (f * 2) 1, mul_comm (f * 2) (2 ^ j)) (mul-le-mul_right (f * 2) (pow_pos j)) in
-          omega (arith, most, mul-one (f * 2))
-
-pub filling_none : (v n : ℕ) → Filling v n v n
-filling_none v n = record { product = refl }
-
-pub filling_turn : {v n f left : ℕ} → Filling v n f left → 0 < left → Filling v n (f * 2) (left - 1)
-filling_turn {v} {n} {f} {left} a h = go left h a.product
-  where
-    go : (left : ℕ) → 0 < left → f * 2 ^ left ≡ v * 2 ^ n → Filling v n (f * 2) (left - 1)
-    go zero h e = absurd (omega arith)
-    go (suc j) h e =
-        let k : suc j - 1 ≡ j = omega arith in
-        record { product = rw k (mul_assoc f 2 (2 ^ j) ∙ ap (f *◌) (sym (pow-succ' 2 j)) ∙ e) }
-
-pub filling_end : {v n f left : ℕ} → Filling v n f left → left ≤ 0 → f ≡ v * 2 ^ n
-filling_end {v} {n} {f} {left} a h =
-    let e : left ≡ 0 = omega arith in
-    sym (mul-one f) ∙ ap (f *◌) (sym (pow-zero 2)) ∙ ap (λ (j : ℕ). f * 2 ^ j) (sym e) ∙ a.product
+-- AT THE END. The missing bits are zero, and none is pushed out
+pub filled_shift : (v n : ℕ) → Low v n → v * 2 ^ n % 256 ≡ v * 2 ^ n
+filled_shift v n l =
+    let s : v * 2 ^ n < suc v * 2 ^ n = omega (arith, pow_pos n) in
+    let h : v * 2 ^ n < 256 = omega arith in mod-eq_of_lt h
 
 module _ {k : ℕ} {whole d out : List ℕ} {p : Pen} (a : Packing k whole d out p []) where
   -- a byte is at hand

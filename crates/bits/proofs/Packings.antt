@@ -1,23 +1,21 @@
 -- [02 T-07] A text's digits packed, segment by segment, and the whole reading by what was found. Assumes nothing.
 use mathlib.Core.Path.{◌≡◌, refl, ap, sym, ◌∙◌, subst}
 use mathlib.Core.Bool.{Bool, true, false, false≢true}
-use mathlib.Core.List.{List, [], ◌∷◌, ◌++◌, append-nil}
+use mathlib.Core.List.{List, [], ◌++◌, append-nil}
 use Prim.Native.Nat.{ℕ, suc, ◌+◌, ◌-◌, ◌*◌, ◌^◌, ◌≤◌, ◌<◌}
 use native.Mathlib.Omega.{arith}
 use borrow.Author.Tests.{le-leb, lt-leb, eqb-true}
-use lib.Dec.{eqb, leb}
-use lib.ListN.{length, take, drop, length-drop, drop_of_length-le}
+use lib.Dec.{eqb}
+use lib.ListN.{length, take, drop, drop_of_length-le}
 use lib.Seq.{drop-drop}
 use Rattle.meaning.specs.declared.Settings.{Settings}
 use Rattle.meaning.specs.declared.BitStringRadix.{BitStringRadix}
 use Rattle.meaning.specs.Bytes.{part}
-use Rattle.std.specs.Prelude.{if◌then◌else◌}
 use Rattle.meaning.specs.Walk.{give, stop, gave, walk, stops, value}
 use Rattle.meaning.specs.Reading.{Value, value_of, means}
 use Rattle.meaning.specs.Kinds.{bits}
 use Rattle.meaning.specs.Answers.{filled}
 use Rattle.meaning.specs.Packing.{bits_in, pack_bits, radix_bits, packed_length}
-use Rattle.laws.proofs.basics.Digits.{DigitsTo}
 use Rattle.laws.proofs.basics.Lists.{part_tail}
 use Rattle.laws.proofs.basics.Laying.{laid_none, laid_same}
 use Rattle.laws.proofs.packing.Gathered.{length_bits_in, length_pack_bits}
@@ -31,14 +29,17 @@ use Rattle.cutting.specs.declared.cursor.Next.TheVariants as Next'
 use Rattle.cutting.proofs.Cursors.{at_end, at_remainder}
 use Rattle.bits.specs.declared.pens.Pen.{Pen}
 use Rattle.bits.specs.declared.packing.Packed.{Packed}
-use Rattle.bits.specs.declared.packing.Packed.TheVariants as Packed'
 use Rattle.bits.specs.declared.finding.Digits.{Digits}
-use Rattle.bits.specs.declared.finding.Digits.TheVariants as Digits'
 use Rattle.bits.specs.Bodies.{body_by, body_step, bodies, FoundAt, Finds}
-use Rattle.bits.specs.Pens.{Packing, Packable, Closable, BodiesPackable, digits_from, Segmented, PacksInto, packed_of, Packs}
+use Rattle.bits.specs.Pens.{Packing, Packable, Closable, BodiesPackable, digits_from, Segmented, PacksInto, Packs}
 use Rattle.bits.proofs.Turns.{here, body_step_lem}
 use Rattle.bits.proofs.Found.{digits_length}
 use Rattle.bits.proofs.Radix.{radix_whole}
+use Rattle.std.specs.Prelude.{Result, Ok, Err}
+use Rattle.bits.specs.declared.later.Misfit.{Misfit}
+use Rattle.bits.specs.Pens.{packed_in}
+use Rattle.bits.specs.declared.packing.PackingError.{PackingError}
+use Rattle.bits.specs.declared.packing.PackingError.TheVariants as PackingError'
 
 -- SEGMENT BY SEGMENT: the bodies before i are packed
 pub record Inked (k : ℕ) (σ : Settings) (t out₀ : List ℕ) (p₀ : Pen) (out : List ℕ) (p : Pen) (i : ℕ) : Type 0 where
@@ -151,49 +152,49 @@ unfolding filled
 filled_none v d h = rw (lt-leb (length v) (length d) h)
 
 -- THE TEXT, as its digits were found
-module _ (r : BitStringRadix) {σ : Settings} {β : ℕ} {t : List ℕ} {a : Digits} (w : Finds σ β t a) (eβ : β ≡ 2 ^ radix_bits r) where
-  pub packs_refused : (out : List ℕ) (p : ℕ) → a ≡ Digits'.Refused p
-      → Packs (radix_bits r) (value_of t (bits σ (2 ^ radix_bits r) t)) (length t) out Packed'.Refused out
-  packs_refused out p e = rw (← eβ, w.bad p e) record { answer = refl; buffer = refl; within = omega arith }
+module _ (r : BitStringRadix) {σ : Settings} {β : ℕ} {t : List ℕ} {a : Result Digits Misfit} (w : Finds σ β t a) (eβ : β ≡ 2 ^ radix_bits r) where
+  pub packs_refused : (out : List ℕ) (m : Misfit) → a ≡ Err m
+      → Packs (radix_bits r) (value_of t (bits σ (2 ^ radix_bits r) t)) (length t) out (Err PackingError'.Refused) out
+  packs_refused out m e = rw (← eβ, w.bad m e) record { answer = refl; buffer = refl; within = omega arith }
 
-  module _ (f l i n : ℕ) (e : a ≡ Digits'.Found f l i n) where
-    at : FoundAt σ (2 ^ radix_bits r) t f l i n
-    at = rw eβ at (w.found f l i n e)
+  module _ (δ : Digits) (e : a ≡ Ok δ) where
+    at : FoundAt σ (2 ^ radix_bits r) t δ.from δ.last δ.at δ.later
+    at = rw eβ at (w.found δ e)
 
-    means_digits : value_of t (bits σ (2 ^ radix_bits r) t) ≡ means (digits_from σ t f l i)
-    means_digits = go (eqb (l + 1) (length t)) refl
+    means_digits : value_of t (bits σ (2 ^ radix_bits r) t) ≡ means (digits_from σ t δ.from δ.last δ.at)
+    means_digits = go (eqb (δ.last + 1) (length t)) refl
       where
-        go : (x : Bool) → eqb (l + 1) (length t) ≡ x → value_of t (bits σ (2 ^ radix_bits r) t) ≡ means (digits_from σ t f l i)
+        go : (x : Bool) → eqb (δ.last + 1) (length t) ≡ x → value_of t (bits σ (2 ^ radix_bits r) t) ≡ means (digits_from σ t δ.from δ.last δ.at)
         go true k =
-            let none : length t ≤ i = omega (arith, eqb-true (l + 1) (length t) k, at.behind) in
+            let none : length t ≤ δ.at = omega (arith, eqb-true (δ.last + 1) (length t) k, at.behind) in
             ap (value_of t) at.answer ∙ rw k
-            (ap means (sym (append-nil (part f l t)) ∙ ap (λ (x : List ℕ). part f l t ++ bodies σ x) (sym (drop_of_length-le t none))))
+            (ap means (sym (append-nil (part δ.from δ.last t)) ∙ ap (λ (x : List ℕ). part δ.from δ.last t ++ bodies σ x) (sym (drop_of_length-le t none))))
         go false k = ap (value_of t) at.answer ∙ rw k
 
-    pub found_ordered : f ≤ l
+    pub found_ordered : δ.from ≤ δ.last
     found_ordered = at.body
 
-    pub found_fits : l - f + n ≤ length t
+    pub found_fits : δ.last - δ.from + δ.later ≤ length t
     found_fits = at.within
 
     -- how many bytes there are
-    module _ (m : ℕ) (em : m ≡ packed_length (radix_bits r * (l - f + n))) (out : List ℕ) where
-      long : length (packed_all r σ t f l i) ≡ m
+    module _ (m : ℕ) (em : m ≡ packed_length (radix_bits r * (δ.last - δ.from + δ.later))) (out : List ℕ) where
+      long : length (packed_all r σ t δ.from δ.last δ.at) ≡ m
       long =
-          length_pack_bits (bits_in (radix_bits r) (digits_from σ t f l i))
-          ∙ ap packed_length (length_bits_in (radix_bits r) (digits_from σ t f l i) ∙ ap (radix_bits r *◌) (digits_length w f l i n e)) ∙ sym em
+          length_pack_bits (bits_in (radix_bits r) (digits_from σ t δ.from δ.last δ.at))
+          ∙ ap packed_length (length_bits_in (radix_bits r) (digits_from σ t δ.from δ.last δ.at) ∙ ap (radix_bits r *◌) (digits_length w δ e)) ∙ sym em
 
-      pub packs_short : length out < m → Packs (radix_bits r) (value_of t (bits σ (2 ^ radix_bits r) t)) (length t) out (Packed'.NoRoom m) out
+      pub packs_short : length out < m → Packs (radix_bits r) (value_of t (bits σ (2 ^ radix_bits r) t)) (length t) out (Err (PackingError'.NoRoom m)) out
       packs_short h =
           rw means_digits
           record {
             answer = rw (long, lt-leb m (length out) h);
-            buffer = sym (filled_none (packed_all r σ t f l i) out (omega (arith, long)));
+            buffer = sym (filled_none (packed_all r σ t δ.from δ.last δ.at) out (omega (arith, long)));
             within = omega arith;
           }
 
       module _ (h : m ≤ length out) where
-        pub found_segmented : Segmented (radix_bits r) σ t f l i (length out)
+        pub found_segmented : Segmented (radix_bits r) σ t δ.from δ.last δ.at (length out)
         found_segmented = record {
           body = at.body;
           behind = omega (arith, at.behind);
@@ -203,16 +204,16 @@ module _ (r : BitStringRadix) {σ : Settings} {β : ℕ} {t : List ℕ} {a : Dig
           fits = omega (arith, long);
         }
 
-        pub packs_written : (after : List ℕ) → PacksInto (radix_bits r) σ t f l i out after
-            → Packs (radix_bits r) (value_of t (bits σ (2 ^ radix_bits r) t)) (length t) out (Packed'.Written m (l - f + n)) after
+        pub packs_written : (after : List ℕ) → PacksInto (radix_bits r) σ t δ.from δ.last δ.at out after
+            → Packs (radix_bits r) (value_of t (bits σ (2 ^ radix_bits r) t)) (length t) out (Ok (packed_in m (δ.last - δ.from + δ.later))) after
         packs_written after b =
             rw means_digits
             record {
-              answer = rw (long, le-leb m (length out) h, digits_length w f l i n e);
+              answer = rw (long, le-leb m (length out) h, digits_length w δ e);
               buffer = b.buffer;
               within = at.within;
             }
 
 -- the contract determines the answer and the buffer
-pub packs_unique : (k : ℕ) (x : Value) (n : ℕ) (out : List ℕ) (r r' : Packed) (d d' : List ℕ) → Packs k x n out r d → Packs k x n out r' d' → Same r r' d d'
+pub packs_unique : (k : ℕ) (x : Value) (n : ℕ) (out : List ℕ) (r r' : Result Packed PackingError) (d d' : List ℕ) → Packs k x n out r d → Packs k x n out r' d' → Same r r' d d'
 packs_unique k x n out r r' d d' a b = record { answer = a.answer ∙ sym b.answer; buffer = a.buffer ∙ sym b.buffer }

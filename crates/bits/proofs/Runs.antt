@@ -1,9 +1,8 @@
 -- [02 T-07] Where the loop stands that packs a run of digits, whatever digits follow: a turn by a digit, by a whole byte, and the end. Assumes nothing.
 use mathlib.Core.Path.{◌≡◌, refl, ap, sym, ◌∙◌, subst}
-use mathlib.Core.Bool.{Bool, true, false, ◌&&◌}
+use mathlib.Core.Bool.{true, ◌&&◌}
 use mathlib.Core.List.{List, [], ◌∷◌, ◌++◌}
 use Prim.Native.Nat.{ℕ, zero, suc, ◌+◌, ◌-◌, ◌*◌, ◌/◌, ◌^◌, ◌≤◌, ◌<◌}
-use native.Mathlib.Nat.{add-zero}
 use native.Mathlib.Numerals.{add-one}
 use native.Mathlib.Omega.{arith}
 use borrow.Author.Tests.{eqb-true, leb-true}
@@ -14,7 +13,6 @@ use Rattle.meaning.specs.declared.BitStringRadix.{BitStringRadix}
 use Rattle.meaning.specs.Bytes.{digit, number}
 use Rattle.meaning.specs.Packing.{radix_bits}
 use Rattle.laws.proofs.basics.Tests.{and_left, and_right}
-use Rattle.laws.proofs.basics.Digits.{DigitsTo}
 use Rattle.laws.proofs.basics.Laying.{laid_same}
 use Rattle.bits.specs.declared.pens.Pen.{Pen}
 use Rattle.bits.specs.Pens.{DigitsAt, Packing, Packable}

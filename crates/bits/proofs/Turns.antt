@@ -24,9 +24,10 @@ use Rattle.cutting.specs.declared.cursor.Cursor.{Cursor}
 use Rattle.cutting.specs.declared.cursor.Next.{Next}
 use Rattle.cutting.specs.declared.cursor.Next.TheVariants as Next'
 use Rattle.cutting.proofs.Cursors.{UnitAt, at_end, at_remainder, at_segment}
-use Rattle.bits.specs.declared.later.Later.TheVariants.{Length, Refused}
 use Rattle.bits.specs.Bodies.{Measures, body_by, body_step, bodies, BodiesFit}
 use Rattle.bits.proofs.Bodies.{body_steady, own_body, body_length, later_by}
+use Rattle.std.specs.Prelude.{Ok, Err}
+use Rattle.bits.specs.Bodies.{misfit_at}
 
 -- A SEGMENT AT A CURSOR: its bounds
 module _ (σ : Settings) (t : List ℕ) (i : ℕ) (r : Next) (e : r ≡ next_of σ t i) (s o u : ℕ) (c : Cursor) (q : r ≡ Next'.Segment s o u c) where
@@ -69,14 +70,14 @@ later_start σ β t i e =
     (record { so_far = joins.joined_none (later_bits β) (segment_step σ) t; short = omega arith; inside = omega arith })
 
 module _ {σ : Settings} {β : ℕ} {t : List ℕ} {i n : ℕ} (v : LaterAt σ β t i n) (r : Next) (e : r ≡ next_of σ t i) where
-  pub later_end : r ≡ Next'.End → Measures (each (later_bits β) (cut σ t)) (length t) (Length n)
+  pub later_end : r ≡ Next'.End → Measures (each (later_bits β) (cut σ t)) (length t) (Ok n)
   unfolding cut
   later_end q = record {
-    answer = rw (joins.joined_end (later_bits β) v.so_far (at_end σ t i r e q)) (ap Length (sym v.so_far.count));
+    answer = rw (joins.joined_end (later_bits β) v.so_far (at_end σ t i r e q)) (ap (λ (k : ℕ). Ok k) (sym v.so_far.count));
     within = omega (arith, v.short, v.inside);
   }
 
-  pub later_remainder : r ≡ Next'.Remainder → Measures (each (later_bits β) (cut σ t)) (length t) (Refused i)
+  pub later_remainder : r ≡ Next'.Remainder → Measures (each (later_bits β) (cut σ t)) (length t) (Err (misfit_at i))
   unfolding cut
   later_remainder q =
       let k = at_remainder σ t i r e q in
@@ -97,14 +98,14 @@ module _ {σ : Settings} {β : ℕ} {t : List ℕ} {i n : ℕ} (v : LaterAt σ �
           → later_bits β (take (u - s) (drop s t)) ≡ (if x then means (take (u - 1 - (s + o)) (drop (s + o) t)) else fails 0)
       means_by x k = later_by unit β b d eb ed ∙ rw k
 
-      pub later_refused : not (eqb b 39 && d) ≡ true → Measures (each (later_bits β) (cut σ t)) (length t) (Refused s)
+      pub later_refused : not (eqb b 39 && d) ≡ true → Measures (each (later_bits β) (cut σ t)) (length t) (Err (misfit_at s))
       unfolding cut
       later_refused k = record {
         answer =
             rw
             (joins.joined_refused (later_bits β) v.so_far unit.more (take (u - s) (drop s t)) 0 room unit.step
             (means_by false (not-true (eqb b 39 && d) k)))
-            (ap Refused (omega (arith, unit.start)));
+            (let z : s ≡ i + 0 = omega (arith, unit.start) in ap (λ (k : ℕ). Err (misfit_at k)) z);
         within = omega (arith, unit.some, unit.ends, unit.inside);
       }
 

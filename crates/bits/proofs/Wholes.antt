@@ -10,8 +10,10 @@ use lib.ListN.{length, take, drop, get_or, length-append, length-take, length-dr
 use lib.Seq.{drop-drop}
 use borrow.Author.Tests.{not-true, not-false, eq-eqb, ne_eqb, le-leb}
 use Rattle.meaning.specs.declared.Settings.{Settings}
-use Rattle.meaning.specs.declared.Read.{Read}
-use Rattle.meaning.specs.declared.Read.TheVariants as Read'
+use Rattle.meaning.specs.declared.ReadText.{ReadText}
+use Rattle.meaning.specs.declared.ReadRefusal.{ReadRefusal}
+use Rattle.meaning.specs.declared.ReadText.TheVariants as ReadText'
+use Rattle.meaning.specs.declared.ReadRefusal.TheVariants as ReadRefusal'
 use Rattle.meaning.specs.Bytes.{part, ascii, has, all_digits}
 use Rattle.std.specs.Prelude.{if◌then◌else◌}
 use Rattle.meaning.specs.Walk.{give, stop, gave, walk, stops}
@@ -31,26 +33,27 @@ use Rattle.cutting.specs.declared.cursor.Next.{Next}
 use Rattle.cutting.specs.declared.cursor.Next.TheVariants as Next'
 use Rattle.laws.proofs.basics.Lists.{part_tail}
 use Rattle.cutting.proofs.Cursors.{UnitAt, at_end, at_remainder, at_segment}
-use Rattle.bits.specs.declared.later.Later.{Later}
-use Rattle.bits.specs.declared.later.Later.TheVariants as Later'
 use Rattle.bits.specs.Bodies.{later_of, number_in, Measures, bodies, body_step, BodiesFit, joined_bits, Ordered}
 use Rattle.bits.proofs.Bodies.{each_bodies, own_length, first_by, letter_two}
+use Rattle.std.specs.Prelude.{Result, Ok, Err}
+use Rattle.bits.specs.declared.later.Misfit.{Misfit}
+use Rattle.bits.specs.Bodies.{misfit_at}
 
 -- what a measure says of a value
-pub later_means : (x : Value) (n : ℕ) → later_of x ≡ Later'.Length n → (w : List ℕ) × (x ≡ means w) × (length w ≡ n)
+pub later_means : (x : Value) (n : ℕ) → later_of x ≡ Ok n → (w : List ℕ) × (x ≡ means w) × (length w ≡ n)
 later_means (means w) n e = (w, refl, cc)
 later_means (fails p) n e = let z : ◌≡◌ {A = ℕ} 0 1 = cc in absurd (omega arith)
 
-pub later_fails : (x : Value) (p : ℕ) → later_of x ≡ Later'.Refused p → x ≡ fails p
-later_fails (means w) p e = let z : ◌≡◌ {A = ℕ} 0 1 = cc in absurd (omega arith)
-later_fails (fails q) p e = cc
+pub later_fails : (x : Value) (m : Misfit) → later_of x ≡ Err m → x ≡ fails m.place
+later_fails (means w) m e = cc
+later_fails (fails q) m e = let z : misfit_at q ≡ m = cc in ap (λ (x : Misfit). fails x.place) z
 
 filled_all : (v d : List ℕ) → length v ≤ length d → filled v d ≡ v ++ drop (length v) d
 unfolding filled
 filled_all v d h = rw (le-leb (length v) (length d) h)
 
 -- JOINED: the digits from f to l of a text, and those of the segments from i on, which measuring found
-module _ (σ : Settings) (β : ℕ) (t : List ℕ) (f l i : ℕ) (b : Ordered f l i (length t)) (r : Later)
+module _ (σ : Settings) (β : ℕ) (t : List ℕ) (f l i : ℕ) (b : Ordered f l i (length t)) (r : Result ℕ Misfit)
     (m : Measures (each (later_bits β) (cut σ (take (length t - i) (drop i t)))) (length (take (length t - i) (drop i t))) r) where
   -- the definition's answer
   abbrev whole : Answer
@@ -65,18 +68,18 @@ module _ (σ : Settings) (β : ℕ) (t : List ℕ) (f l i : ℕ) (b : Ordered f 
   number_inside : i + number_in r ≤ length t
   number_inside = omega (arith, m.within, length-take (length t - i) (drop i t), length-drop i t, b.inside)
 
-  pub joined_fits : (n : ℕ) → r ≡ Later'.Length n → l - f + n ≤ length t
+  pub joined_fits : (n : ℕ) → r ≡ Ok n → l - f + n ≤ length t
   joined_fits n q = omega (arith, number_inside, ap number_in q, b.behind)
 
-  pub place_fits : (p : ℕ) → r ≡ Later'.Refused p → i + p ≤ length t
-  place_fits p q = omega (arith, number_inside, ap number_in q)
+  pub place_fits : (w : Misfit) → r ≡ Err w → i + w.place ≤ length t
+  place_fits w q = omega (arith, number_inside, ap number_in q)
 
-  pub joined_refused : (out : List ℕ) (p : ℕ) → r ≡ Later'.Refused p → Reads whole out (Read'.Refused (i + p)) out
-  joined_refused out p q =
-      let e = later_fails (each (later_bits β) (cut σ (drop i t))) p (told ∙ q) in
-      reads_refused whole out (i + p) (ap (λ (x : Value). as_written (both (means (part f l t)) (onward i x))) e)
+  pub joined_refused : (out : List ℕ) (w : Misfit) → r ≡ Err w → Reads whole out (Err (ReadRefusal'.At (i + w.place))) out
+  joined_refused out w q =
+      let e = later_fails (each (later_bits β) (cut σ (drop i t))) w (told ∙ q) in
+      reads_refused whole out (i + w.place) (ap (λ (x : Value). as_written (both (means (part f l t)) (onward i x))) e)
 
-  module _ (out : List ℕ) (n : ℕ) (q : r ≡ Later'.Length n) where
+  module _ (out : List ℕ) (n : ℕ) (q : r ≡ Ok n) where
     rest : (w : List ℕ) × (each (later_bits β) (cut σ (drop i t)) ≡ means w) × (length w ≡ n)
     rest = later_means (each (later_bits β) (cut σ (drop i t))) n (told ∙ q)
 
@@ -86,7 +89,7 @@ module _ (σ : Settings) (β : ℕ) (t : List ℕ) (f l i : ℕ) (b : Ordered f 
     whole_length : length (part f l t ++ rest.0) ≡ l - f + n
     whole_length = length-append (part f l t) rest.0 ∙ omega (arith, first_length, rest.2)
 
-    pub joined_short : length out < l - f + n → Reads whole out (Read'.NoRoom (l - f + n)) out
+    pub joined_short : length out < l - f + n → Reads whole out (Err (ReadRefusal'.NoRoom (l - f + n))) out
     joined_short h = reads_short whole (part f l t ++ rest.0) out (l - f + n) whole_written whole_length h
 
     module _ (h : l - f + n ≤ length out) where
@@ -113,7 +116,7 @@ module _ (σ : Settings) (β : ℕ) (t : List ℕ) (f l i : ℕ) (b : Ordered f 
             record { goes = bodies_rest.0; fits = omega (arith, ap length bodies_rest.1, rest.2, same, length-drop (l - f) o) }
 
         pub joined_written : (last : List ℕ) → last ≡ filled (bodies σ (take (length t - i) (drop i t))) (take (length o - (l - f)) (drop (l - f) o))
-            → Reads whole out (Read'.Written (l - f + n)) (take (l - f) o ++ (last ++ drop (length o - (l - f)) (drop (l - f) o)))
+            → Reads whole out (Ok (ReadText'.Written (l - f + n))) (take (l - f) o ++ (last ++ drop (length o - (l - f)) (drop (l - f) o)))
         joined_written last el =
             let w = rest.0 in
             let fits : length w ≤ length (drop (l - f) o) = omega (arith, rest.2, same, length-drop (l - f) o) in
@@ -134,7 +137,7 @@ module _ (σ : Settings) (β : ℕ) (t out : List ℕ) (i : ℕ) (z : i ≡ 0) (
   front : r ≡ next_of σ t 0
   front = e ∙ ap (next_of σ t) z
 
-  pub bits_end : r ≡ Next'.End → Reads (bits σ β t) out (Read'.Refused 0) out
+  pub bits_end : r ≡ Next'.End → Reads (bits σ β t) out (Err (ReadRefusal'.At 0)) out
   unfolding bits cut
   bits_end q = reads_refused (bits σ β t) out 0 (go t (at_end σ t 0 r front q))
     where
@@ -142,7 +145,7 @@ module _ (σ : Settings) (β : ℕ) (t out : List ℕ) (i : ℕ) (z : i ≡ 0) (
       go [] h = refl
       go (b ∷ t) h = absurd (omega arith)
 
-  pub bits_remainder : r ≡ Next'.Remainder → Reads (bits σ β t) out (Read'.Refused 0) out
+  pub bits_remainder : r ≡ Next'.Remainder → Reads (bits σ β t) out (Err (ReadRefusal'.At 0)) out
   unfolding bits cut
   bits_remainder q =
       let k = at_remainder σ t 0 r front q in
@@ -191,7 +194,7 @@ module _ (σ : Settings) (β : ℕ) (t out : List ℕ) (i : ℕ) (z : i ≡ 0) (
           first_by unit β b d eb digits x ex
           ∙ ap₂ (λ (z : Bool) (j : ℕ). if z then means (take (u - 1 - j) (drop j t)) else fails 0) k (zero-add o)
 
-      pub bits_refused : not (x && d) ≡ true → Reads (bits σ β t) out (Read'.Refused 0) out
+      pub bits_refused : not (x && d) ≡ true → Reads (bits σ β t) out (Err (ReadRefusal'.At 0)) out
       bits_refused n = reads_refused (bits σ β t) out 0 (go (eqb u (length t)) refl)
         where
           go : (y : Bool) → eqb u (length t) ≡ y → bits σ β t ≡ refused 0
@@ -202,14 +205,14 @@ module _ (σ : Settings) (β : ℕ) (t out : List ℕ) (i : ℕ) (z : i ≡ 0) (
         right : (x && d) ≡ true
         right = not-false (x && d) n
 
-        pub bits_borrowed : u ≡ length t → Reads (bits σ β t) out (Read'.Borrowed o (u - 1)) out
+        pub bits_borrowed : u ≡ length t → Reads (bits σ β t) out (Ok (ReadText'.Borrowed o (u - 1))) out
         bits_borrowed k =
             let two : o ≡ 2 = letter_two unit β b d eb digits (sym ex ∙ and_left x d right) in
             reads_borrowed (bits σ β t) out o (u - 1)
             (bits_by_lem true (eq-eqb u (length t) k) (means (take (u - 1 - o) (drop o t))) (first true right)
             ∙ ap₂ (λ (i j : ℕ). borrowed i (j - 1)) (sym two) (sym k))
 
-        pub bits_joined : (u ≡ length t → ⊥) → (a : Read) (after : List ℕ)
+        pub bits_joined : (u ≡ length t → ⊥) → (a : Result ReadText ReadRefusal) (after : List ℕ)
             → Reads (joined_bits σ β (part o (u - 1) t) c.at (drop c.at t)) out a after
             → Reads (bits σ β t) out a after
         bits_joined k a after h = rw (bits_by_lem false (ne_eqb u (length t) k) (means (take (u - 1 - o) (drop o t))) (first true right)) h

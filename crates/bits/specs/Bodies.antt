@@ -8,22 +8,23 @@ use Rattle.meaning.specs.Cutting.{opening, segment_step, cut}
 use Rattle.meaning.specs.Reading.{Answer, borrowed, written, refused, Value, means, fails, onward, both, each, as_written}
 use Rattle.meaning.specs.Kinds.{later_bits, bits}
 use Rattle.laws.proofs.basics.Digits.{DigitsTo}
-use Rattle.bits.specs.declared.later.Later.{Later}
-use Rattle.bits.specs.declared.later.Later.TheVariants.{Length, Refused}
 use Rattle.bits.specs.declared.finding.Digits.{Digits}
-use Rattle.bits.specs.declared.finding.Digits.TheVariants.{Found}
-use Rattle.bits.specs.declared.finding.Digits.TheVariants as Digits'
+use Rattle.std.specs.Prelude.{Result, Ok, Err}
+use Rattle.bits.specs.declared.later.Misfit.{Misfit}
 
-abbrev pub later_of : Value → Later
-later_of (means v) = Length (length v)
-later_of (fails p) = Refused p
+abbrev pub misfit_at : ℕ → Misfit
+misfit_at p = record { place = p }
 
-abbrev pub number_in : Later → ℕ
-number_in (Length n) = n
-number_in (Refused p) = p
+abbrev pub later_of : Value → Result ℕ Misfit
+later_of (means v) = Ok (length v)
+later_of (fails p) = Err (misfit_at p)
+
+abbrev pub number_in : Result ℕ Misfit → ℕ
+number_in (Ok n) = n
+number_in (Err m) = m.place
 
 -- the answer, which is no length and no place past a text of n bytes
-pub record Measures (x : Value) (n : ℕ) (r : Later) : Type 0 where
+pub record Measures (x : Value) (n : ℕ) (r : Result ℕ Misfit) : Type 0 where
   pub answer : r ≡ later_of x
   pub within : number_in r ≤ n
 
@@ -65,6 +66,9 @@ pub record FoundAt (σ : Settings) (β : ℕ) (t : List ℕ) (f l i n : ℕ) : T
   pub digits : DigitsTo β (length (part f l t ++ bodies σ (drop i t))) (part f l t ++ bodies σ (drop i t))
   pub answer : bits σ β t ≡ (if eqb (l + 1) (length t) then borrowed f l else written (part f l t ++ bodies σ (drop i t)))
 
-pub record Finds (σ : Settings) (β : ℕ) (t : List ℕ) (r : Digits) : Type 0 where
-  pub found : (f l i n : ℕ) → r ≡ Found f l i n → FoundAt σ β t f l i n
-  pub bad : (p : ℕ) → r ≡ Digits'.Refused p → bits σ β t ≡ refused p
+abbrev pub digits_at : ℕ → ℕ → ℕ → ℕ → Digits
+digits_at f l i n = record { from = f; last = l; at = i; later = n }
+
+pub record Finds (σ : Settings) (β : ℕ) (t : List ℕ) (r : Result Digits Misfit) : Type 0 where
+  pub found : (d : Digits) → r ≡ Ok d → FoundAt σ β t d.from d.last d.at d.later
+  pub bad : (m : Misfit) → r ≡ Err m → bits σ β t ≡ refused m.place

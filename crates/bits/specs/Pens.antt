@@ -1,17 +1,19 @@
 -- [02 T-07] Where a pen stands that packs digits, and what packing a text answers and leaves in the buffer. Assumes nothing.
-use Rattle.std.specs.Prelude.{true, false, ◌≡◌, List, [], ◌++◌, ℕ, suc, ◌+◌, ◌*◌, ◌/◌, ◌^◌, ◌≤◌, length, drop}
+use Rattle.std.specs.Prelude.{false, ◌≡◌, List, [], ◌++◌, ℕ, suc, ◌+◌, ◌*◌, ◌^◌, ◌≤◌, length, drop}
 use Rattle.meaning.specs.declared.Settings.{Settings}
 use Rattle.meaning.specs.Bytes.{part}
 use Rattle.meaning.specs.Walk.{walk, stops}
 use Rattle.meaning.specs.Reading.{Value, means, fails}
 use Rattle.meaning.specs.Answers.{by_room, filled}
-use Rattle.meaning.specs.Packing.{gathered, bits_in, pack_bits, packed_length}
+use Rattle.meaning.specs.Packing.{gathered, bits_in, pack_bits}
 use Rattle.laws.proofs.basics.Digits.{DigitsTo}
 use Rattle.laws.proofs.basics.Laying.{Laid}
 use Rattle.bits.specs.declared.pens.Pen.{Pen}
 use Rattle.bits.specs.declared.packing.Packed.{Packed}
-use Rattle.bits.specs.declared.packing.Packed.TheVariants.{Written, Refused, NoRoom}
 use Rattle.bits.specs.Bodies.{body_step, bodies}
+use Rattle.std.specs.Prelude.{Result, Ok, Err}
+use Rattle.bits.specs.declared.packing.PackingError.{PackingError}
+use Rattle.bits.specs.declared.packing.PackingError.TheVariants as PackingError'
 
 -- a number that n bits more leave in a byte
 abbrev pub Low : ℕ → ℕ → Type 0
@@ -67,21 +69,23 @@ pub record PacksInto (k : ℕ) (σ : Settings) (t : List ℕ) (f l i : ℕ) (out
   pub buffer : after ≡ filled (pack_bits (bits_in k (digits_from σ t f l i))) out
 
 -- THE ANSWER
-abbrev pub packed_of : ℕ → ℕ → Value → Packed
-packed_of k m (means v) = by_room (λ n. Written n (length v)) NoRoom (length (pack_bits (bits_in k v))) m
-packed_of k m (fails p) = Refused
+abbrev pub packed_in : ℕ → ℕ → Packed
+packed_in n d = record { len = n; digits = d }
+
+abbrev pub packed_of : ℕ → ℕ → Value → Result Packed PackingError
+packed_of k m (means v) = by_room (λ n. Ok (packed_in n (length v))) (λ n. Err (PackingError'.NoRoom n)) (length (pack_bits (bits_in k v))) m
+packed_of k m (fails p) = Err PackingError'.Refused
 
 abbrev pub packed_into : ℕ → List ℕ → Value → List ℕ
 packed_into k out (means v) = filled (pack_bits (bits_in k v)) out
 packed_into k out (fails p) = out
 
-abbrev pub digit_count : Packed → ℕ
-digit_count (Written n d) = d
-digit_count Refused = 0
-digit_count (NoRoom n) = 0
+abbrev pub digit_count : Result Packed PackingError → ℕ
+digit_count (Ok p) = p.digits
+digit_count (Err e) = 0
 
 -- what the contract says of a text of n bytes: the answer, every byte of the final buffer, and that no more digits are told than the text has bytes
-pub record Packs (k : ℕ) (x : Value) (n : ℕ) (out : List ℕ) (r : Packed) (after : List ℕ) : Type 0 where
+pub record Packs (k : ℕ) (x : Value) (n : ℕ) (out : List ℕ) (r : Result Packed PackingError) (after : List ℕ) : Type 0 where
   pub answer : r ≡ packed_of k (length out) x
   pub buffer : after ≡ packed_into k out x
   pub within : digit_count r ≤ n

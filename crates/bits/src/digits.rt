@@ -5,6 +5,7 @@ ghost use Rattle.meaning.specs.Bytes.{ascii, has, all_digits};
 use leaves::digits::is_radix_digit;
 
 // B or X, in either case.
+// Stays: no method of u8 tests these four letters; the clause names them so, and | makes no branch of them.
 // Rules out: O taken for X; a letter in one case only (must-fail: later_prefix_accepted, one_left_out).
 pub(crate) fn is_bit_letter(byte: u8) -> bool
     ensures { result ≡ has byte (ascii "BbXx") }
@@ -17,12 +18,5 @@ pub(crate) fn is_bit_letter(byte: u8) -> bool
 pub(crate) fn are_digits(bytes: &[u8], base: u8) -> bool
     ensures { result ≡ all_digits base bytes.now }
 {
-    let mut i: usize = 0;
-    while i < bytes.len() {
-        if !is_radix_digit(bytes[i], base) {
-            return false;
-        }
-        i += 1;
-    }
-    true
+    bytes.iter().all(|byte| is_radix_digit(*byte, base))
 }

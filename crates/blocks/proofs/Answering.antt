@@ -1,4 +1,5 @@
 -- What is told of an item, test by test, is the definition's, and its numbers have 32 bits. Assumes nothing.
+use Rattle.std.specs.Prelude.{Result, Ok, Err}
 use mathlib.Core.Path.{◌≡◌, refl, sym, ap, ◌∙◌, subst}
 use mathlib.Core.Bool.{Bool, true, false, ◌&&◌, not, false≢true}
 use mathlib.Core.List.{List}
@@ -6,14 +7,15 @@ use Prim.Native.Nat.{ℕ, ◌+◌, ◌-◌, ◌≤◌}
 use native.Mathlib.Omega.{arith}
 use lib.Dec.{leb}
 use lib.ListN.{length, drop, length-drop, length-take}
-use mir.Syntax.{w32, w64}
+use mir.Syntax.{w32}
 use mir.Val.{Fits}
 use borrow.Author.Tests.{leb-true, ne_eqb}
 use Rattle.meaning.specs.declared.Item.{Item}
 use Rattle.meaning.specs.declared.Span.{Span}
 use Rattle.meaning.specs.declared.Settings.{Settings}
-use Rattle.meaning.specs.declared.Read.{Read}
-use Rattle.meaning.specs.declared.Read.TheVariants as Read'
+use Rattle.meaning.specs.declared.ReadText.{ReadText}
+use Rattle.meaning.specs.declared.ReadRefusal.{ReadRefusal}
+use Rattle.meaning.specs.declared.ReadText.TheVariants as ReadText'
 use Rattle.meaning.specs.declared.Refusal.TheVariants.{InvalidString}
 use Rattle.meaning.specs.Bytes.{part}
 use Rattle.meaning.specs.Chars.{utf8}
@@ -28,13 +30,12 @@ use Rattle.laws.proofs.walking.Short.{read_length}
 use Rattle.laws.proofs.places.Whole.{read_end}
 use Rattle.laws.proofs.questions.Unreached.{kind_of_code}
 use Rattle.laws.proofs.questions.Ranges.{Bounds, AnswerIn, read_inside, span_range}
-use Rattle.strings.specs.declared.reading.Checked.{Checked}
-use Rattle.strings.specs.declared.reading.Checked.TheVariants as Checked'
+use Rattle.strings.specs.declared.reading.NotUtf8.{NotUtf8 as Undecoded}
 use Rattle.strings.specs.Plain.{is_plain_ascii}
 use Rattle.strings.specs.Driving.{ChecksBy, Checks}
 use Rattle.strings.proofs.Fits.{ascii_checks}
 use Rattle.blocks.specs.declared.items.Told.{Told}
-use Rattle.blocks.specs.Items.{told_of, read_told, InBlockBy, InBlock, Asks}
+use Rattle.blocks.specs.Items.{told_of, read_told, InBlock, Asks}
 
 -- A REFUSAL takes no room and leaves the room as it was
 abbrev refused_asked : ℕ → List ℕ → Asked
@@ -44,7 +45,7 @@ refused_asks : (a : Asked) (n : ℕ) (out : List ℕ) → a ≡ refused_asked n 
 refused_asks a n out e r p = rw (e, p) (record { told = refl; took = refl; room = refl })
 
 -- A READING of the text at place s
-read_asks : (sp : Span) (s used : ℕ) (out after : List ℕ) (a : Answer) (d : Read) → Reads a out d after
+read_asks : (sp : Span) (s used : ℕ) (out after : List ℕ) (a : Answer) (d : Result ReadText ReadRefusal) → Reads a out d after
     → Asks (asked_as used (told_as (InvalidString sp) s out a)) (read_told s used d) after
 read_asks sp s used out after (borrowed f u) d k = rw k.answer (record { told = ap (four 0 1 (s + f)) (omega arith); took = refl; room = k.buffer })
 read_asks sp s used out after (written v) d k = go (leb (length v) (length out)) refl
@@ -55,7 +56,7 @@ read_asks sp s used out after (written v) d k = go (leb (length v) (length out))
 read_asks sp s used out after (refused p) d k = rw k.answer (record { told = refl; took = refl; room = k.buffer })
 
 -- its numbers have 32 bits, since a value is no longer than its text, and a place inside it
-in_block : (s used n : ℕ) (out : List ℕ) (a : Answer) (d : Read) → d ≡ read_of (length out) a → AnswerIn n a
+in_block : (s used n : ℕ) (out : List ℕ) (a : Answer) (d : Result ReadText ReadRefusal) → d ≡ read_of (length out) a → AnswerIn n a
     → ((v : List ℕ) → a ≡ written v → length v + 2 ≤ n) → ((p : ℕ) → a ≡ refused p → p ≤ n) → s + n ≤ 4294967295 → used + length out ≤ 4294967295
     → InBlock s used d
 in_block s used n out (borrowed f u) d k i m o h w = record { by = rw k (i.ordered, omega (arith, i.inside, h)) }
@@ -65,65 +66,6 @@ in_block s used n out (written v) d k i m o h w = go (leb (length v) (length out
     go true e = record { by = rw (k, e) (omega (arith, leb-true (length v) (length out) e, w)) }
     go false e = record { by = rw (k, e) (omega (arith, m v refl, h)) }
 in_block s used n out (refused p) d k i m o h w = record { by = rw k (omega (arith, o p refl, h)) }
-
--- BY ITS CASE
-module _ {s used : ℕ} {q : Read} (i : InBlock s used q) where
-  by : (d : Read) → q ≡ d → InBlockBy s used d
-  by d e = subst (InBlockBy s used) e i.by
-
-  module _ (f u : ℕ) (e : q ≡ Read'.Borrowed f u) where
-    pub ordered : f ≤ u
-    ordered = (by (Read'.Borrowed f u) e).0
-
-    last : s + u ≤ 4294967295
-    last = (by (Read'.Borrowed f u) e).1
-
-    pub start_wide : Fits w64 (s + f)
-    start_wide = record { fits = omega (arith, ordered, last) }
-
-    pub end_wide : Fits w64 (s + u)
-    end_wide = record { fits = omega (arith, last) }
-
-    pub start_fits : s + f ≤ 4294967295
-    start_fits = omega (arith, ordered, last)
-
-    -- so that a text told by its end is refused for what it tells, and not for its width
-    pub end_fits : s + u ≤ 4294967295
-    end_fits = last
-
-    pub len_fits : u - f ≤ 4294967295
-    len_fits = omega (arith, last)
-
-    pub told_borrowed : (r : Told) → r ≡ told_of 0 1 (s + f) (u - f) 0 → r ≡ read_told s used q
-    told_borrowed r h = h ∙ ap (read_told s used) (sym e)
-
-  module _ (n : ℕ) (e : q ≡ Read'.Written n) where
-    pub used_fits : used ≤ 4294967295
-    used_fits = let k = by (Read'.Written n) e in omega (arith, k)
-
-    pub written_fits : n ≤ 4294967295
-    written_fits = let k = by (Read'.Written n) e in omega (arith, k)
-
-    pub told_written : (r : Told) → r ≡ told_of 0 2 used n n → r ≡ read_told s used q
-    told_written r h = h ∙ ap (read_told s used) (sym e)
-
-  module _ (p : ℕ) (e : q ≡ Read'.Refused p) where
-    pub place_fits : p ≤ 4294967295
-    place_fits = let k = by (Read'.Refused p) e in omega (arith, k)
-
-    -- so that a start told for the place is refused for what it tells
-    pub text_fits_too : s ≤ 4294967295
-    text_fits_too = let k = by (Read'.Refused p) e in omega (arith, k)
-
-    pub told_refused : (r : Told) → r ≡ told_of 6 0 p 0 0 → r ≡ read_told s used q
-    told_refused r h = h ∙ ap (read_told s used) (sym e)
-
-  module _ (n : ℕ) (e : q ≡ Read'.NoRoom n) where
-    pub needed_fits : n ≤ 4294967295
-    needed_fits = by (Read'.NoRoom n) e
-
-    pub told_short : (r : Told) → r ≡ told_of 9 0 0 n 0 → r ≡ read_told s used q
-    told_short r h = h ∙ ap (read_told s used) (sym e)
 
 module _ (S : List ℕ) (used : ℕ) (out : List ℕ) (i : Item) where
   abbrev known : Bool
@@ -183,19 +125,19 @@ module _ (S : List ℕ) (used : ℕ) (out : List ℕ) (i : Item) where
           text = part i.start i.end S
 
           -- AS IT IS READ, whatever the setting; what it tells is the item's at the item's own
-          module _ (σ : Settings) (d : Checked) (after : List ℕ) (c : Checks (utf8 text) (read σ text) out d after) where
-            pub undecoded_asks : d ≡ Checked'.NotUtf8 → (r : Told) → r ≡ told_of 4 0 0 0 0 → Asks it r after
+          module _ (σ : Settings) (d : Result (Result ReadText ReadRefusal) Undecoded) (after : List ℕ) (c : Checks (utf8 text) (read σ text) out d after) where
+            pub undecoded_asks : (n : Undecoded) → d ≡ Err n → (r : Told) → r ≡ told_of 4 0 0 0 0 → Asks it r after
             unfolding item_asked string_question tested source_text
-            undecoded_asks o r p =
-                let y = subst (λ (z : Checked). ChecksBy (utf8 text) (read σ text) out z after) o c.by in
+            undecoded_asks n o r p =
+                let y = subst (λ (z : Result (Result ReadText ReadRefusal) Undecoded). ChecksBy (utf8 text) (read σ text) out z after) o c.by in
                 subst (Asks it r) (sym y.1) (refused_asks it 4 out (its y.0) r p)
               where
                 its : utf8 text ≡ false → it ≡ refused_asked 4 out
                 its u = rw (yes, k, sym e ∙ f, u)
 
-            module _ (a : Read) (o : d ≡ Checked'.Text a) where
+            module _ (a : Result ReadText ReadRefusal) (o : d ≡ Ok a) where
               reads : (utf8 text ≡ true) × Reads (read σ text) out a after
-              reads = subst (λ (z : Checked). ChecksBy (utf8 text) (read σ text) out z after) o c.by
+              reads = subst (λ (z : Result (Result ReadText ReadRefusal) Undecoded). ChecksBy (utf8 text) (read σ text) out z after) o c.by
 
               module _ (g : σ ≡ settings_of i.setting) where
                 its : it ≡ asked_as used (told_as (InvalidString (record { start = i.start; end = i.end })) i.start out (read σ text))
@@ -213,11 +155,11 @@ module _ (S : List ℕ) (used : ℕ) (out : List ℕ) (i : Item) where
 
           -- A PLAIN TEXT IN ASCII is its body
           module _ (σ : Settings) (y : Bool) (p : y ≡ is_plain_ascii σ text) (z : y ≡ true) where
-            abbrev body : Read
-            body = Read'.Borrowed 1 (length text - 1)
+            abbrev body : Result ReadText ReadRefusal
+            body = Ok (ReadText'.Borrowed 1 (length text - 1))
 
-            pub plain_fits : used + length out ≤ 4294967295 → Fits w32 i.end → InBlock i.start used (Read'.Borrowed 1 (length text - 1))
-            plain_fits h w = text_fits σ (Checked'.Text body) out (ascii_checks σ text y p z out) body refl h w
+            pub plain_fits : used + length out ≤ 4294967295 → Fits w32 i.end → InBlock i.start used (Ok (ReadText'.Borrowed 1 (length text - 1)))
+            plain_fits h w = text_fits σ (Ok body) out (ascii_checks σ text y p z out) body refl h w
 
-            pub plain_asks : σ ≡ settings_of i.setting → (r : Told) → r ≡ read_told i.start used (Read'.Borrowed 1 (length text - 1)) → Asks it r out
-            plain_asks g r q = text_asks σ (Checked'.Text body) out (ascii_checks σ text y p z out) body refl g r q
+            pub plain_asks : σ ≡ settings_of i.setting → (r : Told) → r ≡ read_told i.start used (Ok (ReadText'.Borrowed 1 (length text - 1))) → Asks it r out
+            plain_asks g r q = text_asks σ (Ok body) out (ascii_checks σ text y p z out) body refl g r q

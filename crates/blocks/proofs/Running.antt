@@ -3,7 +3,7 @@
 use mathlib.Core.Path.{◌≡◌, refl, sym, ap, ◌∙◌, subst}
 use mathlib.Core.Bool.{Bool, true, false}
 use mathlib.Core.List.{List, [], ◌∷◌, ◌++◌}
-use Prim.Native.Nat.{ℕ, ◌+◌, ◌-◌, ◌%◌, ◌^◌, ◌≤◌, ◌<◌}
+use Prim.Native.Nat.{ℕ, ◌+◌, ◌-◌, ◌*◌, ◌/◌, ◌%◌, ◌^◌, ◌≤◌, ◌<◌}
 use native.Mathlib.Omega.{arith}
 use lib.ListN.{length, take, drop, length-drop, take-append-drop}
 use lib.Seq.{drop-append_seam, drop-drop, drop-length, length-take-le}
@@ -89,7 +89,7 @@ module _ {items S answers₀ out₀ answers out : List ℕ} {at used : ℕ} (m :
       omega (arith, ap length room_lent, length-drop used out₀, m.good.limit, running_room, laid_same m.put)
 
   -- ALL IS TOLD
-  pub running_all : length items ≤ at → Blocks (block_call items S answers₀ out₀) 0 answers out
+  running_all : length items ≤ at → Blocks (block_call items S answers₀ out₀) 0 answers out
   unfolding block_call
   running_all h = rw (admitted_good items answers₀ out₀ m.good) (record { result = refl; told = (laid_all m.told (m.tell ∙ none)).1; buffer = bytes })
     where
@@ -112,16 +112,10 @@ module _ {items S answers₀ out₀ answers out : List ℕ} {at used : ℕ} (m :
     running_four : at + 4 ≤ length items
     running_four = omega (arith, m.fours, m.good.fours, h)
 
-    pub running_at : Fits w64 (at + 4)
-    running_at = record { fits = omega (arith, running_four, m.wide) }
-
-    pub running_less : length items - (at + 4) < length items - at
-    running_less = omega (arith, h)
-
-    pub running_item : 4 ≤ length (take (length items - at) (drop at items))
+    running_item : 4 ≤ length (take (length items - at) (drop at items))
     running_item = omega (arith, ap length (part_tail items at), length-drop at items, running_four)
 
-    pub running_lay : 4 ≤ length (take (length answers - at) (drop at answers))
+    running_lay : 4 ≤ length (take (length answers - at) (drop at answers))
     running_lay =
         omega (
           arith,
@@ -176,12 +170,12 @@ module _ {items S answers₀ out₀ answers out : List ℕ} {at used : ℕ} (m :
           (asks.room ∙ fills.bytes ∙ ap (λ (k : ℕ). fills.value ++ drop k (drop used out₀)) (sym fills.size)
           ∙ ap (λ (d : List ℕ). fills.value ++ drop (length fills.value) d) (sym room_lent))
 
-      pub running_used : Fits w64 (used + r.took)
+      running_used : Fits w64 (used + r.took)
       running_used = record {
         fits = omega (arith, put_more.part, block_length S 0 out₀ (items_of items), m.good.limit);
       }
 
-      pub running_more : (front : List ℕ) → front ≡ laid r.four (take (length answers - at) (drop at answers))
+      running_more : (front : List ℕ) → front ≡ laid r.four (take (length answers - at) (drop at answers))
           → Running items S answers₀ out₀ (take at answers ++ (front ++ drop (length answers - at) (drop at answers)))
           (take used out ++ (last ++ drop (length out - used) (drop used out))) (at + 4) (used + r.took)
       running_more front q = record {
@@ -196,3 +190,34 @@ module _ {items S answers₀ out₀ answers out : List ℕ} {at used : ℕ} (m :
         put = put_more;
         left = laid_rest m.put fills.value others.buffer leaves (used + r.took) (ap (used +◌) (asks.took ∙ sym fills.size));
       }
+
+-- THE ITEM AT A PLACE, four numbers each
+module _ {items S answers₀ out₀ answers out : List ℕ} {place used : ℕ} (m : Running items S answers₀ out₀ answers out (4 * place) used) where
+  pub items_all : length items / 4 ≤ place → Blocks (block_call items S answers₀ out₀) 0 answers out
+  items_all h = running_all m (omega (arith, h, m.good.fours))
+
+  module _ (h : place < length items / 4) where
+    inside : 4 * place < length items
+    inside = omega (arith, h)
+
+    pub item_place : Fits w64 (4 * place)
+    item_place = record { fits = omega (arith, inside, m.wide) }
+
+    pub item_stands : 4 ≤ length (take (length items - 4 * place) (drop (4 * place) items))
+    item_stands = running_item m inside
+
+    pub item_lay : 4 ≤ length (take (length answers - 4 * place) (drop (4 * place) answers))
+    item_lay = running_lay m inside
+
+    module _ (i : Item) (ei : i ≡ item_at (take (length items - 4 * place) (drop (4 * place) items))) (r : Told) (last : List ℕ)
+        (a : Asks (item_asked S used (take (length out - used) (drop used out)) i) r last) where
+      pub item_used : Fits w64 (used + r.took)
+      item_used = running_used m inside i ei r last a
+
+      pub item_more : (front : List ℕ) → front ≡ laid r.four (take (length answers - 4 * place) (drop (4 * place) answers))
+          → Running items S answers₀ out₀ (take (4 * place) answers ++ (front ++ drop (length answers - 4 * place) (drop (4 * place) answers)))
+          (take used out ++ (last ++ drop (length out - used) (drop used out))) (4 * (place + 1)) (used + r.took)
+      item_more front q =
+          let e : 4 * place + 4 ≡ 4 * (place + 1) = omega arith in
+          subst (λ (k : ℕ). Running items S answers₀ out₀ (take (4 * place) answers ++ (front ++ drop (length answers - 4 * place) (drop (4 * place) answers)))
+          (take used out ++ (last ++ drop (length out - used) (drop used out))) k (used + r.took)) e (running_more m inside i ei r last a front q)

@@ -24,13 +24,12 @@ pub fn read_block(items: &[u32], source: &[u8], answers: &mut [u32], out: &mut [
     if is_bad_block(items.len(), answers.len(), out.len()) {
         return 15;
     }
-    let mut at: usize = 0;
     let mut used: usize = 0;
-    while at < items.len() {
+    for place in 0..items.len() / 4 {
+        let at = 4 * place;
         let told = read_item(item_at(&items[at..]), source, used, &mut out[used..]);
         lay(told.four, &mut answers[at..]);
         used += told.took;
-        at += 4;
     }
     0
 }

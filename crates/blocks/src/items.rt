@@ -6,9 +6,9 @@ ghost use Rattle.blocks.specs.Items.{told_of, read_told, item_at, laid, InBlock,
 
 use admitting::literals::{is_known, settings_of};
 use admitting::tests::is_bad_span;
-use meaning::{Four, Item, Read, Span};
+use meaning::{Four, Item, ReadRefusal, ReadText, Span};
 use strings::plain::is_plain_ascii;
-use strings::reading::{Checked, read_string};
+use strings::reading::read_string;
 
 // What is told of an item, and how many bytes of the room it takes.
 #[derive(Clone, Copy)]
@@ -43,19 +43,20 @@ fn refused(number: u32) -> Told
 // Rules out: room taken without a text in it, or none by a text; a text told by its end, by its length, or as one of the other slice; a place left out, or
 // told as the text's start or as a length (must-fail: room_taken_by_a_refusal, room_taken_by_a_borrowed_text, nothing_taken, end_for_start,
 // start_by_the_length, start_in_its_room, written_told_as_borrowed, lack_told_as_refused, place_left_out, start_for_place, place_for_length).
-fn read_told(read: Read, start: usize, used: usize) -> Told
+fn read_told(read: Result<ReadText, ReadRefusal>, start: usize, used: usize) -> Told
     requires { InBlock start used read }
     ensures { result ≡ read_told start used read }
 {
     match read {
-        Read::Borrowed { from, until } => tell(0, 1, start + from, until - from, 0),
-        Read::Written { len } => tell(0, 2, used, len, len),
-        Read::Refused { place } => tell(6, 0, place, 0, 0),
-        Read::NoRoom { needed } => tell(9, 0, 0, needed, 0),
+        Ok(ReadText::Borrowed { from, until }) => tell(0, 1, start + from, until - from, 0),
+        Ok(ReadText::Written { len }) => tell(0, 2, used, len, len),
+        Err(ReadRefusal::At { place }) => tell(6, 0, place, 0, 0),
+        Err(ReadRefusal::NoRoom { needed }) => tell(9, 0, 0, needed, 0),
     }
 }
 
 // Reads an item into the room that is left of the buffer, behind `used` bytes of it.
+// Stays: the C interface gives an item's kind as a number, and `item_asked` of specs/Blocks speaks of that.
 // Rules out: kind and setting exchanged; one number for another; another kind read; one setting for all (must-fail: kind_and_setting_exchanged,
 // unknown_told_as_wrong_kind, wrong_kind_told_as_unknown, bad_span_told_as_not_utf8, dates_read, setting_off_for_all).
 pub(crate) fn read_item(item: Item, source: &[u8], used: usize, room: &mut [u8]) -> Told
@@ -82,11 +83,11 @@ pub(crate) fn read_item(item: Item, source: &[u8], used: usize, room: &mut [u8])
     let settings = settings_of(item.setting);
     if is_plain_ascii(text, settings) {
         let until = text.len() - 1;
-        return read_told(Read::Borrowed { from: 1, until }, start, used);
+        return read_told(Ok(ReadText::Borrowed { from: 1, until }), start, used);
     }
     match read_string(text, settings, room) {
-        Checked::Text(read) => read_told(read, start, used),
-        Checked::NotUtf8 => refused(4),
+        Ok(read) => read_told(read, start, used),
+        Err(_) => refused(4),
     }
 }
 

@@ -2,17 +2,17 @@
 use mathlib.Core.Path.{◌≡◌, refl, sym}
 use mathlib.Core.Bool.{Bool, true, false, ◌&&◌, ◌||◌, and-false, false≢true}
 use mathlib.Core.List.{[], ◌∷◌}
-use Prim.Native.Nat.{ℕ, zero, suc, ◌+◌, ◌-◌, ◌*◌, ◌≤◌, ◌<◌}
+use Prim.Native.Nat.{ℕ, zero, suc, ◌≤◌, ◌<◌}
 use native.Mathlib.Omega.{arith}
 use borrow.Author.Tests.{eqb-true, eqb-false, ltb-true, ltb-false}
 use lib.Dec.{eqb, ltb}
-use Rattle.meaning.specs.declared.Day.TheVariants as Day'
 use Rattle.meaning.specs.Bytes.{within, has}
 use Rattle.std.specs.Prelude.{if◌then◌else◌}
 use Rattle.meaning.specs.Dates.{is_leap, length_by, month_length, year_length, before, day_number, is_day, calendar_day}
 use Rattle.laws.proofs.basics.Tests.{within_below, within_above}
 use Rattle.laws.proofs.dates.Calendar.{IsDay, day_is}
 use Rattle.calendar.specs.Falls.{day_of}
+use Rattle.std.specs.Prelude.{Some, None}
 
 -- THE TESTS. Neither 0 nor above: from 1 up to there
 abbrev pub is_out : ℕ → ℕ → Bool
@@ -39,15 +39,15 @@ in_bounds hi b e = go (eqb b 0) (ltb hi b) refl refl e
         some (suc n) k = omega arith
 
 -- NO DAY: by the year, the month, the day
-pub no_year : (y m d : ℕ) → is_out 9999 y ≡ true → Day'.InvalidDate ≡ day_of y m d
+pub no_year : (y m d : ℕ) → is_out 9999 y ≡ true → None ≡ day_of y m d
 unfolding day_of is_day
 no_year y m d e = rw (out_within 9999 y e)
 
-pub no_month : (y m d : ℕ) → is_out 12 m ≡ true → Day'.InvalidDate ≡ day_of y m d
+pub no_month : (y m d : ℕ) → is_out 12 m ≡ true → None ≡ day_of y m d
 unfolding day_of is_day
 no_month y m d e = rw (out_within 12 m e, and-false (within 1 9999 y))
 
-pub no_day_lem : (y m d : ℕ) → within 1 (month_length y m) d ≡ false → Day'.InvalidDate ≡ day_of y m d
+pub no_day_lem : (y m d : ℕ) → within 1 (month_length y m) d ≡ false → None ≡ day_of y m d
 unfolding day_of is_day
 no_day_lem y m d e = rw (e, and-false (within 1 9999 y && within 1 12 m))
 
@@ -75,7 +75,7 @@ length_most leap m = go (eqb m 2) (has m (4 ∷ 6 ∷ 9 ∷ 11 ∷ [])) leap
 
 -- A DAY as the code tests it, with its number
 module _ (y m d : ℕ) where
-  pub no_day_by : (n : ℕ) → n ≡ month_length y m → is_out n d ≡ true → Day'.InvalidDate ≡ day_of y m d
+  pub no_day_by : (n : ℕ) → n ≡ month_length y m → is_out n d ≡ true → None ≡ day_of y m d
   no_day_by n k o = no_day_lem y m d (rw (← k) (out_within n d o))
 
   module _ (i : is_out 9999 y ≡ false) (j : is_out 12 m ≡ false) (n : ℕ) (k : n ≡ month_length y m) (o : is_out n d ≡ false) where
@@ -86,6 +86,6 @@ module _ (y m d : ℕ) where
         let c = in_bounds n d o in
         record { year = a.0; last_year = a.1; month = b.0; last_month = b.1; day = c.0; last_day = rw (← k) c.1 }
 
-    pub day_by : (u : ℕ) → u ≡ day_number y m d → Day'.On (record { year = y; month = m; day = d; number = u }) ≡ day_of y m d
+    pub day_by : (u : ℕ) → u ≡ day_number y m d → Some (record { year = y; month = m; day = d; number = u }) ≡ day_of y m d
     unfolding day_of calendar_day
     day_by u p = rw (day_is is_day_by, p)

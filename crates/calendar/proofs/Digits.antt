@@ -1,15 +1,15 @@
 -- Two decimal digits as the code reads them, and four by twos. Assumes nothing.
-use mathlib.Core.Path.{◌≡◌, refl, sym, ◌∙◌}
-use mathlib.Core.Bool.{Bool, true, false, ◌&&◌, ◌||◌, not, and-false, false≢true}
+use mathlib.Core.Path.{◌≡◌, refl, sym, ap, ◌∙◌}
+use mathlib.Core.Bool.{Bool, true, false, ◌&&◌, ◌||◌, and-false, false≢true}
 use mathlib.Core.List.{[], ◌∷◌}
 use Prim.Native.Nat.{ℕ, suc, ◌+◌, ◌-◌, ◌*◌, ◌≤◌, ◌<◌}
 use native.Mathlib.Omega.{arith}
-use borrow.Author.Tests.{eq-eqb, ne_eqb, lt-ltb, le-ltb, ltb-true, ltb-false}
+use borrow.Author.Tests.{lt-ltb, le-ltb, ltb-true, ltb-false}
 use lib.Dec.{eqb, ltb}
 use mir.Syntax.{w32}
 use mir.Val.{Fits}
 use Rattle.meaning.specs.Bytes.{within, digit, number, all_digits}
-use Rattle.std.specs.Prelude.{if◌then◌else◌}
+use Rattle.std.specs.Prelude.{if◌then◌else◌, Option, Some, None}
 use Rattle.laws.proofs.basics.Tests.{and_left, and_right, within_yes, within_bounds, within_below, within_above}
 use Rattle.calendar.specs.Pairs.{pair_of}
 
@@ -74,11 +74,11 @@ inside b e = go (ltb b 48) (ltb 57 b) refl refl e
     go false false p q h = (ltb-false b 48 p, ltb-false 57 b q)
 
 module _ (a b : ℕ) where
-  pub pair_first : (ltb a 48 || ltb 57 a) ≡ true → 100 ≡ pair_of a b
+  pub pair_first : (ltb a 48 || ltb 57 a) ≡ true → None ≡ pair_of a b
   unfolding pair_of
   pair_first e = rw (outside a e)
 
-  pub pair_second : (ltb b 48 || ltb 57 b) ≡ true → 100 ≡ pair_of a b
+  pub pair_second : (ltb b 48 || ltb 57 b) ≡ true → None ≡ pair_of a b
   unfolding pair_of
   pair_second e = rw (outside b e, and-false (ten a))
 
@@ -86,52 +86,51 @@ module _ (a b : ℕ) where
     pub pair_some : 528 ≤ 10 * a + b
     pair_some = omega (arith, inside a i, inside b j)
 
-    pub pair_is : 10 * a + b - 528 ≡ pair_of a b
+    pub pair_is : Some (10 * a + b - 528) ≡ pair_of a b
     unfolding pair_of
     pair_is =
-        rw (within_yes 48 57 a (inside a i).0 (inside a i).1, within_yes 48 57 b (inside b j).0 (inside b j).1)
-        (omega (arith, inside a i, inside b j))
+        let e : 10 * a + b - 528 ≡ (a - 48) * 10 + (b - 48) = omega (arith, inside a i, inside b j) in
+        rw (within_yes 48 57 a (inside a i).0 (inside a i).1, within_yes 48 57 b (inside b j).0 (inside b j).1) (ap (λ (n : ℕ). Some n) e)
 
-pair_digits : (a b : ℕ) → two a b ≡ true → (a - 48) * 10 + (b - 48) ≡ pair_of a b
+-- what a pair says, and what none does
+pub pair_none : (a b : ℕ) (r : Option ℕ) → r ≡ pair_of a b → r ≡ None → two a b ≡ false
 unfolding pair_of
-pair_digits a b e = rw e
-
-pub pair_none : (a b : ℕ) → two a b ≡ false → 100 ≡ pair_of a b
-unfolding pair_of
-pair_none a b e = rw e
-
-pub pair_number : (a b : ℕ) → two a b ≡ true → pair_of a b ≡ number 10 2 0 (a ∷ b ∷ [])
-pair_number a b e =
-    sym (pair_digits a b e)
-    ∙ rw (digit_value a (and_left (ten a) (ten b) e), digit_value b (and_right (ten a) (ten b) e)) (omega arith)
-
-pub pairs_number : (a b c d : ℕ) → two a b ≡ true → two c d ≡ true → 100 * pair_of a b + pair_of c d ≡ number 10 4 0 (a ∷ b ∷ c ∷ d ∷ [])
-pairs_number a b c d e f = rw (pair_number a b e, pair_number c d f) (omega arith)
-
-pair_below : (a b : ℕ) → two a b ≡ true → pair_of a b < 100
-pair_below a b e =
-    let f = within_bounds 48 57 a (and_left (ten a) (ten b) e) in
-    let g = within_bounds 48 57 b (and_right (ten a) (ten b) e) in
-    omega (arith, pair_digits a b e)
-
--- 100 tells that there is no pair
-pub pair_told : (a b n : ℕ) → n ≡ pair_of a b → eqb n 100 ≡ not (two a b)
-pair_told a b n e = rw e (go (two a b) refl)
+pair_none a b r e q = go (two a b) (sym e ∙ q)
   where
-    go : (x : Bool) → two a b ≡ x → eqb (pair_of a b) 100 ≡ not x
-    go true h = ne_eqb (pair_of a b) 100 (λ z. let o : ⊥ = omega (arith, pair_below a b h) in o)
-    go false h = eq-eqb (pair_of a b) 100 (sym (pair_none a b h))
+    go : (x : Bool) → (if x then Some ((a - 48) * 10 + (b - 48)) else None) ≡ None → x ≡ false
+    go true e = cc
+    go false e = refl
 
-pair_most : (a b : ℕ) → pair_of a b ≤ 100
-pair_most a b = go (two a b) refl
-  where
-    go : (x : Bool) → two a b ≡ x → pair_of a b ≤ 100
-    go true h = omega (arith, pair_below a b h)
-    go false h = omega (arith, pair_none a b h)
+module _ (a b : ℕ) (r : Option ℕ) (e : r ≡ pair_of a b) (n : ℕ) (q : r ≡ Some n) where
+  pub pair_two : two a b ≡ true
+  unfolding pair_of
+  pair_two = go (two a b) (sym e ∙ q)
+    where
+      go : (x : Bool) → (if x then Some ((a - 48) * 10 + (b - 48)) else None) ≡ Some n → x ≡ true
+      go true e = refl
+      go false e = cc
+
+  pair_value : n ≡ (a - 48) * 10 + (b - 48)
+  unfolding pair_of
+  pair_value = let k : Some ((a - 48) * 10 + (b - 48)) ≡ Some n = rw pair_two at (sym e ∙ q) in cc
+
+  pub pair_number : n ≡ number 10 2 0 (a ∷ b ∷ [])
+  pair_number =
+      pair_value ∙ rw (digit_value a (and_left (ten a) (ten b) pair_two), digit_value b (and_right (ten a) (ten b) pair_two)) (omega arith)
+
+  pub pair_below : n < 100
+  pair_below =
+      let f = within_bounds 48 57 a (and_left (ten a) (ten b) pair_two) in
+      let g = within_bounds 48 57 b (and_right (ten a) (ten b) pair_two) in
+      omega (arith, pair_value)
+
+pub pairs_number : (a b c d : ℕ) (r s : Option ℕ) → r ≡ pair_of a b → s ≡ pair_of c d → (n k : ℕ) → r ≡ Some n → s ≡ Some k
+    → 100 * n + k ≡ number 10 4 0 (a ∷ b ∷ c ∷ d ∷ [])
+pairs_number a b c d r s e f n k p q = rw (pair_number a b r e n p, pair_number c d s f k q) (omega arith)
 
 -- a hundred times a pair, and one more
-pub pair_fits : (a b n : ℕ) → n ≡ pair_of a b → Fits w32 (100 * n)
-pair_fits a b n e = record { fits = omega (arith, pair_most a b) }
+pub pair_fits : (a b : ℕ) (r : Option ℕ) → r ≡ pair_of a b → (n : ℕ) → r ≡ Some n → Fits w32 (100 * n)
+pair_fits a b r e n q = record { fits = omega (arith, pair_below a b r e n q) }
 
-pub pairs_fit : (a b c d n k : ℕ) → n ≡ pair_of a b → k ≡ pair_of c d → Fits w32 (100 * n + k)
-pairs_fit a b c d n k e f = record { fits = omega (arith, pair_most a b, pair_most c d) }
+pub pairs_fit : (a b c d : ℕ) (r s : Option ℕ) → r ≡ pair_of a b → s ≡ pair_of c d → (n k : ℕ) → r ≡ Some n → s ≡ Some k → Fits w32 (100 * n + k)
+pairs_fit a b c d r s e f n k p q = record { fits = omega (arith, pair_below a b r e n p, pair_below c d s f k q) }

@@ -5,6 +5,7 @@ use Prim.Native.Nat.{ℕ, zero, suc, ◌+◌, ◌-◌, ◌*◌, ◌/◌, ◌≤�
 use native.Mathlib.Omega.{arith}
 use borrow.Author.Tests.{eqb-true, ne_eqb, lt-ltb, le-ltb, leb-true, leb-false, ltb-true, ltb-false}
 use lib.Dec.{eqb, ltb, leb}
+use mir.Val.{bool_byte}
 use Rattle.std.specs.Prelude.{if◌then◌else◌}
 use Rattle.meaning.specs.Dates.{is_leap, length_by, month_length, before}
 use Rattle.laws.proofs.basics.Tests.{and_left, and_right}
@@ -23,7 +24,7 @@ pub lack_least : (leap : Bool) → 1 ≤ lack leap
 lack_least true = omega arith
 lack_least false = omega arith
 
-one_most : (x : Bool) → (if x then 1 else 0) ≤ 1
+one_most : (x : Bool) → bool_byte x ≤ 1
 one_most true = omega arith
 one_most false = omega arith
 
@@ -40,14 +41,14 @@ module _ (y m : ℕ) where
       go true = refl
       go false = refl
 
-  pub one_off : (x : Bool) (a : ℕ) → a ≡ (if x then 1 else 0) → a ≤ 31
+  pub one_off : (x : Bool) (a : ℕ) → a ≡ bool_byte x → a ≤ 31
   one_off x a e = omega (arith, one_most x)
 
-  pub length_counted : (a : ℕ) → (m ≡ 2 → ⊥) → a ≡ (if eqb m 4 || eqb m 6 || eqb m 9 || eqb m 11 then 1 else 0) → 31 - a ≡ month_length y m
+  pub length_counted : (a : ℕ) → (m ≡ 2 → ⊥) → a ≡ bool_byte (eqb m 4 || eqb m 6 || eqb m 9 || eqb m 11) → 31 - a ≡ month_length y m
   unfolding month_length
   length_counted a n e = rw (ne_eqb m 2 n, e) (go (eqb m 4) (eqb m 6) (eqb m 9) (eqb m 11))
     where
-      go : (x z u v : Bool) → 31 - (if x || z || u || v then 1 else 0) ≡ (if x || (z || (u || (v || false))) then 30 else 31)
+      go : (x z u v : Bool) → 31 - bool_byte (x || z || u || v) ≡ (if x || (z || (u || (v || false))) then 30 else 31)
       go true z u v = refl
       go false true u v = refl
       go false false true v = refl

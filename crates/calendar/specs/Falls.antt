@@ -1,9 +1,9 @@
 -- What the functions between a day and its number answer: into which year and month a day falls. Assumes nothing.
+use Rattle.meaning.specs.declared.CalendarDay.{CalendarDay}
 use Rattle.std.specs.Prelude.{Bool, ◌≡◌, ℕ, ◌+◌, ◌-◌, ◌≤◌, ◌<◌}
-use Rattle.meaning.specs.declared.Day.{Day}
-use Rattle.meaning.specs.declared.Day.TheVariants as Day'
 use Rattle.std.specs.Prelude.{if◌then◌else◌}
 use Rattle.meaning.specs.Dates.{length_by, year_length, before, is_day, calendar_day}
+use Rattle.std.specs.Prelude.{Option, Some, None}
 
 -- what February lacks of 30 days, where it counts
 abbrev pub lack_by : Bool → Bool → ℕ
@@ -24,5 +24,5 @@ pub record InMonth (leap : Bool) (p m : ℕ) : Type 0 where
   pub inside : p < before (length_by leap) (m - 1) + length_by leap m
 
 -- the day of year y, month m and day d, if there is one
-unfoldable pub day_of : ℕ → ℕ → ℕ → Day
-day_of y m d = if is_day y m d then Day'.On (calendar_day y m d) else Day'.InvalidDate
+unfoldable pub day_of : ℕ → ℕ → ℕ → Option CalendarDay
+day_of y m d = if is_day y m d then Some (calendar_day y m d) else None

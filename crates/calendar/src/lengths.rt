@@ -3,8 +3,6 @@ ghost use Rattle.std.specs.Prelude.{◌≡◌, ◌-◌, ◌*◌, ◌≤◌};
 ghost use Rattle.calendar.specs.Falls.{lack_by};
 ghost use Rattle.meaning.specs.Dates.{is_leap, length_by, month_length, year_length, before};
 
-use leaves::blocks::one_if;
-
 // Whether a year is a leap year.
 // Rules out: every fourth year a leap year; 1900 one; 2000 none; the rule of centuries from 1582 on alone (must-fail: leap_day_mistaken, century_leap,
 // four_hundredth_common, every_fourth_before_1582).
@@ -36,8 +34,7 @@ pub(crate) fn month_length(year: u32, month: u32) -> u32
     if month == 2 {
         return 30 - lack(true, is_leap(year));
     }
-    let short = one_if((month == 4) | (month == 6) | (month == 9) | (month == 11));
-    31 - (short as u32)
+    31 - u32::from((month == 4) | (month == 6) | (month == 9) | (month == 11))
 }
 
 // The days of so many years, from the first on.

@@ -6,7 +6,7 @@ ghost use Rattle.laws.proofs.dates.Calendar.{IsDay};
 ghost use Rattle.calendar.specs.Falls.{InYear, InMonth, day_of};
 
 use crate::lengths::{days_before_month, days_of_years, is_leap, lack, month_length};
-use meaning::{CalendarDay, Day};
+use meaning::CalendarDay;
 
 // A year, and how many of its days are past.
 #[derive(Clone, Copy)]
@@ -57,20 +57,21 @@ fn day_number(year: u32, month: u32, day: u32) -> u32
 }
 
 // The day of this year, month and day of the month with its number; refused if there is none.
+// Stays: until they are tested here the three numbers are no day; the answer is the struct of them.
 // Rules out: day 0 taken; year 0000 taken; month 13 taken (must-fail: no_day_taken, year_0000_taken, month_13_taken).
-pub(crate) fn day_of(year: u32, month: u32, day: u32) -> Day
+pub(crate) fn day_of(year: u32, month: u32, day: u32) -> Option<CalendarDay>
     ensures { result ≡ day_of year month day }
 {
     if (year == 0) | (9999 < year) {
-        return Day::InvalidDate;
+        return None;
     }
     if (month == 0) | (12 < month) {
-        return Day::InvalidDate;
+        return None;
     }
     if (day == 0) | (month_length(year, month) < day) {
-        return Day::InvalidDate;
+        return None;
     }
-    Day::On(CalendarDay {
+    Some(CalendarDay {
         year,
         month,
         day,
@@ -81,16 +82,16 @@ pub(crate) fn day_of(year: u32, month: u32, day: u32) -> Day
 // The day that a number stands for. Refused: 0, and numbers past 9999-12-31.
 // Rules out: a number past 9999-12-31 taken; 0 taken; days counted from 0 or from 1970 on; the days of a month counted from 0; the month told for the year
 // (must-fail: end_passed_over, other_taken, counted_from_0, counted_from_1970, one_for_another, month_for_year).
-pub fn date_of_day(number: u32) -> Day
+pub fn date_of_day(number: u32) -> Option<CalendarDay>
     ensures { result ≡ day_question number }
 {
     if (number == 0) | (3652059 < number) {
-        return Day::InvalidDate;
+        return None;
     }
     let at = year_at(number - 1);
     let leap = is_leap(at.year);
     let month = month_at(leap, at.past);
-    Day::On(CalendarDay {
+    Some(CalendarDay {
         year: at.year,
         month,
         day: at.past - days_before_month(leap, month) + 1,

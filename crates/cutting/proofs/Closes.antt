@@ -21,8 +21,8 @@ use Rattle.leaves.specs.Blocks.{free_of}
 use Rattle.leaves.proofs.RunSteps.{KeepsAll, run_kept}
 use Rattle.cutting.specs.declared.marks.Mark.{Mark}
 use Rattle.cutting.specs.declared.marks.Mark.TheVariants.{Quote, DoubleQuote}
-use Rattle.cutting.specs.declared.marks.Closing.TheVariants.{At, Unclosed}
 use Rattle.cutting.specs.Marks.{mark_of, closed_of, stops_by}
+use Rattle.std.specs.Prelude.{Some, None}
 
 next_byte : (l : List ℕ) (at : ℕ) → drop (suc at) l ! 0 ≡ l ! (at + 1)
 next_byte l at = let e : suc at + 0 ≡ at + 1 = omega arith in get_or-drop (suc at) l 0 0 ∙ ap (λ (n : ℕ). l ! n) e
@@ -96,14 +96,14 @@ module _ (h : Bool) (q : ℕ) (l : List ℕ) (at : ℕ) (i : at < length l) wher
 
   -- a way out
   pub out_hidden : SoFar (closing_step h q) l at → (m : Mark) → q ≡ mark_of m → length l - at < 2 → (h && eqb (l ! at) backslash) ≡ true
-      → Unclosed ≡ closed_of (walk (closing_step h (mark_of m)) 0 l)
+      → None ≡ closed_of (walk (closing_step h (mark_of m)) 0 l)
   out_hidden s m e r t = rw (← e, stops_over s 1 [] i (omega arith) (step_hidden t))
 
   pub out_lone : SoFar (closing_step h q) l at → (m : Mark) → q ≡ mark_of m → (h && eqb (l ! at) backslash) ≡ false → l ! at ≡ q
-      → (x : ℕ) → x ≡ l ! (at + 1) → (x ≡ q → ⊥) → At at ≡ closed_of (walk (closing_step h (mark_of m)) 0 l)
+      → (x : ℕ) → x ≡ l ! (at + 1) → (x ≡ q → ⊥) → Some at ≡ closed_of (walk (closing_step h (mark_of m)) 0 l)
   out_lone s m e t a x n b =
       let k = step_lone t a (λ f. b (n ∙ f)) in rw (← e, stops_here s i k, size_here s i k)
 
 pub out_end : (h : Bool) (q : ℕ) (l : List ℕ) (at : ℕ) → SoFar (closing_step h q) l at → (m : Mark) → q ≡ mark_of m → length l ≤ at
-    → Unclosed ≡ closed_of (walk (closing_step h (mark_of m)) 0 l)
+    → None ≡ closed_of (walk (closing_step h (mark_of m)) 0 l)
 out_end h q l at s m e r = rw (← e, stops_end s r)

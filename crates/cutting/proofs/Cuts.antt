@@ -18,29 +18,27 @@ use Rattle.laws.proofs.basics.Lists.{part_tail}
 use Rattle.laws.proofs.walking.Walks.{stops_inside}
 use Rattle.laws.proofs.cutting.Openings.{opening_mark, mark_inside}
 use Rattle.cutting.specs.declared.marks.Mark.{Mark}
-use Rattle.cutting.specs.declared.marks.Closing.{Closing}
-use Rattle.cutting.specs.declared.marks.Closing.TheVariants.{At, Unclosed}
-use Rattle.cutting.specs.declared.segments.Segment.TheVariants.{Found, Nothing}
 use Rattle.cutting.specs.Marks.{mark_of, closed_of}
 use Rattle.cutting.specs.Segments.{segment_of}
+use Rattle.std.specs.Prelude.{Option, Some, None}
 
 -- what a search's answer says of its course
-pub course_at : (r : Trace) (p : ℕ) → closed_of r ≡ At p → (stops r ≡ true) × (size r ≡ p)
+pub course_at : (r : Trace) (p : ℕ) → closed_of r ≡ Some p → (stops r ≡ true) × (size r ≡ p)
 course_at r p e = go (stops r) refl e
   where
-    go : (x : Bool) → stops r ≡ x → (if x then At (size r) else Unclosed) ≡ At p → (stops r ≡ true) × (size r ≡ p)
+    go : (x : Bool) → stops r ≡ x → (if x then Some (size r) else None) ≡ Some p → (stops r ≡ true) × (size r ≡ p)
     go true s f = (s, cc)
     go false s f = let z : ◌≡◌ {A = ℕ} 0 1 = cc in absurd (omega arith)
 
-pub course_unclosed : (r : Trace) → closed_of r ≡ Unclosed → stops r ≡ false
+pub course_unclosed : (r : Trace) → closed_of r ≡ None → stops r ≡ false
 course_unclosed r e = go (stops r) refl e
   where
-    go : (x : Bool) → stops r ≡ x → (if x then At (size r) else Unclosed) ≡ Unclosed → stops r ≡ false
+    go : (x : Bool) → stops r ≡ x → (if x then Some (size r) else None) ≡ None → stops r ≡ false
     go true s f = let z : ◌≡◌ {A = ℕ} 0 1 = cc in absurd (omega arith)
     go false s f = s
 
 -- no opening, no segment
-pub segment_none : (σ : Settings) (l : List ℕ) (o : ℕ) → o ≡ opening l → o ≡ 0 → Nothing ≡ segment_of σ l
+pub segment_none : (σ : Settings) (l : List ℕ) (o : ℕ) → o ≡ opening l → o ≡ 0 → None ≡ segment_of σ l
 unfolding segment_of segment
 segment_none σ l o e z = rw (← e, z)
 
@@ -55,10 +53,6 @@ opened_inside l o e z = mark_inside l (o - 1) (opened_mark l o e z)
 pub opened_fits : (l : List ℕ) (o : ℕ) → o ≡ opening l → (o ≡ 0 → ⊥) → o ≤ length l
 opened_fits l o e z = let i = opened_inside l o e z in omega arith
 
--- what hides a byte, by the setting and the text's first byte
-pub hides_by : (σ : Settings) (l : List ℕ) (b : ℕ) → b ≡ l ! 0 → (σ.backslash || eqb b 69 || eqb b 101) ≡ hides σ l
-hides_by σ l b e = rw e (simp (or_assoc, or-false))
-
 segment_by_lem : (σ : Settings) (l : List ℕ) (o : ℕ) → o ≡ opening l → (o ≡ 0 → ⊥)
     → segment σ l ≡ closed_at o (walk (closing_step (hides σ l) (l ! (o - 1))) 0 (drop o l))
 unfolding segment
@@ -66,12 +60,12 @@ segment_by_lem σ l zero e z = absurd (z refl)
 segment_by_lem σ l (suc n) e z = let k : suc n - 1 ≡ n = omega arith in rw (← e, k)
 
 -- what the search behind the opening answers
-pub record Searched (σ : Settings) (l : List ℕ) (o : ℕ) (r : Closing) : Type 0 where
+pub record Searched (σ : Settings) (l : List ℕ) (o : ℕ) (r : Option ℕ) : Type 0 where
   pub opens : o ≡ opening l
   pub some : o ≡ 0 → ⊥
   pub answers : r ≡ closed_of (walk (closing_step (hides σ l) (l ! (o - 1))) 0 (drop o l))
 
-pub searched : (σ : Settings) (l : List ℕ) (o : ℕ) (r : Closing) → o ≡ opening l → (o ≡ 0 → ⊥) → (m : Mark)
+pub searched : (σ : Settings) (l : List ℕ) (o : ℕ) (r : Option ℕ) → o ≡ opening l → (o ≡ 0 → ⊥) → (m : Mark)
     → (is_mark (l ! (o - 1)) ≡ true → mark_of m ≡ l ! (o - 1))
     → (h : Bool) → h ≡ hides σ l → r ≡ closed_of (walk (closing_step h (mark_of m)) 0 (take (length l - o) (drop o l))) → Searched σ l o r
 searched σ l o r e z m em h eh er = record {
@@ -83,20 +77,20 @@ searched σ l o r e z m em h eh er = record {
       ∙ ap (λ (q : ℕ). closed_of (walk (closing_step (hides σ l) q) 0 (drop o l))) (em (opened_mark l o e z));
 }
 
-module _ {σ : Settings} {l : List ℕ} {o : ℕ} {r : Closing} (s : Searched σ l o r) where
-  pub segment_found : (p : ℕ) → r ≡ At p → Found o (o + p + 1) ≡ segment_of σ l
+module _ {σ : Settings} {l : List ℕ} {o : ℕ} {r : Option ℕ} (s : Searched σ l o r) where
+  pub segment_found : (p : ℕ) → r ≡ Some p → Some (record { opening = o; len = o + p + 1 }) ≡ segment_of σ l
   unfolding segment_of
   segment_found p e =
       let t = course_at (walk (closing_step (hides σ l) (l ! (o - 1))) 0 (drop o l)) p (sym s.answers ∙ e) in
       rw (← s.opens, segment_by_lem σ l o s.opens s.some, t.0, t.1, add-one (o + p))
 
-  pub segment_unclosed : r ≡ Unclosed → Nothing ≡ segment_of σ l
+  pub segment_unclosed : r ≡ None → None ≡ segment_of σ l
   unfolding segment_of
   segment_unclosed e =
       let t = course_unclosed (walk (closing_step (hides σ l) (l ! (o - 1))) 0 (drop o l)) (sym s.answers ∙ e) in
       rw (segment_by_lem σ l o s.opens s.some, t)
 
-  pub found_inside : (p : ℕ) → r ≡ At p → o + p < length l
+  pub found_inside : (p : ℕ) → r ≡ Some p → o + p < length l
   found_inside p e =
       let t = course_at (walk (closing_step (hides σ l) (l ! (o - 1))) 0 (drop o l)) p (sym s.answers ∙ e) in
       let i = stops_inside (closing_step (hides σ l) (l ! (o - 1))) 0 (drop o l) (true→T _ t.0) in

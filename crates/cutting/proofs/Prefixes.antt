@@ -22,35 +22,13 @@ opening_at : (l : List ℕ) → (length l ≡ 0 → ⊥)
 opening_at [] h = absurd (h refl)
 opening_at (b ∷ t) h = refl
 
-pub opening_empty : (l : List ℕ) → length l ≡ 0 → 0 ≡ opening l
-opening_empty [] h = refl
-opening_empty (b ∷ t) h = absurd (omega arith)
-
 -- the ways out, by the tests in their order: a mark; a letter and what follows it; U and what follows it; an underscore; another byte
 module _ (l : List ℕ) (h : length l ≡ 0 → ⊥) (x : Bool) (ex : x ≡ is_mark (l ! 0)) where
-  pub opens_mark : x ≡ true → 1 ≡ opening l
-  opens_mark t = rw (opening_at l h, ← ex, t)
-
   module _ (nx : x ≡ false) (y : Bool) (ey : y ≡ is_letter_prefix (l ! 0)) where
     pub opens_letter : y ≡ true → (b : ℕ) → b ≡ l ! 1 → b ≡ 39 → 2 ≡ opening l
     opens_letter t b eb q = rw (opening_at l h, ← ex, nx, ← ey, t, eq-eqb (l ! 1) 39 (sym eb ∙ q))
-
-    pub opens_letter_not : y ≡ true → (b : ℕ) → b ≡ l ! 1 → (b ≡ 39 → ⊥) → 0 ≡ opening l
-    opens_letter_not t b eb q = rw (opening_at l h, ← ex, nx, ← ey, t, ne_eqb (l ! 1) 39 (λ f. q (eb ∙ f)))
 
     module _ (ny : y ≡ false) where
       opens_unicode_by : (eqb (l ! 0) 85 || eqb (l ! 0) 117) ≡ true → (b d : ℕ) → b ≡ l ! 1 → d ≡ l ! 2
           → opening l ≡ (if eqb b 38 && eqb d 39 then 3 else 0)
       opens_unicode_by t b d eb ed = rw (opening_at l h, ← ex, nx, ← ey, ny, or-false, t, ← eb, ← ed)
-
-      pub opens_unicode : (eqb (l ! 0) 85 || eqb (l ! 0) 117) ≡ true → (b d : ℕ) → b ≡ l ! 1 → d ≡ l ! 2 → (eqb b 38 && eqb d 39) ≡ true → 3 ≡ opening l
-      opens_unicode t b d eb ed q = sym (opens_unicode_by t b d eb ed ∙ rw q)
-
-      pub opens_unicode_not : (eqb (l ! 0) 85 || eqb (l ! 0) 117) ≡ true → (b d : ℕ) → b ≡ l ! 1 → d ≡ l ! 2 → (eqb b 38 && eqb d 39) ≡ false → 0 ≡ opening l
-      opens_unicode_not t b d eb ed q = sym (opens_unicode_by t b d eb ed ∙ rw q)
-
-      pub opens_named : (eqb (l ! 0) 85 || eqb (l ! 0) 117) ≡ false → l ! 0 ≡ 95 → (n : ℕ) → n ≡ named (drop 1 l) → n ≡ opening l
-      opens_named t u n e = e ∙ rw (opening_at l h, ← ex, nx, ← ey, ny, or-false, t, eq-eqb (l ! 0) 95 u)
-
-      pub opens_not : (eqb (l ! 0) 85 || eqb (l ! 0) 117) ≡ false → (l ! 0 ≡ 95 → ⊥) → 0 ≡ opening l
-      opens_not t u = rw (opening_at l h, ← ex, nx, ← ey, ny, or-false, t, ne_eqb (l ! 0) 95 u)

@@ -6,16 +6,15 @@ use Rattle.meaning.specs.Walk.{Trace, size, stops}
 use Rattle.leaves.specs.declared.blocks.Stops.{Stops}
 use Rattle.cutting.specs.declared.marks.Mark.{Mark}
 use Rattle.cutting.specs.declared.marks.Mark.TheVariants.{Quote, DoubleQuote}
-use Rattle.cutting.specs.declared.marks.Closing.{Closing}
-use Rattle.cutting.specs.declared.marks.Closing.TheVariants.{At, Unclosed}
+use Rattle.std.specs.Prelude.{Option, Some, None}
 
 abbrev pub mark_of : Mark → ℕ
 mark_of Quote = quote
 mark_of DoubleQuote = dquote
 
 -- where the walk stops, a mark closes
-abbrev pub closed_of : Trace → Closing
-closed_of r = if stops r then At (size r) else Unclosed
+abbrev pub closed_of : Trace → Option ℕ
+closed_of r = if stops r then Some (size r) else None
 
 -- the mark q, and the backslash where it hides something
 unfoldable pub stops_by : Bool → ℕ → Stops

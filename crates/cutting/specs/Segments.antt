@@ -1,19 +1,18 @@
 -- The first segment, and what stands at a cursor. Assumes nothing.
-use Rattle.std.specs.Prelude.{List, ℕ, zero, suc, ◌+◌, ltb, length, drop}
+use Rattle.std.specs.Prelude.{List, ℕ, zero, suc, ◌+◌, ltb, length, drop, Option, Some, None}
 use Rattle.meaning.specs.declared.Settings.{Settings}
 use Rattle.std.specs.Prelude.{if◌then◌else◌}
 use Rattle.meaning.specs.Steps.{gap}
 use Rattle.meaning.specs.Cutting.{opening, segment}
 use Rattle.cutting.specs.declared.segments.Segment.{Segment}
-use Rattle.cutting.specs.declared.segments.Segment.TheVariants.{Found, Nothing}
 use Rattle.cutting.specs.declared.cursor.Next.{Next}
 use Rattle.cutting.specs.declared.cursor.Next.TheVariants as Next'
 
-abbrev pub found_by : ℕ → ℕ → Segment
-found_by o zero = Nothing
-found_by o (suc n) = Found o (suc n)
+abbrev pub found_by : ℕ → ℕ → Option Segment
+found_by o zero = None
+found_by o (suc n) = Some (record { opening = o; len = suc n })
 
-unfoldable pub segment_of : Settings → List ℕ → Segment
+unfoldable pub segment_of : Settings → List ℕ → Option Segment
 segment_of σ t = found_by (opening t) (segment σ t)
 
 -- at the place i of t: the segment there, and past the white space behind it

@@ -2,7 +2,7 @@
 ghost use Rattle.std.specs.Prelude.{◌≡◌};
 ghost use Rattle.cutting.specs.Segments.{next_of};
 
-use crate::segments::{Segment, first_segment};
+use crate::segments::first_segment;
 use meaning::Settings;
 use spaces::gap_at;
 
@@ -12,6 +12,7 @@ pub struct Cursor {
 }
 
 // What stands at a cursor.
+// Stays: three cases, neither an Option nor a Result; of one within the other, `Ok(None)` would be the end, and would not say so.
 #[derive(Clone, Copy)]
 pub enum Next {
     // a segment from start to end, its body behind `open` bytes and before its last; and the cursor behind the white space that follows
@@ -45,19 +46,17 @@ impl Cursor {
         if text.len() <= at {
             return Next::End;
         }
-        match first_segment(&text[at..], settings) {
-            Segment::Found { open, len } => {
-                let end = at + len;
-                Next::Segment {
-                    start: at,
-                    open,
-                    end,
-                    next: Cursor {
-                        at: end + gap_at(text, end),
-                    },
-                }
-            }
-            Segment::Nothing => Next::Remainder,
+        let Some(segment) = first_segment(&text[at..], settings) else {
+            return Next::Remainder;
+        };
+        let end = at + segment.len;
+        Next::Segment {
+            start: at,
+            open: segment.opening,
+            end,
+            next: Cursor {
+                at: end + gap_at(text, end),
+            },
         }
     }
 }

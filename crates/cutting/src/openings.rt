@@ -8,6 +8,7 @@ use leaves::names::is_mark;
 use leaves::runs::{NameClass, run_len};
 
 // E, N, B or X, in either case.
+// Stays: no method of u8 tests these eight letters; its definition names them so, and | makes no branch of them.
 fn is_letter_prefix(byte: u8) -> bool
     ensures { result ≡ is_letter_prefix byte }
 {
@@ -22,6 +23,7 @@ fn is_letter_prefix(byte: u8) -> bool
 }
 
 // The bytes of a name and a mark behind an introducer's _, with the _; 0 if they do not stand there.
+// Stays: a number, as `named` is in the rules: what stands there is never empty, and in an Option `Some(0)` would mean nothing.
 fn introducer_len(text: &[u8], at: usize) -> usize
     ensures { result ≡ named (drop at text.now) }
 {
@@ -36,6 +38,7 @@ fn introducer_len(text: &[u8], at: usize) -> usize
 }
 
 // The bytes of the opening at a text's front, with its mark; 0 if no segment opens there.
+// Stays: no Option: a public function that could not fail still can't, and `opening` in the rules is a number; no opening is empty.
 // Rules out: a prefix before "; U without & (must-fail: other_mark, another_byte_taken).
 pub fn opening_len(text: &[u8]) -> usize
     ensures { result ≡ opening text.now }

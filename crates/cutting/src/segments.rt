@@ -5,16 +5,16 @@ ghost use Rattle.meaning.specs.Cutting.{hides};
 ghost use Rattle.cutting.specs.Marks.{mark_of};
 ghost use Rattle.cutting.specs.Segments.{segment_of};
 
-use crate::marks::{Closing, Mark, closing_mark};
+use crate::marks::{Mark, closing_mark};
 use crate::openings::opening_len;
 use leaves::bytes::byte_at;
 use meaning::Settings;
 
 // A segment at a text's front: the bytes of its opening with the mark, and all its bytes.
 #[derive(Clone, Copy)]
-pub enum Segment {
-    Found { open: usize, len: usize },
-    Nothing,
+pub struct Segment {
+    pub opening: usize,
+    pub len: usize,
 }
 
 // Whether a backslash hides the byte behind it: in E segments always, in others when the setting is on.
@@ -36,23 +36,21 @@ fn mark_of(byte: u8) -> Mark
     }
 }
 
-// The first segment; its body is what lies behind the opening and before the last byte.
+// The first segment, if there is one; its body is what lies behind the opening and before the last byte.
 // Rules out: the closing mark left out of the length; a segment without its closing mark; a ' closed by "; a byte hidden in N segments; the mark looked
 // for behind the opening (must-fail: mark_left_out, unclosed_is_found).
-pub fn first_segment(text: &[u8], settings: Settings) -> Segment
+pub fn first_segment(text: &[u8], settings: Settings) -> Option<Segment>
     ensures { result ≡ segment_of settings text.now }
 {
     let open = opening_len(text);
     if open == 0 {
-        return Segment::Nothing;
+        return None;
     }
     let mark = mark_of(text[open - 1]);
     let hides = backslash_hides(text, settings);
-    match closing_mark(&text[open..], mark, hides) {
-        Closing::At(p) => Segment::Found {
-            open,
-            len: open + p + 1,
-        },
-        Closing::Unclosed => Segment::Nothing,
-    }
+    let place = closing_mark(&text[open..], mark, hides)?;
+    Some(Segment {
+        opening: open,
+        len: open + place + 1,
+    })
 }

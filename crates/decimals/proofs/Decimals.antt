@@ -2,6 +2,9 @@
 use Rattle.std.proofs.Common.{◌≡◌, ℕ, zero, suc, ◌+◌, ◌-◌, ◌*◌, ◌/◌, ◌%◌, ◌^◌, ◌<◌, ◌≤◌, List, [], ◌∷◌, ◌++◌, length, drop, set, sym, refl, ap, ◌∙◌, subst, append_assoc, append-nil, lt_of_lt_of_le, add-zero, add-suc, mod-eq_of_lt, pow-suc, le-div_iff_mul-le, zero-add, div-one, add-one, arith, lit≤, length-set, w64, Fits}
 use native.Mathlib.Nat.{div-div-eq-div-mul, pow-succ'}
 use lib.Arith.{mod-mul}
+use lib.ListN.{take}
+use lib.Seq.{drop-length, drop_at, drop-drop, length-take-le}
+use borrow.Rule.Slice.PartMut.{mid_of, put_mid, mid_len, same_len_mid}
 use Rattle.meaning.specs.Numbers.{digits_of}
 use Rattle.meaning.specs.Halves.{joined_halves}
 use Rattle.laws.proofs.basics.Halves.{joined_halves_lt, small_or, digits_of_small, digits_of_step, digits_of_more, digits_of_length}
@@ -65,11 +68,11 @@ pub low_only : (h l : ℕ) → h ≡ 0 → joined_halves h l ≡ l
 low_only h l e = rw e (zero-add l)
 
 module _ (h l : ℕ) (n : h ≡ 0 → ⊥) (p : Parted) (q : Parts (joined_halves h l) p) where
-  pub billion_less : joined_halves p.hi p.lo < joined_halves h l
+  pub billion_less : joined_halves p.quotient.hi p.quotient.lo < joined_halves h l
   billion_less = let s = high_great h l n in rw q.quotient (omega arith)
 
-  pub count_nine : {v m : ℕ} → Counting v (joined_halves h l) m → Counting v (joined_halves p.hi p.lo) (m + 9)
-  count_nine c = count_on c 9 (high_great h l n) (joined_halves p.hi p.lo) q.quotient
+  pub count_nine : {v m : ℕ} → Counting v (joined_halves h l) m → Counting v (joined_halves p.quotient.hi p.quotient.lo) (m + 9)
+  count_nine c = count_on c 9 (high_great h l n) (joined_halves p.quotient.hi p.quotient.lo) q.quotient
 
 module _ (h l k : ℕ) {v m : ℕ} (c : Counting v (joined_halves h l) m) (z : h ≡ 0) (e : k ≡ length (digits_of l)) where
   pub count_all : m + k ≡ length (digits_of v)
@@ -111,88 +114,91 @@ all_last n = go n n (omega arith)
     go zero n h = few n (omega arith)
     go (suc f) n h = small_or n (few n) (λ s. more n s (go f (n / 10) (omega arith)))
 
--- THE LOOPS THAT FILL: up to place i, the last digits of cur are still to come before what stands from i on
-pub record Filling (w : List ℕ) (size from i cur : ℕ) (out : List ℕ) : Type 0 where
-  pub after : from ≤ i
-  pub inside : i ≤ length out
+-- THE LOOPS THAT FILL a buffer of so many bytes: up to place i, the last digits of cur are still to come before what stands from i on
+pub record Filling (w : List ℕ) (size i cur : ℕ) (out : List ℕ) : Type 0 where
+  pub inside : i ≤ size
   pub long : length out ≡ size
-  pub same : last_of (i - from) cur ++ drop i out ≡ w
+  pub same : last_of i cur ++ drop i out ≡ w
 
-pub fill_start : (from until v : ℕ) (out : List ℕ) → from ≤ until → until ≤ length out
-    → Filling (last_of (until - from) v ++ drop until out) (length out) from until v out
-fill_start from until v out h k = record { after = h; inside = k; long = refl; same = refl }
+pub fill_start : (v : ℕ) (out : List ℕ) → Filling (last_of (length out) v) (length out) (length out) v out
+fill_start v out = record {
+  inside = omega arith;
+  long = refl;
+  same = ap (last_of (length out) v ++◌) (drop-length out) ∙ append-nil (last_of (length out) v);
+}
 
-module _ {w : List ℕ} {size from i cur : ℕ} {out : List ℕ} (f : Filling w size from i cur out) where
+module _ {w : List ℕ} {size i cur : ℕ} {out : List ℕ} (f : Filling w size i cur out) where
   -- one digit
-  pub fill_on : from < i → (d next : ℕ) → d ≡ 48 + cur % 10 → next ≡ cur / 10 → Filling w size from (i - 1) next (set out (i - 1) d)
+  pub fill_on : 0 < i → (d next : ℕ) → d ≡ 48 + cur % 10 → next ≡ cur / 10 → Filling w size (i - 1) next (set out (i - 1) d)
   fill_on h d next g q =
-      let n : i - from ≡ suc (i - 1 - from) = omega arith in
       let s : suc (i - 1) ≡ i = omega arith in
-      let t : last_of (suc (i - 1 - from)) cur ++ drop (suc (i - 1)) out ≡ w =
-      subst (λ (k : ℕ). last_of k cur ++ drop (suc (i - 1)) out ≡ w) n
-      (subst (λ (k : ℕ). last_of (i - from) cur ++ drop k out ≡ w) (sym s) f.same) in
+      let t : last_of (suc (i - 1)) cur ++ drop (suc (i - 1)) out ≡ w = subst (λ (k : ℕ). last_of k cur ++ drop k out ≡ w) (sym s) f.same in
       record {
-        after = omega arith;
-        inside = rw (length-set out (i - 1) d) (omega (arith, f.inside));
+        inside = omega (arith, f.inside);
         long = length-set out (i - 1) d ∙ f.long;
         same =
-            rw (q, drop_set_here out (i - 1) d (omega (arith, f.inside)), g)
-            (sym (append_assoc (last_of (i - 1 - from) (cur / 10)) ((48 + cur % 10) ∷ []) (drop (suc (i - 1)) out)) ∙ t);
+            rw (q, drop_set_here out (i - 1) d (omega (arith, f.inside, f.long)), g)
+            (sym (append_assoc (last_of (i - 1) (cur / 10)) ((48 + cur % 10) ∷ []) (drop (suc (i - 1)) out)) ∙ t);
       }
 
-  pub fill_end : i ≤ from → drop from out ≡ w
-  fill_end h =
-      let e : i ≡ from = omega (arith, f.after) in
-      let z : i - from ≡ 0 = omega arith in
-      rw (z, e) at f.same
+  pub fill_end : i ≤ 0 → out ≡ w
+  fill_end h = let z : i ≡ 0 = omega arith in rw z at f.same
 
   -- nine digits, by what `fill_low` leaves
   nine : (j cur : ℕ) → last_of (j + 9) cur ≡ last_of j (cur / 1000000000) ++ last_of 9 (cur % 1000000000)
   nine j cur = last_split j 9 cur ∙ ap (last_of j (cur / 1000000000) ++◌) (sym (last_mod 9 cur))
 
-  fill_nine : from + 9 ≤ i → (next rest : ℕ) → next ≡ cur / 1000000000 → rest ≡ cur % 1000000000 → (new : List ℕ) → length new ≡ length out
-      → drop (i - 9) new ≡ last_of (i - (i - 9)) rest ++ drop i out → Filling w size from (i - 9) next new
-  fill_nine h next rest q r new l e =
-      let n : i - from ≡ i - 9 - from + 9 = omega arith in
+  fill_nine : 9 ≤ i → (next rest : ℕ) → next ≡ cur / 1000000000 → rest ≡ cur % 1000000000 → (new : List ℕ)
+      → new ≡ last_of (length (mid_of (i - 9) (i - (i - 9)) out)) rest → length new ≡ length (mid_of (i - 9) (i - (i - 9)) out)
+      → Filling w size (i - 9) next (put_mid (i - 9) (i - (i - 9)) out new)
+  fill_nine h next rest q r new e l =
+      let n : i ≡ i - 9 + 9 = omega arith in
       let m : i - (i - 9) ≡ 9 = omega arith in
-      let t : last_of (i - 9 - from + 9) cur ++ drop i out ≡ w = rw (← n) f.same in
-      let u : drop (i - 9) new ≡ last_of 9 rest ++ drop i out = rw m at e in
+      let k : i - 9 ≤ length out = omega (arith, f.inside, f.long) in
+      let long : length (mid_of (i - 9) (i - (i - 9)) out) ≡ 9 = mid_len (i - 9) i out (omega (arith, f.inside, f.long)) ∙ m in
+      let t : last_of (i - 9 + 9) cur ++ drop i out ≡ w = subst (λ (k : ℕ). last_of k cur ++ drop i out ≡ w) n f.same in
+      let j : i - 9 + (i - (i - 9)) ≡ i = omega arith in
+      let u : drop (i - 9) (put_mid (i - 9) (i - (i - 9)) out new) ≡ last_of 9 rest ++ drop i out =
+      drop_at (take (i - 9) out) (new ++ drop (i - (i - 9)) (drop (i - 9) out)) (i - 9) (length-take-le (i - 9) out k)
+      ∙ ap (new ++◌) (drop-drop (i - (i - 9)) (i - 9) out ∙ ap (λ (k : ℕ). drop k out) j)
+      ∙ ap (◌++ drop i out) (e ∙ ap (λ (k : ℕ). last_of k rest) long) in
       record {
-        after = omega arith;
         inside = omega (arith, f.inside);
-        long = l ∙ f.long;
+        long = same_len_mid (i - 9) (i - (i - 9)) out new l ∙ f.long;
         same =
             rw (u, q, r)
-            (sym (append_assoc (last_of (i - 9 - from) (cur / 1000000000)) (last_of 9 (cur % 1000000000)) (drop i out))
-            ∙ ap (◌++ drop i out) (sym (nine (i - 9 - from) cur)) ∙ t);
+            (sym (append_assoc (last_of (i - 9) (cur / 1000000000)) (last_of 9 (cur % 1000000000)) (drop i out))
+            ∙ ap (◌++ drop i out) (sym (nine (i - 9) cur)) ∙ t);
       }
 
 -- and as many as are left
-pub record Chunking (w : List ℕ) (size from i cur : ℕ) (out : List ℕ) : Type 0 where
-  pub filling : Filling w size from i cur out
-  pub exact : from + length (digits_of cur) ≡ i
+pub record Chunking (w : List ℕ) (size i cur : ℕ) (out : List ℕ) : Type 0 where
+  pub filling : Filling w size i cur out
+  pub exact : length (digits_of cur) ≡ i
 
-pub chunk_start : (from until v : ℕ) (out : List ℕ) → from + length (digits_of v) ≡ until → until ≤ length out
-    → Chunking (digits_of v ++ drop until out) (length out) from until v out
-chunk_start from until v out e h =
-    let n : until - from ≡ length (digits_of v) = omega arith in
-    record {
-      filling = record { after = omega arith; inside = h; long = refl; same = ap (◌++ drop until out) (ap (λ (k : ℕ). last_of k v) n ∙ sym (all_last v)) };
-      exact = e;
-    }
+pub chunk_start : (v : ℕ) (out : List ℕ) → length (digits_of v) ≡ length out → Chunking (digits_of v) (length out) (length out) v out
+chunk_start v out e = record {
+  filling = subst (λ (w : List ℕ). Filling w (length out) (length out) v out) (ap (λ (k : ℕ). last_of k v) (sym e) ∙ sym (all_last v)) (fill_start v out);
+  exact = e;
+}
 
-module _ {w : List ℕ} {size from i : ℕ} (h l : ℕ) {out : List ℕ} (c : Chunking w size from i (joined_halves h l) out) where
+module _ {w : List ℕ} {size i : ℕ} (h l : ℕ) {out : List ℕ} (c : Chunking w size i (joined_halves h l) out) where
   pub chunk_room : (h ≡ 0 → ⊥) → 9 ≤ i
   chunk_room n = let s = size_by 9 (joined_halves h l) (high_great h l n) in omega (arith, c.exact)
 
-  pub chunk_on : (h ≡ 0 → ⊥) → (p : Parted) → Parts (joined_halves h l) p → (new : List ℕ) → length new ≡ length out
-      → drop (i - 9) new ≡ last_of (i - (i - 9)) p.rest ++ drop i out → Chunking w size from (i - 9) (joined_halves p.hi p.lo) new
-  chunk_on n p q new k e =
+  pub chunk_inside : i ≤ length out
+  chunk_inside = omega (arith, c.filling.inside, c.filling.long)
+
+  pub chunk_on : (h ≡ 0 → ⊥) → (p : Parted) → Parts (joined_halves h l) p → (new : List ℕ)
+      → new ≡ last_of (length (mid_of (i - 9) (i - (i - 9)) out)) p.rest → length new ≡ length (mid_of (i - 9) (i - (i - 9)) out)
+      → Chunking w size (i - 9) (joined_halves p.quotient.hi p.quotient.lo) (put_mid (i - 9) (i - (i - 9)) out new)
+  chunk_on n p q new e k =
       let s = size_by 9 (joined_halves h l) (high_great h l n) in
       record {
-        filling = fill_nine c.filling (omega (arith, c.exact)) (joined_halves p.hi p.lo) p.rest q.quotient q.left new k e;
+        filling = fill_nine c.filling (chunk_room n) (joined_halves p.quotient.hi p.quotient.lo) p.rest q.quotient q.left new e k;
         exact = rw q.quotient (omega (arith, c.exact));
       }
 
-  pub chunk_end : h ≡ 0 → (new : List ℕ) → drop from new ≡ last_of (i - from) l ++ drop i out → drop from new ≡ w
-  chunk_end z new e = e ∙ ap (λ (n : ℕ). last_of (i - from) n ++ drop i out) (sym (low_only h l z)) ∙ c.filling.same
+  pub chunk_end : h ≡ 0 → (new : List ℕ) → new ≡ last_of (length (take i out)) l → new ++ drop i out ≡ w
+  chunk_end z new e =
+      ap (◌++ drop i out) (e ∙ ap (λ (k : ℕ). last_of k l) (length-take-le i out chunk_inside) ∙ ap (last_of i) (sym (low_only h l z))) ∙ c.filling.same

@@ -1,6 +1,7 @@
 -- Separators in decimal text: each between two digits, counted, and left out of a copy. Assumes nothing.
 use Rattle.std.proofs.Common.{◌≡◌, ℕ, zero, suc, ◌+◌, ◌-◌, ◌<◌, ◌≤◌, Bool, true, false, ◌&&◌, ◌||◌, eqb, ltb, List, [], ◌∷◌, ◌++◌, length, get_or, drop, set, sym, refl, ap, ◌∙◌, add-zero, zero-add, add-one, sub-one, arith, length-drop, drop_of_length-le, get_or-drop, drop-cons, eq-eqb, ne_eqb}
-use mathlib.Core.Bool.{and-false}
+use mathlib.Core.Bool.{and-false, not}
+use borrow.Author.Tests.{not-true, not-false}
 use lib.ListN.{get_or-eq_default}
 use lib.Seq.{paste, paste-zero, paste-suc, length-paste, take-length}
 use Rattle.meaning.specs.Bytes.{◌!◌, within, digit, has}
@@ -8,7 +9,7 @@ use Rattle.std.specs.Prelude.{if◌then◌else◌}
 use Rattle.meaning.specs.Numbers.{placed, strip}
 use Rattle.laws.proofs.basics.Tests.{eqb_sym}
 use Rattle.decimals.specs.Separating.{is_between, separators_of}
-use Rattle.decimals.specs.declared.separators.Separators.TheVariants.{Count, Misplaced}
+use Rattle.std.specs.Prelude.{Some, None}
 
 -- `is_between`: nothing stands before the first byte, nor behind the last
 zero_none : ltb (digit 0) 10 ≡ false
@@ -68,28 +69,28 @@ module _ {t : List ℕ} {n i : ℕ} (p : Passing t n i) where
     same = rw (before_is t i) (sym (placed_other t i at ((0 ∷ t) ! i) k) ∙ p.same);
   }
 
-  pub pass_apart : i < length t → get_or t i 0 ≡ 95 → (b : Bool) → b ≡ is_between t i → b ≡ true → Passing t (n + 1) (i + 1)
+  pub pass_apart : i < length t → get_or t i 0 ≡ 95 → (b : Bool) → b ≡ is_between t i → not b ≡ false → Passing t (n + 1) (i + 1)
   pass_apart at u b e k = record {
     inside = omega arith;
     few = omega (arith, p.few);
     counted = omega (arith, p.counted, ap length (strip_apart t i at u));
     same =
         rw (before_is t i)
-        (sym (placed_apart t i at u ∙ ap (λ (x : Bool). x && placed 10 (get_or t i 0) (drop (i + 1) t)) (sym e ∙ k)) ∙ p.same);
+        (sym (placed_apart t i at u ∙ ap (λ (x : Bool). x && placed 10 (get_or t i 0) (drop (i + 1) t)) (sym e ∙ not-false b k)) ∙ p.same);
   }
 
-  pub pass_misplaced : i < length t → get_or t i 0 ≡ 95 → (b : Bool) → b ≡ is_between t i → b ≡ false → Misplaced ≡ separators_of t
+  pub pass_misplaced : i < length t → get_or t i 0 ≡ 95 → (b : Bool) → b ≡ is_between t i → not b ≡ true → None ≡ separators_of t
   unfolding separators_of
   pass_misplaced at u b e k =
-      rw (sym p.same ∙ placed_apart t i at u ∙ ap (λ (x : Bool). x && placed 10 (get_or t i 0) (drop (i + 1) t)) (sym e ∙ k))
+      rw (sym p.same ∙ placed_apart t i at u ∙ ap (λ (x : Bool). x && placed 10 (get_or t i 0) (drop (i + 1) t)) (sym e ∙ not-true b k))
 
-  pub pass_end : length t ≤ i → Count n ≡ separators_of t
+  pub pass_end : length t ≤ i → Some n ≡ separators_of t
   unfolding separators_of
   pass_end h =
       let d = drop_of_length-le t h in
       let s : placed 10 0 t ≡ true = sym p.same ∙ ap (placed 10 ((0 ∷ t) ! i)) d in
       let c : n ≡ length t - length (strip t) = omega (arith, p.counted, p.inside, ap (λ (l : List ℕ). length (strip l)) d) in
-      rw s (ap Count c)
+      rw s (ap (λ (k : ℕ). Some k) c)
 
 -- THE COPY
 pub record Skipping (t old out : List ℕ) (i j : ℕ) : Type 0 where

@@ -5,7 +5,7 @@ use Rattle.decimals.specs.declared.printing.Parted.{Parted}
 
 -- a billionth of n, and what is left
 pub record Parts (n : ℕ) (p : Parted) : Type 0 where
-  pub quotient : joined_halves p.hi p.lo ≡ n / 1000000000
+  pub quotient : joined_halves p.quotient.hi p.quotient.lo ≡ n / 1000000000
   pub left : p.rest ≡ n % 1000000000
 
 -- the last k digits of n, with zeros in front where it has fewer

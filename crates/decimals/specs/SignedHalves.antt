@@ -4,12 +4,13 @@ use Rattle.std.specs.Prelude.{if◌then◌else◌}
 use Rattle.meaning.specs.Numbers.{Parsed, none, int}
 use Rattle.meaning.specs.Halves.{bits_of, negated_low, negated_high}
 use Rattle.numbers.specs.declared.radix.Halves.{Halves}
-use Rattle.numbers.specs.declared.radix.Halves.TheVariants as H
 use Rattle.numbers.specs.Values.{halves_by}
+use Rattle.std.specs.Prelude.{Option, Some, None}
+use Rattle.numbers.specs.Values.{in_halves}
 
-abbrev pub halves_of : Parsed → Halves
-halves_of none = H.Refused
-halves_of (int z) = halves_by (bits_of z)
+abbrev pub halves_of : Parsed → Option Halves
+halves_of none = None
+halves_of (int z) = Some (halves_by (bits_of z))
 
-unfoldable pub negated_halves : ℕ → ℕ → Halves
-negated_halves hi lo = if hi == 2 ^ 63 && lo == 0 then H.Refused else H.Value (negated_high hi lo) (negated_low lo)
+unfoldable pub negated_halves : ℕ → ℕ → Option Halves
+negated_halves hi lo = if hi == 2 ^ 63 && lo == 0 then None else Some (in_halves (negated_high hi lo) (negated_low lo))

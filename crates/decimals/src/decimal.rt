@@ -7,42 +7,46 @@ ghost use Rattle.decimals.specs.Separating.{plain_of};
 
 use crate::halves::read_radix_halves;
 use crate::printing::print_halves;
-use crate::separators::{Separators, copy_without, count_separators};
-use meaning::Read;
+use crate::separators::{copy_without, count_separators};
+use meaning::{ReadRefusal, ReadText};
 use numbers::prefix::{split_radix_prefix, split_sign};
-use numbers::radix::Halves;
 
 // Decimal text in base ten: the text less `_`, borrowed if it has none. Refused at place 0: a misplaced `_`. Refused, borrowed and without room the
 // buffer is as it was lent.
 // Rules out: a text with _ borrowed; a made-up length (must-fail: separated_text_borrowed, length_made_up).
-fn read_plain(text: &[u8], out: &mut [u8]) -> Read
+fn read_plain(text: &[u8], out: &mut [u8]) -> Result<ReadText, ReadRefusal>
     ensures { Reads (plain_of text.now) out.old result out.new }
 {
-    let Separators::Count(n) = count_separators(text) else {
-        return Read::Refused { place: 0 };
+    let Some(n) = count_separators(text) else {
+        return Err(ReadRefusal::At { place: 0 });
     };
     if n == 0 {
-        return Read::Borrowed {
+        return Ok(ReadText::Borrowed {
             from: 0,
             until: text.len(),
-        };
+        });
     }
     let needed = text.len() - n;
     if out.len() < needed {
-        return Read::NoRoom { needed: needed };
+        return Err(ReadRefusal::NoRoom { needed });
     }
     copy_without(text, out);
-    Read::Written { len: needed }
+    Ok(ReadText::Written { len: needed })
 }
 
 // The number of the body behind a radix prefix, with the sign before the prefix put to it, printed. Refused and without room the buffer is as it was lent.
-fn read_radix_text(minus: bool, body: &[u8], base: u32, out: &mut [u8]) -> Read
+fn read_radix_text(
+    minus: bool,
+    body: &[u8],
+    base: u32,
+    out: &mut [u8],
+) -> Result<ReadText, ReadRefusal>
     requires { radix_by base ≡ base }
     ensures { Reads (printed_by (within_bits 127 (negated_by minus (parsed_apart 127 base body.now)))) out.old result out.new }
 {
     match read_radix_halves(minus, body, base) {
-        Halves::Value { hi, lo } => print_halves(hi, lo, out),
-        Halves::Refused => Read::Refused { place: 0 },
+        Some(halves) => print_halves(halves, out),
+        None => Err(ReadRefusal::At { place: 0 }),
     }
 }
 
@@ -50,7 +54,7 @@ fn read_radix_text(minus: bool, body: &[u8], base: u32, out: &mut [u8]) -> Read
 // misplaced `_`, and with a radix what is no number of 128 bits. Refused, borrowed and without room the buffer is as it was lent.
 // Rules out: the first sign not put to a radix value; the second sign passed over; a separator beside the point; a made-up length; -2^127 behind a minus
 // accepted (must-fail: first_sign_ignored, second_base_passed_over).
-pub fn read_decimal(text: &[u8], out: &mut [u8]) -> Read
+pub fn read_decimal(text: &[u8], out: &mut [u8]) -> Result<ReadText, ReadRefusal>
     ensures { Reads (decimal_of text.now) out.old result out.new }
 {
     let sign = split_sign(text);

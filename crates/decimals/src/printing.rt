@@ -1,37 +1,40 @@
 // [01 Numbers] "printed in at most 40 bytes": a number of 128 bits in decimal, nine digits at a time.
-ghost use Rattle.std.specs.Prelude.{◌≡◌, ◌+◌, ◌-◌, ◌≤◌, ◌∷◌, ◌++◌, length, drop};
+ghost use Rattle.std.specs.Prelude.{◌≡◌, ◌∷◌, length};
 ghost use Rattle.meaning.specs.Reading.{written};
 ghost use Rattle.meaning.specs.Reads.{Reads};
 ghost use Rattle.meaning.specs.Numbers.{digits_of};
 ghost use Rattle.meaning.specs.Halves.{joined_halves, text_of};
 ghost use Rattle.decimals.specs.Printing.{Parts, last_of};
 
-use crate::halves::{negated_high, negated_low};
-use meaning::Read;
+use crate::halves::negated;
+use meaning::{ReadRefusal, ReadText};
+use numbers::radix::Halves;
 
 // A billionth of a number, and what is left of it.
 #[derive(Clone, Copy)]
 pub(crate) struct Parted {
-    pub hi: u64,
-    pub lo: u64,
+    pub quotient: Halves,
     pub rest: u64,
 }
 
 // The number divided by a billion: the low half goes by two limbs of 32 bits.
 // Rules out: what is left taken by another divisor, or of another limb (must-fail: digits_mistaken, other_digits).
-fn by_billion(hi: u64, lo: u64) -> Parted
-    ensures { Parts (joined_halves hi lo) result }
+fn by_billion(halves: Halves) -> Parted
+    ensures { Parts (joined_halves halves.hi halves.lo) result }
 {
-    let a = hi % 1_000_000_000 * 0x1_0000_0000 + lo / 0x1_0000_0000;
-    let b = a % 1_000_000_000 * 0x1_0000_0000 + lo % 0x1_0000_0000;
+    let a = halves.hi % 1_000_000_000 * 0x1_0000_0000 + halves.lo / 0x1_0000_0000;
+    let b = a % 1_000_000_000 * 0x1_0000_0000 + halves.lo % 0x1_0000_0000;
     Parted {
-        hi: hi / 1_000_000_000,
-        lo: a / 1_000_000_000 * 0x1_0000_0000 + b / 1_000_000_000,
+        quotient: Halves {
+            hi: halves.hi / 1_000_000_000,
+            lo: a / 1_000_000_000 * 0x1_0000_0000 + b / 1_000_000_000,
+        },
         rest: b % 1_000_000_000,
     }
 }
 
 // How many decimal digits a number of 64 bits has.
+// Stays: no `ilog10`: one of the wrong programs of this loop counts without end (must-fail: same_digit_again).
 // Rules out: 9 counted as two digits; 10 as one (must-fail: digits_mistaken, other_digits).
 fn count_low(value: u64) -> usize
     ensures { result ≡ length (digits_of value) }
@@ -39,7 +42,7 @@ fn count_low(value: u64) -> usize
     let mut n = 0;
     let mut left = value;
     while 10 <= left {
-        left = left / 10;
+        left /= 10;
         n += 1;
     }
     n + 1
@@ -47,92 +50,85 @@ fn count_low(value: u64) -> usize
 
 // How many decimal digits a number of 128 bits has.
 // Rules out: the low half alone counted, or as it was given (must-fail: low_half_alone, group_mistaken).
-fn count_digits(hi: u64, lo: u64) -> usize
-    ensures { result ≡ length (digits_of (joined_halves hi lo)) }
+fn count_digits(halves: Halves) -> usize
+    ensures { result ≡ length (digits_of (joined_halves halves.hi halves.lo)) }
 {
     let mut n = 0;
-    let mut h = hi;
-    let mut l = lo;
-    while h != 0 {
-        let t = by_billion(h, l);
-        h = t.hi;
-        l = t.lo;
+    let mut left = halves;
+    while left.hi != 0 {
+        left = by_billion(left).quotient;
         n += 9;
     }
-    n + count_low(l)
+    n + count_low(left.lo)
 }
 
-// Fills a part of the buffer, from its end back, with the last digits of a number, zeros in front.
+// Fills a part of a buffer, from its end back, with the last digits of a number, zeros in front.
+// Stays: Display writes to a Formatter, and these digits, zeros in front, fill a part of a lent buffer (`last_of`).
 // Rules out: a group without its leading zeros; digits from 9 on (must-fail: digits_mistaken, other_digits).
-fn fill_low(value: u64, from: usize, until: usize, out: &mut [u8])
-    requires { (from ≤ until) × (until ≤ length out.old) }
-    ensures { drop from out.new ≡ last_of (until - from) value ++ drop until out.old }
+fn fill_low(value: u64, out: &mut [u8])
+    ensures { out.new ≡ last_of (length out.old) value }
 {
-    let mut i = until;
     let mut left = value;
-    while from < i {
-        i -= 1;
-        out[i] = 48 + (left % 10) as u8;
-        left = left / 10;
+    for place in (0..out.len()).rev() {
+        out[place] = 48 + (left % 10) as u8;
+        left /= 10;
     }
 }
 
-// Fills a part of the buffer that is as long as the number's digits with them.
+// Fills a part of a buffer that is as long as the number's digits with them.
 // Rules out: a place that moves by less than is filled; a group's places left as they were lent (must-fail: group_mistaken, group_left_out).
-fn fill_digits(hi: u64, lo: u64, from: usize, until: usize, out: &mut [u8])
-    requires { (from + length (digits_of (joined_halves hi lo)) ≡ until) × (until ≤ length out.old) }
-    ensures { drop from out.new ≡ digits_of (joined_halves hi lo) ++ drop until out.old }
+#[inline(always)]
+fn fill_digits(halves: Halves, out: &mut [u8])
+    requires { length (digits_of (joined_halves halves.hi halves.lo)) ≡ length out.old }
+    ensures { out.new ≡ digits_of (joined_halves halves.hi halves.lo) }
 {
-    let mut i = until;
-    let mut h = hi;
-    let mut l = lo;
-    while h != 0 {
-        let t = by_billion(h, l);
-        let end = i;
-        i -= 9;
-        fill_low(t.rest, i, end, out);
-        h = t.hi;
-        l = t.lo;
+    let mut end = out.len();
+    let mut left = halves;
+    while left.hi != 0 {
+        let parted = by_billion(left);
+        fill_low(parted.rest, &mut out[end - 9..end]);
+        end -= 9;
+        left = parted.quotient;
     }
-    fill_low(l, from, i, out);
+    fill_low(left.lo, &mut out[..end]);
 }
 
 // Prints a number of 128 bits. Without room the buffer is as it was lent.
 // Rules out: a store before the test of room; more room asked than is needed (must-fail: limit_or_place_mistaken, room_mistaken).
-fn print_plus(hi: u64, lo: u64, out: &mut [u8]) -> Read
-    ensures { Reads (written (digits_of (joined_halves hi lo))) out.old result out.new }
+fn print_plus(halves: Halves, out: &mut [u8]) -> Result<ReadText, ReadRefusal>
+    ensures { Reads (written (digits_of (joined_halves halves.hi halves.lo))) out.old result out.new }
 {
-    let needed = count_digits(hi, lo);
+    let needed = count_digits(halves);
     if out.len() < needed {
-        return Read::NoRoom { needed: needed };
+        return Err(ReadRefusal::NoRoom { needed });
     }
-    fill_digits(hi, lo, 0, needed, out);
-    Read::Written { len: needed }
+    fill_digits(halves, &mut out[..needed]);
+    Ok(ReadText::Written { len: needed })
 }
 
 // Prints a number of 128 bits behind a minus. Without room the buffer is as it was lent.
 // Rules out: the minus over the first digit; a store before the test of room; the minus not counted (must-fail: limit_or_place_mistaken,
 // minus_before_the_test, room_mistaken).
-fn print_minus(hi: u64, lo: u64, out: &mut [u8]) -> Read
-    ensures { Reads (written (45 ∷ digits_of (joined_halves hi lo))) out.old result out.new }
+fn print_minus(halves: Halves, out: &mut [u8]) -> Result<ReadText, ReadRefusal>
+    ensures { Reads (written (45 ∷ digits_of (joined_halves halves.hi halves.lo))) out.old result out.new }
 {
-    let needed = 1 + count_digits(hi, lo);
+    let needed = 1 + count_digits(halves);
     if out.len() < needed {
-        return Read::NoRoom { needed: needed };
+        return Err(ReadRefusal::NoRoom { needed });
     }
-    fill_digits(hi, lo, 1, needed, out);
+    fill_digits(halves, &mut out[1..needed]);
     out[0] = 45;
-    Read::Written { len: needed }
+    Ok(ReadText::Written { len: needed })
 }
 
 // Prints the signed number that 128 bits stand for. Without room the buffer is as it was lent.
 // Rules out: -2^127 without its minus; 2^127 - 1 behind one; a borrow by a low half of zero (must-fail: minus_lost, minus_before_the_greatest,
 // borrowed_by_zero).
-pub(crate) fn print_halves(hi: u64, lo: u64, out: &mut [u8]) -> Read
-    ensures { Reads (written (text_of (joined_halves hi lo))) out.old result out.new }
+pub(crate) fn print_halves(halves: Halves, out: &mut [u8]) -> Result<ReadText, ReadRefusal>
+    ensures { Reads (written (text_of (joined_halves halves.hi halves.lo))) out.old result out.new }
 {
-    if hi < 0x8000_0000_0000_0000 {
-        return print_plus(hi, lo, out);
+    if halves.hi < 0x8000_0000_0000_0000 {
+        return print_plus(halves, out);
     }
-    print_minus(negated_high(hi, lo), negated_low(lo), out)
+    print_minus(negated(halves), out)
 }

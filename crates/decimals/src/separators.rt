@@ -3,12 +3,7 @@ ghost use Rattle.std.specs.Prelude.{◌≡◌, ◌<◌, ◌≤◌, ◌++◌, len
 ghost use Rattle.meaning.specs.Numbers.{strip};
 ghost use Rattle.decimals.specs.Separating.{is_between, separators_of};
 
-// How many separators a text has, or that one is misplaced.
-#[derive(Clone, Copy)]
-pub(crate) enum Separators {
-    Count(usize),
-    Misplaced,
-}
+use leaves::digits::is_radix_digit;
 
 // Whether the bytes on both sides of a place are decimal digits.
 // Rules out: a separator before the point accepted; a separator behind the point accepted (must-fail: limit_or_place_mistaken, separator_behind_the_point).
@@ -23,29 +18,23 @@ fn is_between(text: &[u8], at: usize) -> bool
     if text.len() <= next {
         return false;
     }
-    leaves::digits::is_radix_digit(text[at - 1], 10)
-        & leaves::digits::is_radix_digit(text[next], 10)
+    is_radix_digit(text[at - 1], 10) & is_radix_digit(text[next], 10)
 }
 
 // The number of `_` in a decimal text, if each stands between two digits: one scan, which looks around a `_` alone.
-pub(crate) fn count_separators(text: &[u8]) -> Separators
+pub(crate) fn count_separators(text: &[u8]) -> Option<usize>
     ensures { result ≡ separators_of text.now }
 {
     let mut n = 0;
-    let mut i = 0;
-    while i < text.len() {
-        if text[i] == 95 {
-            if is_between(text, i) {
-                n += 1;
-                i += 1;
-            } else {
-                return Separators::Misplaced;
+    for (place, byte) in text.iter().enumerate() {
+        if *byte == 95 {
+            if !is_between(text, place) {
+                return None;
             }
-        } else {
-            i += 1;
+            n += 1;
         }
     }
-    Separators::Count(n)
+    Some(n)
 }
 
 // Copies a text less `_` to the start of the buffer.
@@ -54,16 +43,11 @@ pub(crate) fn copy_without(text: &[u8], out: &mut [u8])
     requires { length (strip text.now) ≤ length out.old }
     ensures { out.new ≡ strip text.now ++ drop (length (strip text.now)) out.old }
 {
-    let mut i = 0;
-    let mut j = 0;
-    while i < text.len() {
-        let byte = text[i];
-        if byte == 95 {
-            i += 1;
-        } else {
-            out[j] = byte;
-            j += 1;
-            i += 1;
+    let mut end = 0;
+    for byte in text {
+        if *byte != 95 {
+            out[end] = *byte;
+            end += 1;
         }
     }
 }

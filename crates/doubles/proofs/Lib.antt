@@ -2,7 +2,6 @@ pub mod Newest
 pub mod Keys
 pub mod Tables
 pub mod Sums
-pub mod Clearing
 pub mod Searching
 pub mod OneRow
 pub mod AllRows

@@ -1,13 +1,24 @@
 -- One row is taken: its bucket is there, what its head says is the newest row before it, and what is stored is what the row changes. Assumes nothing.
-use mathlib.Core.Path.{◌≡◌, ap, ◌∙◌}
-use mathlib.Core.List.{List}
-use Prim.Native.Nat.{ℕ, ◌+◌, ◌<◌}
+use Rattle.std.proofs.Common.{◌≡◌, sym, ap, ◌∙◌, List, ℕ, ◌+◌, ◌^◌, ◌<◌, ◌≤◌, arith, length, set, get_or, MatchOption, IfSome, Option, Some, None}
 use native.Mathlib.Numerals.{add-one}
-use lib.ListN.{length, set, get_or}
-use Rattle.doubles.specs.Rows.{key_at, before_of}
+use Rattle.doubles.specs.Rows.{key_at, same_key, before_of}
 use Rattle.doubles.specs.Finding.{bucket_of, bucket_at, head_of, older_of, Linked, Ready, Took}
+use Rattle.doubles.proofs.Newest.{newest_le}
 use Rattle.doubles.proofs.Sums.{bucket_lt}
 use Rattle.doubles.proofs.Tables.{get_d_table}
+
+-- a row that is found, and its number counted from 1
+pub counted_fits : (r : Option ℕ) (b row : ℕ) → MatchOption r (b ≡ 0) (λ at. b ≡ at + 1) → b ≤ row → row < 2 ^ 64 → IfSome r (λ at. at + 1 < 2 ^ 64)
+counted_fits None b row e h f = tt
+counted_fits (Some at) b row e h f = omega (arith, e, h, f)
+
+pub counted_same : (r : Option ℕ) (b n : ℕ) → MatchOption r (b ≡ 0) (λ at. b ≡ at + 1) → MatchOption r (n ≡ 0) (λ at. n ≡ at + 1) → n ≡ b
+counted_same None b n e f = f ∙ sym e
+counted_same (Some at) b n e f = f ∙ sym e
+
+pub before_le : (store ends : List ℕ) (row : ℕ) → before_of store ends row ≤ row
+unfolding before_of
+before_le store ends row = newest_le (same_key store ends row) row
 
 module _ {store ends heads older before : List ℕ} {row : ℕ} (r : Ready store ends heads older before row)
     (key : List ℕ) (b : ℕ) (ek : key ≡ key_at store ends row) (eb : b ≡ bucket_of (length heads) key) where

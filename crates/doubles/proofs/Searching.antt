@@ -2,7 +2,8 @@
 use mathlib.Core.Path.{◌≡◌, refl, sym, ap, ◌∙◌}
 use mathlib.Core.Bool.{Bool, true, false, false≢true}
 use mathlib.Core.List.{List}
-use Prim.Native.Nat.{ℕ, suc, ◌-◌, ◌≤◌, ◌<◌}
+use Prim.Native.Nat.{ℕ, suc, ◌+◌, ◌≤◌, ◌<◌}
+use native.Mathlib.Numerals.{add-one}
 use native.Mathlib.Omega.{arith}
 use borrow.Author.Tests.{eqb-true, eq-eqb}
 use lib.ListN.{length, get_or}
@@ -59,36 +60,36 @@ module _ {store ends older : List ℕ} {row first : ℕ} (l : Linked store ends 
 
 module _ {store ends older : List ℕ} {row first at : ℕ} (s : Searching store ends older row first at) where
   -- none is left
-  pub searching_end : at ≤ 0 → 0 ≡ before_of store ends row
-  searching_end h = let z : at ≡ 0 = omega arith in sym (s.left ∙ ap (newest (same_key store ends row)) z)
+  pub searching_end : at ≡ 0 → before_of store ends row ≡ 0
+  searching_end z = s.left ∙ ap (newest (same_key store ends row)) z
 
-  module _ (h : 0 < at) where
-    last : at ≡ suc (at - 1)
-    last = omega arith
+  -- row m is the last that is left
+  module _ (m : ℕ) (last : at ≡ suc m) where
+    inside : m < row
+    inside = omega (arith, s.inside)
 
-    link : get_or older (at - 1) 0 ≡ newest (in_one store ends s.linked.buckets row) (at - 1)
+    link : get_or older m 0 ≡ newest (in_one store ends s.linked.buckets row) m
     link =
-        let m : at - 1 < row = omega (arith, s.inside) in
-        sym (get_or-take row older (at - 1) 0 m) ∙ ap (λ (l : List ℕ). get_or l (at - 1) 0) s.linked.links
-        ∙ get_d_table (older_of store ends s.linked.buckets) row (at - 1) m ∙ older_in store ends s.linked.buckets row (at - 1) (s.chained (at - 1) last)
+        sym (get_or-take row older m 0 inside) ∙ ap (λ (l : List ℕ). get_or l m 0) s.linked.links
+        ∙ get_d_table (older_of store ends s.linked.buckets) row m inside ∙ older_in store ends s.linked.buckets row m (s.chained m last)
 
-    pub searching_room : at - 1 < length older
-    searching_room = omega (arith, s.inside, s.linked.room)
+    pub searching_room : m < length older
+    searching_room = omega (arith, inside, s.linked.room)
 
-    pub searching_less : get_or older (at - 1) 0 < at
-    searching_less = omega (arith, link, newest_le (in_one store ends s.linked.buckets row) (at - 1))
+    pub searching_less : get_or older m 0 < at
+    searching_less = omega (arith, link, newest_le (in_one store ends s.linked.buckets row) m)
 
-    -- the last row that is left, its key compared with the key of the row
-    module _ (a b : List ℕ) (x : Bool) (ea : a ≡ key_at store ends (at - 1)) (eb : b ≡ key_at store ends row)
+    -- its key compared with the key of the row
+    module _ (a b : List ℕ) (x : Bool) (ea : a ≡ key_at store ends m) (eb : b ≡ key_at store ends row)
         (ex : (x ≡ true → a ≡ b) × (a ≡ b → x ≡ true)) where
-      pub searching_found : x ≡ true → at ≡ before_of store ends row
+      pub searching_found : x ≡ true → before_of store ends row ≡ m + 1
       searching_found e =
-          let q : same_key store ends row (at - 1) ≡ true = same_of (key_at store ends (at - 1)) (key_at store ends row) (sym ea ∙ ex.0 e ∙ eb) in
-          sym (s.left ∙ ap (newest (same_key store ends row)) last ∙ newest_here (same_key store ends row) (at - 1) q ∙ sym last)
+          let q : same_key store ends row m ≡ true = same_of (key_at store ends m) (key_at store ends row) (sym ea ∙ ex.0 e ∙ eb) in
+          s.left ∙ ap (newest (same_key store ends row)) last ∙ newest_here (same_key store ends row) m q ∙ sym (add-one m)
 
-      pub searching_turn : x ≡ false → Searching store ends older row first (get_or older (at - 1) 0)
+      pub searching_turn : x ≡ false → Searching store ends older row first (get_or older m 0)
       searching_turn e =
-          let q : same_key store ends row (at - 1) ≡ false = same_not (key_at store ends (at - 1)) (key_at store ends row)
+          let q : same_key store ends row m ≡ false = same_not (key_at store ends m) (key_at store ends row)
           (λ w. false≢true (sym e ∙ ex.1 (ea ∙ w ∙ sym eb))) in
-          on_from s.linked (at - 1) (get_or older (at - 1) 0) (omega (arith, s.inside))
-          (s.left ∙ ap (newest (same_key store ends row)) last ∙ newest_past (same_key store ends row) (at - 1) q) link
+          on_from s.linked m (get_or older m 0) (omega (arith, inside))
+          (s.left ∙ ap (newest (same_key store ends row)) last ∙ newest_past (same_key store ends row) m q) link

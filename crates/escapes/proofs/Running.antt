@@ -34,8 +34,11 @@ module _ {β w : ℕ} {l : List ℕ} {at n v : ℕ} (r : Running β w l at n v) 
   pub running_over : length l - at ≤ n → Run β w (drop at l) (record { count = n; value = v })
   running_over h = ended (λ p q. absurd (omega (arith, length-drop at l)))
 
-  pub running_full : w ≤ n → Run β w (drop at l) (record { count = n; value = v })
-  running_full h = ended (λ p q. absurd (omega arith))
+  pub running_full : w ≤ n → Run β w (drop at l) (record { count = w; value = v })
+  running_full h =
+      let e : w ≡ n = omega (arith, r.most) in
+      let x = ended (λ p q. absurd (omega arith)) in
+      record { count = e ∙ x.count; value = x.value; most = omega arith }
 
   -- d is the next byte's digit
   module _ (d : ℕ) (e : d ≡ digit (l ! (at + n))) where

@@ -1,23 +1,24 @@
--- The pass over a body by the pieces that are read: a piece takes and stands for what its step does, and every family's step is steady.
+-- The pass over a body by the pieces that are read, for any steady step: a piece takes and stands for what its step does.
 -- A law for the start, for a turn and for each way out, as the code counts. Assumes nothing.
 use mathlib.Core.Path.{◌≡◌, refl, ap, sym, ◌∙◌}
 use mathlib.Core.Bool.{Bool, true, false, ◌&&◌, ◌||◌, not, and-false, false≢true}
+use Rattle.std.specs.Prelude.{Option, Some, None, Ok, Err}
 use mathlib.Core.List.{List, [], ◌∷◌, ◌++◌}
 use Prim.Native.Nat.{ℕ, ◌+◌, ◌-◌, ◌^◌, ◌≤◌, ◌<◌}
 use native.Mathlib.Omega.{arith}
 use borrow.Author.Tests.{lt-ltb, le-leb, eq-eqb, ne_eqb, eqb-true, eqb-false, not-true, not-false}
 use lib.Dec.{eqb, ltb, leb}
-use lib.ListN.{length, take, drop, length-append, drop_of_length-le}
+use lib.ListN.{length, take, drop, length-append}
 use lib.Seq.{take-append_seam, length-take-le}
 use Rattle.meaning.specs.Bytes.{◌!◌}
 use Rattle.meaning.specs.Chars.{broken, whole, encode, is_scalar}
-use Rattle.meaning.specs.Walk.{give, stop, walk, value}
-use Rattle.meaning.specs.Steps.{may_escape, standard_step, escape_step, unicode_step}
+use Rattle.meaning.specs.Walk.{Step, give, stop, walk, value}
+use Rattle.meaning.specs.Steps.{may_escape}
 use Rattle.meaning.specs.Answers.{filled}
 use Rattle.laws.proofs.basics.Tests.{and_right}
 use Rattle.laws.proofs.utf8.Encode.{encode_length}
 use Rattle.laws.proofs.walking.Courses.{so_far_none, so_far_end, taken, stands, is_kept, Goes, Taken}
-use Rattle.laws.proofs.walking.StepBounds.{Steady, standard_steady, escape_steady, unicode_steady, encode_most}
+use Rattle.laws.proofs.walking.StepBounds.{Steady, encode_most}
 use Rattle.laws.proofs.walking.Passes.{StopsAt, EndsWith, Unbroken, unit_taken, measuring_none, measuring_turn, measuring_stop, measuring_broken}
 use Rattle.laws.proofs.walking.Passes.{measuring_unfinished, measuring_end, course_same, laid_behind}
 use Rattle.leaves.specs.Puts.{Least, Puts}
@@ -25,51 +26,22 @@ use Rattle.scalars.specs.Scalars.{Encodes}
 use Rattle.utf8.specs.declared.tail.Utf8Tail.{Utf8Tail}
 use Rattle.utf8.specs.declared.tail.Utf8Tail.TheVariants as Tail
 use Rattle.utf8.specs.Tails.{due_of}
-use Rattle.cutting.specs.declared.marks.Mark.{Mark}
-use Rattle.cutting.specs.declared.marks.Mark.TheVariants.{Quote, DoubleQuote}
-use Rattle.cutting.specs.Marks.{mark_of}
 use Rattle.escapes.specs.declared.pieces.Piece.{Piece}
 use Rattle.escapes.specs.declared.pieces.Piece.TheVariants as Piece'
-use Rattle.escapes.specs.declared.units.Family.{Family}
-use Rattle.escapes.specs.declared.units.Family.TheVariants.{Standard, Escape, Unicode}
 use Rattle.escapes.specs.declared.passing.Pass.{Pass}
-use Rattle.escapes.specs.declared.passing.Turn.{Turn}
-use Rattle.escapes.specs.declared.passing.Turn.TheVariants as Turn'
-use Rattle.escapes.specs.declared.passing.Measured.TheVariants.{Plain, Length, Refused}
-use Rattle.escapes.specs.Pieces.{scalar_of, meaning_of, Is, IsBy}
-use Rattle.escapes.specs.Families.{step_of, checks, due_by, course_of}
+use Rattle.escapes.specs.Pieces.{scalar_of, meaning_of, IsBy}
+use Rattle.escapes.specs.Families.{step_of, due_by, course_by}
+use Rattle.escapes.specs.Steadies.{steady_standard, steady_escape, steady_unicode}
+use Rattle.escapes.specs.declared.units.Family.{Family}
+use Rattle.escapes.specs.declared.units.Family.TheVariants as Family'
 use Rattle.escapes.specs.Passing.{Counted, Passing, Near, Moved, Moves, Ready, Turns, Passes}
 use Rattle.escapes.proofs.UnitLaws.{cut}
 
--- EVERY FAMILY's step is steady, since no mark is zero
-mark_not_zero : (m : Mark) → eqb 0 (mark_of m) ≡ false
-mark_not_zero Quote = refl
-mark_not_zero DoubleQuote = refl
-
+-- EVERY FAMILY's step is steady
 pub steady : (f : Family) (e : List ℕ) → Steady (step_of f e)
-steady (Standard m bs) e = standard_steady bs (mark_of m) (mark_not_zero m)
-steady Escape e = escape_steady
-steady (Unicode m) e = unicode_steady e (mark_of m) (mark_not_zero m)
-
--- THE UNIT by the family; behind the end nothing stands
-module _ (f : Family) (e l : List ℕ) (at : ℕ) where
-  pub unit_past : length l ≤ at → IsBy e Piece'.Refused (step_of f e (drop at l))
-  unit_past h = record { means = sym (ap (step_of f e) (drop_of_length-le l h) ∙ none f) }
-    where
-      none : (g : Family) → step_of g e [] ≡ stop
-      none (Standard m bs) = refl
-      none Escape = refl
-      none (Unicode m) = refl
-
-  module _ (p : Piece) where
-    pub unit_standard : (m : Mark) (bs : Bool) → f ≡ Standard m bs → Is p (standard_step bs (mark_of m) (drop at l)) → IsBy e p (step_of f e (drop at l))
-    unit_standard m bs k i = rw k (record { means = i.means e })
-
-    pub unit_escape : f ≡ Escape → Is p (escape_step (drop at l)) → IsBy e p (step_of f e (drop at l))
-    unit_escape k i = rw k (record { means = i.means e })
-
-    pub unit_unicode : (m : Mark) → f ≡ Unicode m → IsBy e p (unicode_step e (mark_of m) (drop at l)) → IsBy e p (step_of f e (drop at l))
-    unit_unicode m k i = rw k i
+steady (Family'.Standard m bs) e = steady_standard bs m
+steady Family'.Escape e = steady_escape
+steady (Family'.Unicode m) e = steady_unicode e m
 
 -- four bytes hold a character's encoding
 module _ (c n : ℕ) (four : List ℕ) (w : Encodes c (0 ∷ 0 ∷ 0 ∷ 0 ∷ []) n four) where
@@ -78,16 +50,6 @@ module _ (c n : ℕ) (four : List ℕ) (w : Encodes c (0 ∷ 0 ∷ 0 ∷ 0 ∷ [
   encoded s =
       let f : leb (length (encode c)) 4 ≡ true = le-leb (length (encode c)) 4 (encode_most c) in
       (rw (s, f) at w.answer, rw (s, f) at w.buffer)
-
-  pub encoded_room : n ≤ length four
-  encoded_room = go (is_scalar c) refl
-    where
-      go : (x : Bool) → is_scalar c ≡ x → n ≤ length four
-      go true s = let k = encoded s in rw (k.1, length-append) (omega (arith, k.0))
-      go false s = let o : n ≡ 0 = rw s at w.answer in omega arith
-
-  pub encoded_cut : n ≡ length (take n four)
-  encoded_cut = sym (length-take-le n four encoded_room)
 
 -- WHAT A PIECE STANDS FOR, b its first byte: it takes m bytes behind that, and y says whether it is that byte
 pub record Stands (e : List ℕ) (p : Piece) (b : ℕ) (v : List ℕ) (m : ℕ) (y : Bool) : Type 0 where
@@ -106,8 +68,8 @@ module _ (e : List ℕ) (p : Piece) (b : ℕ) where
   pub stands_two : (x z m : ℕ) → p ≡ Piece'.Two x z m → Stands e p b (x ∷ z ∷ []) m false
   stands_two x z m k = stands_give m (x ∷ z ∷ []) (ap (meaning_of e) k)
 
-  pub stands_escape : (m : ℕ) → p ≡ Piece'.Escape m → Stands e p b e m false
-  stands_escape m k = stands_give m e (ap (meaning_of e) k)
+  pub stands_escape : (m : ℕ) (v : List ℕ) → v ≡ e → p ≡ Piece'.Escape m → Stands e p b v m false
+  stands_escape m v q k = stands_give m v (ap (meaning_of e) k ∙ ap (give m) (sym q))
 
   pub means_refused : p ≡ Piece'.Refused → meaning_of e p ≡ stop
   means_refused k = ap (meaning_of e) k
@@ -144,22 +106,22 @@ stands_keep e l at p k h =
     rw k (record { goes = tt; takes = refl; keeps = refl; bytes = rw (z, cut l at h) })
 
 -- A TURN, at the piece p
-module _ (f : Family) (e l : List ℕ) (s : Pass) (r : Ready f e l s) (p : Piece) (i : IsBy e p (step_of f e (drop s.at l))) where
-  pub turn_refused : meaning_of e p ≡ stop → StopsAt (course_of f e l) s.at
+module _ (st : List ℕ → Step) (ck : Bool) (ok : Steady st) (e l : List ℕ) (s : Pass) (r : Ready st ck l s) (p : Piece) (i : IsBy e p (st (drop s.at l))) where
+  pub turn_refused : meaning_of e p ≡ stop → StopsAt (course_by st ck l) s.at
   turn_refused q = measuring_stop r.counted r.inside (sym i.means ∙ q)
 
   module _ (v : List ℕ) (m : ℕ) (y : Bool) (u : Stands e p (l ! s.at) v m y) where
-    took : (c : Counted f e l s) (at' : ℕ) → s.at + 1 + m ≡ at' → Taken c.so_far v y at'
+    took : (c : Counted st ck l s) (at' : ℕ) → s.at + 1 + m ≡ at' → Taken c.so_far v y at'
     took c at' ea =
-        rw (u.bytes, u.keeps) at (unit_taken c.so_far (steady f e) (meaning_of e p) r.inside (sym i.means) u.goes at' (omega (arith, u.takes)))
+        rw (u.bytes, u.keeps) at (unit_taken c.so_far (ok) (meaning_of e p) r.inside (sym i.means) u.goes at' (omega (arith, u.takes)))
 
-    module _ (out : List ℕ) (q : Pass) (after : List ℕ) (b : Moved f s y m v out q after) where
-      unfoldable counts : Counted f e l s → Counted f e l q
+    module _ (out : List ℕ) (q : Pass) (after : List ℕ) (b : Moved ck s y m v out q after) where
+      unfoldable counts : Counted st ck l s → Counted st ck l q
       counts c =
           measuring_turn c v y q.at q.n q.plain (due_of q.tail) (took c q.at (sym b.place)) (sym b.count) (sym b.plainly) b.state
           b.unbroken
 
-      passes : (d : List ℕ) → Passing f e l d out s → Passing f e l d after q
+      passes : (d : List ℕ) → Passing st ck l d out s → Passing st ck l d after q
       unfolding counts measuring_turn
       passes d w = record {
         counted = counts w.counted;
@@ -171,10 +133,10 @@ module _ (f : Family) (e l : List ℕ) (s : Pass) (r : Ready f e l s) (p : Piece
         short = w.short;
       }
 
-    pub turn_moves : (out : List ℕ) (t : Turn) (after : List ℕ) → Moves f s y m v out t after → Turns f e l out s t after
-    turn_moves out Turn'.Refused after b =
+    pub turn_moves : (out : List ℕ) (t : Option Pass) (after : List ℕ) → Moves ck s y m v out t after → Turns st ck l out s t after
+    turn_moves out None after b =
         measuring_broken r.counted (meaning_of e p) r.inside (sym i.means) u.goes (rw u.bytes b)
-    turn_moves out (Turn'.On q) after b = record { further = omega (arith, b.place); passes = passes out q after b }
+    turn_moves out (Some q) after b = record { further = omega (arith, b.place); passes = passes out q after b }
 
   pub turn_near : (v : List ℕ) (m : ℕ) → Stands e p (l ! s.at) v m false → Near s m v
   turn_near v m u =
@@ -193,14 +155,11 @@ unbroken_by Tail.ThreeFrom90 k = tt
 unbroken_by Tail.ThreeUpTo8F k = tt
 unbroken_by Tail.Broken k = absurd (k refl)
 
-module _ (f : Family) (p : Pass) (y : Bool) (m : ℕ) (v out : List ℕ) (t : Utf8Tail) (dt : due_of t ≡ due_by (checks f) (due_of p.tail) v) where
-  pub moves_broken : t ≡ Tail.Broken → broken ≡ due_by (checks f) (due_of p.tail) v
-  moves_broken q = sym (ap due_of q) ∙ dt
-
+module _ (ck : Bool) (p : Pass) (y : Bool) (m : ℕ) (v out : List ℕ) (t : Utf8Tail) (dt : due_of t ≡ due_by ck (due_of p.tail) v) where
   pub moves_on : (t ≡ Tail.Broken → ⊥) → (k : ℕ) → Least p.n (length out) k
       → (n : ℕ) (last : List ℕ) → Puts v (take (length out - k) (drop k out)) n last
       → length (take k out ++ (last ++ drop (length out - k) (drop k out))) ≡ length out
-      → Moved f p y m v out (record { at = p.at + 1 + m; n = p.n + length v; plain = p.plain && y; tail = t })
+      → Moved ck p y m v out (record { at = p.at + 1 + m; n = p.n + length v; plain = p.plain && y; tail = t })
       (take k out ++ (last ++ drop (length out - k) (drop k out)))
   moves_on u k lo n last w same = record {
     place = refl;
@@ -213,49 +172,37 @@ module _ (f : Family) (p : Pass) (y : Bool) (m : ℕ) (v out : List ℕ) (t : Ut
   }
 
 -- THE START, and the ways out
-pub passing_same : {f : Family} {e l d out : List ℕ} {p : Pass} → Passing f e l d out p → length out ≡ length d
-passing_same w = w.same
-
-pub passing_ready : {f : Family} {e l d out : List ℕ} {p : Pass} → Passing f e l d out p → p.at < length l → Ready f e l p
-passing_ready w h = record { counted = w.counted; inside = h; short = w.short }
-
-pub passing_none : (f : Family) (e l d : List ℕ) → length l < 2 ^ 64 → Passing f e l d d (record { at = 0; n = 0; plain = true; tail = Tail.Start })
+pub passing_none : (st : List ℕ → Step) (ck : Bool) (l d : List ℕ) → length l < 2 ^ 64 → Passing st ck l d d (record { at = 0; n = 0; plain = true; tail = Tail.Start })
 unfolding measuring_none so_far_none
-passing_none f e l d b = record { counted = measuring_none (step_of f e) (checks f) l; put = λ h. refl; same = refl; short = b }
+passing_none st ck l d b = record { counted = measuring_none st ck l; put = λ h. refl; same = refl; short = b }
 
-passes_stop : (f : Family) (e l d out : List ℕ) (at : ℕ) → StopsAt (course_of f e l) at → Passes (course_of f e l) d (Refused at) out
-passes_stop f e l d out at s = record { answer = rw (s.marred, s.halts, s.place); buffer = λ g. absurd (false≢true (sym g ∙ s.halts)) }
+passes_stop : (st : List ℕ → Step) (ck : Bool) (l d out : List ℕ) (at : ℕ) → StopsAt (course_by st ck l) at → Passes (course_by st ck l) d (Err at) out
+passes_stop st ck l d out at s = record { answer = rw (s.marred, s.halts, s.place); buffer = λ g. absurd (false≢true (sym g ∙ s.halts)) }
 
 -- what a turn led to
-module _ (f : Family) (e l out : List ℕ) (p : Pass) (r : Turn) (after : List ℕ) (t : Turns f e l out p r after) where
-  pub turn_less : p.at < length l → (q : Pass) → r ≡ Turn'.On q → length l - q.at < length l - p.at
-  turn_less h q k = let g = rw k at t in omega (arith, g.further)
-
-  pub turn_again : (d : List ℕ) → Passing f e l d out p → (q : Pass) → r ≡ Turn'.On q → Passing f e l d after q
+module _ (st : List ℕ → Step) (ck : Bool) (l out : List ℕ) (p : Pass) (r : Option Pass) (after : List ℕ) (t : Turns st ck l out p r after) where
+  pub turn_again : (d : List ℕ) → Passing st ck l d out p → (q : Pass) → r ≡ Some q → Passing st ck l d after q
   turn_again d w q k = let g = rw k at t in g.passes d w
 
-  pub turn_stops : (d : List ℕ) → r ≡ Turn'.Refused → Passes (course_of f e l) d (Refused p.at) after
-  turn_stops d k = passes_stop f e l d after p.at (rw k at t)
-
 -- nothing is left
-module _ (f : Family) (e l d out : List ℕ) (s : Pass) (w : Passing f e l d out s) (h : length l ≤ s.at) (x : Bool) (ex : x ≡ whole (due_of s.tail)) where
-  pub passes_unfinished : not x ≡ true → Passes (course_of f e l) d (Refused s.at) out
-  passes_unfinished n = passes_stop f e l d out s.at (measuring_unfinished w.counted h (sym ex ∙ not-true x n))
+module _ (st : List ℕ → Step) (ck : Bool) (l d out : List ℕ) (s : Pass) (w : Passing st ck l d out s) (h : length l ≤ s.at) (x : Bool) (ex : x ≡ whole (due_of s.tail)) where
+  pub passes_unfinished : not x ≡ true → Passes (course_by st ck l) d (Err s.at) out
+  passes_unfinished n = passes_stop st ck l d out s.at (measuring_unfinished w.counted h (sym ex ∙ not-true x n))
 
   module _ (n : not x ≡ false) where
-    ends : EndsWith (course_of f e l) s.plain s.n
+    ends : EndsWith (course_by st ck l) s.plain s.n
     ends = measuring_end w.counted h (sym ex ∙ not-false x n)
 
-    written : length (value (course_of f e l)) ≤ length d → out ≡ value (course_of f e l) ++ drop (length (value (course_of f e l))) d
+    written : length (value (course_by st ck l)) ≤ length d → out ≡ value (course_by st ck l) ++ drop (length (value (course_by st ck l))) d
     written k =
-        let v : value (course_of f e l) ≡ value w.counted.so_far.course =
-        ap value (course_same (checks f) (walk (step_of f e) 0 l) ends.goes ∙ so_far_end w.counted.so_far h) in
-        let c : length (value (course_of f e l)) ≡ s.n = ends.counted in
+        let v : value (course_by st ck l) ≡ value w.counted.so_far.course =
+        ap value (course_same ck (walk st 0 l) ends.goes ∙ so_far_end w.counted.so_far h) in
+        let c : length (value (course_by st ck l)) ≡ s.n = ends.counted in
         w.put (omega arith) ∙ ap (λ (k : ℕ). value w.counted.so_far.course ++ drop k d) (sym c)
-        ∙ ap (◌++ drop (length (value (course_of f e l))) d) (sym v)
+        ∙ ap (◌++ drop (length (value (course_by st ck l))) d) (sym v)
 
-    pub passes_plain : s.plain ≡ true → Passes (course_of f e l) d Plain out
+    pub passes_plain : s.plain ≡ true → Passes (course_by st ck l) d (Ok None) out
     passes_plain q = record { answer = rw (ends.plainly, q); buffer = λ g. written }
 
-    pub passes_length : s.plain ≡ false → Passes (course_of f e l) d (Length s.n) out
+    pub passes_length : s.plain ≡ false → Passes (course_by st ck l) d (Ok (Some s.n)) out
     passes_length q = record { answer = rw (ends.plainly, q, ends.goes, ends.counted); buffer = λ g. written }

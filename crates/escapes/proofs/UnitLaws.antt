@@ -47,9 +47,6 @@ module _ (l : List ℕ) (at : ℕ) (h : at < length l) (mark q : ℕ) (m : mark 
   mark_here : standard_step false q (drop at l) ≡ (if eqb (l ! at) q then doubled q (drop (at + 1) l) else keep)
   mark_here = ap (standard_step false q) (cut l at h)
 
-  pub mark_keep : (l ! at ≡ mark → ⊥) → Is Keep (standard_step false q (drop at l))
-  mark_keep n = record { means = λ e. sym (mark_here ∙ rw (ne_eqb (l ! at) q (λ k. n (k ∙ sym m)))) }
-
   module _ (y : l ! at ≡ mark) (b : ℕ) (e : b ≡ l ! (at + 1)) where
     doubled_here : standard_step false q (drop at l) ≡ (if eqb b q then give 1 (q ∷ []) else stop)
     unfolding doubled
@@ -71,27 +68,12 @@ other_none [] c o = refl
 other_none (r ∷ rs) c o = rw (ne_eqb r.0 c (λ e. o.0 (sym e))) (other_none rs c o.1)
 
 -- STANDARD
-pub mysql_end : (l : List ℕ) (at : ℕ) → length l ≤ at → Is (Byte 92 0) (mysql (drop at l))
-mysql_end l at h = record { means = λ e. rw (drop_of_length-le l h) }
-
 module _ (l : List ℕ) (at : ℕ) (h : at < length l) where
   mysql_at : (k v : ℕ) → l ! at ≡ k → byte_of mysql_table k ≡ v → mysql (drop at l)
       ≡ (if ltb v 256 then give 1 (v ∷ []) else if has k (ascii "%_") then give 1 (backslash ∷ k ∷ []) else give 1 (k ∷ []))
   mysql_at k v e f =
       ap mysql (cut l at h ∙ ap (◌∷ drop (at + 1) l) e)
       ∙ ap (λ (v : ℕ). if ltb v 256 then give 1 (v ∷ []) else if has k (ascii "%_") then give 1 (backslash ∷ k ∷ []) else give 1 (k ∷ [])) f
-
-  pub mysql_letter : (k v : ℕ) → l ! at ≡ k → byte_of mysql_table k ≡ v → ltb v 256 ≡ true → Is (Byte v 1) (mysql (drop at l))
-  mysql_letter k v e f g = record { means = λ _. sym (mysql_at k v e f ∙ rw g) }
-
-  pub mysql_kept : (k : ℕ) → l ! at ≡ k → byte_of mysql_table k ≡ 256 → has k (ascii "%_") ≡ true → Is (Two 92 k 1) (mysql (drop at l))
-  mysql_kept k e f g = record { means = λ _. sym (mysql_at k 256 e f ∙ rw g) }
-
-  pub mysql_self : (l ! at ≡ 48 → ⊥) → (l ! at ≡ 98 → ⊥) → (l ! at ≡ 110 → ⊥) → (l ! at ≡ 114 → ⊥) → (l ! at ≡ 116 → ⊥) → (l ! at ≡ 90 → ⊥)
-      → (l ! at ≡ 37 → ⊥) → (l ! at ≡ 95 → ⊥) → Is (Byte (l ! at) 1) (mysql (drop at l))
-  mysql_self a b c d e f g i =
-      let o : 256 ≡ byte_of mysql_table (l ! at) = other_none mysql_table (l ! at) (a, (b, (c, (d, (e, (f, tt)))))) in
-      record { means = λ _. sym (mysql_at (l ! at) 256 refl (sym o) ∙ rw (ne_eqb (l ! at) 37 g, ne_eqb (l ! at) 95 i)) }
 
 -- E
 pub one_zero : (k b : ℕ) → b ≡ 0 → Is Refused (one_byte k b)
@@ -219,9 +201,6 @@ letter_last c t h x u w =
     go false false false false true = refl
     go false false false false false = refl
 
-pub escaped_end : (l : List ℕ) (at : ℕ) → length l ≤ at → Is Refused (escaped (drop at l))
-escaped_end l at h = record { means = λ e. rw (drop_of_length-le l h) }
-
 module _ (l : List ℕ) (at : ℕ) (h : at < length l) where
   here : {s : Step} → escaped (l ! at ∷ drop (at + 1) l) ≡ s → (p : Piece) → Is p s → Is p (escaped (drop at l))
   here e p i = is_at i (sym (ap escaped (cut l at h) ∙ e))
@@ -255,9 +234,6 @@ module _ (l : List ℕ) (at : ℕ) (h : at < length l) where
         let lt : x.value < 256 = rw s.value (two_hex t) in
         here (x_here
         ∙ rw (← s.count, lt-ltb 0 x.count n) (ap₂ one_byte (sym (add-one x.count)) (rw s.count (sym s.value) ∙ sym (mod-eq_of_lt lt)))) p i
-
-    pub escaped_x : x.count ≤ 0 → (p : Piece) → Is p (one_byte 1 (l ! at)) → Is p (escaped (drop at l))
-    escaped_x n p i = here (x_here ∙ rw (← s.count, le-ltb 0 x.count n, c)) p i
 
   pub escaped_four : l ! at ≡ 117 → (v : ℕ) → v ≡ hex_by 4 (drop (at + 1) l) → Is (Scalar v 5) (escaped (drop at l))
   unfolding digit within
@@ -355,44 +331,3 @@ module _ (e l : List ℕ) (at : ℕ) (x : Bool) (ex : x ≡ starts e (drop at l)
 pub escape_inside : (e l : List ℕ) (at : ℕ) (x y : Bool) → at < length l → x ≡ starts e (drop at l) → (y && x) ≡ true → Behind e l (at + length e)
 escape_inside e l at x y h ex w =
     record { behind = omega arith; inside = omega (arith, starts_length e (drop at l) (sym ex ∙ and_right y x w), length-drop at l) }
-
--- THE UNIT at a place, by its first byte
-module _ (l : List ℕ) (at : ℕ) (h : at < length l) (p : Piece) where
-  module _ (bs : Bool) (q : ℕ) where
-    pub standard_escape : (bs && eqb (l ! at) 92) ≡ true → Is p (mysql (drop (at + 1) l)) → Is p (standard_step bs q (drop at l))
-    standard_escape x i = is_at i (sym (ap (standard_step bs q) (cut l at h) ∙ rw x))
-
-    pub standard_other : (bs && eqb (l ! at) 92) ≡ false → Is p (standard_step false q (drop at l)) → Is p (standard_step bs q (drop at l))
-    standard_other x i = is_at i (ap (standard_step false q) (cut l at h) ∙ sym (ap (standard_step bs q) (cut l at h) ∙ rw x))
-
-  pub escape_escape : l ! at ≡ 92 → Is p (escaped (drop (at + 1) l)) → Is p (escape_step (drop at l))
-  escape_escape x i = is_at i (sym (ap escape_step (cut l at h) ∙ rw (eq-eqb (l ! at) 92 x)))
-
-  pub escape_other : (l ! at ≡ 92 → ⊥) → Is p (standard_step false 39 (drop at l)) → Is p (escape_step (drop at l))
-  escape_other x i = is_at i (ap (standard_step false 39) (cut l at h) ∙ sym (ap escape_step (cut l at h) ∙ rw (ne_eqb (l ! at) 92 x)))
-
-  module _ (e : List ℕ) (m q : ℕ) (em : m ≡ q) (x : Bool) (ex : x ≡ starts e (drop at l)) where
-    unicode_here : unicode_step e q (drop at l)
-        ≡ (if eqb (l ! at) q then doubled q (drop (at + 1) l) else if starts e (drop at l) then uescaped e (drop (at + length e) l) else keep)
-    unicode_here =
-        ap (unicode_step e q) (cut l at h)
-        ∙ ap (λ (t : List ℕ). if eqb (l ! at) q then doubled q (drop (at + 1) l) else if starts e t then uescaped e (drop (length e) t) else keep)
-        (sym (cut l at h))
-        ∙ rw drop-drop refl
-
-    pub unicode_escape : (not (eqb (l ! at) m) && x) ≡ true → IsBy e p (uescaped e (drop (at + length e) l)) → IsBy e p (unicode_step e q (drop at l))
-    unicode_escape w i = record {
-      means =
-          i.means
-          ∙ sym (unicode_here ∙ rw (← em, not-true (eqb (l ! at) m) (and_left (not (eqb (l ! at) m)) x w), sym ex ∙ and_right (not (eqb (l ! at) m)) x w));
-    }
-
-    pub unicode_other : (not (eqb (l ! at) m) && x) ≡ false → Is p (standard_step false q (drop at l)) → IsBy e p (unicode_step e q (drop at l))
-    unicode_other w i = is_by e i (ap (standard_step false q) (cut l at h) ∙ sym (unicode_here ∙ rw (← ex, ← em) (go (eqb (l ! at) m) x w)))
-      where
-        go : (y x : Bool) → (not y && x) ≡ false
-            → (if y then doubled m (drop (at + 1) l) else if x then uescaped e (drop (at + length e) l) else keep)
-            ≡ (if y then doubled m (drop (at + 1) l) else keep)
-        go true x k = refl
-        go false true k = absurd (false≢true (sym k))
-        go false false k = refl

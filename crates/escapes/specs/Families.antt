@@ -1,5 +1,5 @@
 -- The families' steps and courses, and what measuring says of a course. Assumes nothing.
-use Rattle.std.specs.Prelude.{Bool, true, false, List, ℕ, length}
+use Rattle.std.specs.Prelude.{Bool, true, false, List, ℕ, length, Option, Some, None, Result, Ok, Err}
 use Rattle.std.specs.Prelude.{if◌then◌else◌}
 use Rattle.meaning.specs.Chars.{Due, fresh, pushes}
 use Rattle.meaning.specs.Walk.{Step, Trace, walk, size, stops, plain, value}
@@ -7,8 +7,6 @@ use Rattle.meaning.specs.Steps.{standard_step, escape_step, checked, unicode_ste
 use Rattle.cutting.specs.Marks.{mark_of}
 use Rattle.escapes.specs.declared.units.Family.{Family}
 use Rattle.escapes.specs.declared.units.Family.TheVariants.{Standard, Escape, Unicode}
-use Rattle.escapes.specs.declared.passing.Measured.{Measured}
-use Rattle.escapes.specs.declared.passing.Measured.TheVariants.{Plain, Length, Refused}
 
 -- by the escape character's bytes e
 abbrev pub step_of : Family → List ℕ → List ℕ → Step
@@ -26,8 +24,12 @@ checks (Unicode m) = false
 abbrev pub due_by : Bool → Due → List ℕ → Due
 due_by x d v = if x then pushes d v else d
 
-abbrev pub course_of : Family → List ℕ → List ℕ → Trace
-course_of f e t = if checks f then checked fresh (walk (step_of f e) 0 t) else walk (step_of f e) 0 t
+-- a text's course by a step
+abbrev pub course_by : (List ℕ → Step) → Bool → List ℕ → Trace
+course_by st x t = if x then checked fresh (walk st 0 t) else walk st 0 t
 
-abbrev pub measured_of : Trace → Measured
-measured_of r = if plain r then Plain else if stops r then Refused (size r) else Length (length (value r))
+abbrev pub course_of : Family → List ℕ → List ℕ → Trace
+course_of f e t = course_by (step_of f e) (checks f) t
+
+abbrev pub measured_of : Trace → Result (Option ℕ) ℕ
+measured_of r = if plain r then Ok None else if stops r then Err (size r) else Ok (Some (length (value r)))

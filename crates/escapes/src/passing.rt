@@ -1,24 +1,15 @@
 // The pass over a body, by units: it counts what they stand for and writes it as far as there is room. E's expansion is checked to be UTF-8 on the way, so
 // that the first of all refusals is found.
 ghost use Rattle.std.specs.Prelude.{◌≡◌};
-ghost use Rattle.utf8.specs.Tails.{due_of};
-ghost use Rattle.escapes.specs.Families.{checks, due_by, course_of};
+ghost use Rattle.escapes.specs.Families.{course_by};
 ghost use Rattle.escapes.specs.Passing.{Near, Moves, Ready, Turns, Passes};
 
+use crate::families::EscapeFamily;
 use crate::pieces::Piece;
-use crate::units::{Family, unit_at};
+use crate::units::unit_at;
 use leaves::puts::{least, put_bytes};
 use scalars::encoding::encode_utf8;
-use utf8::check::utf8_from;
 use utf8::tail::{Utf8Tail, is_whole};
-
-// What a body's value is: the body itself; so many bytes; or reading stops at a place.
-#[derive(Clone, Copy)]
-pub(crate) enum Measured {
-    Plain,
-    Length(usize),
-    Refused(usize),
-}
 
 // Where a pass stands: the units up to a place stand for n bytes; whether each byte stood for itself; and what UTF-8 makes due, where it counts.
 #[derive(Clone, Copy)]
@@ -29,43 +20,29 @@ pub(crate) struct Pass {
     pub tail: Utf8Tail,
 }
 
-// What a turn leads to.
-#[derive(Clone, Copy)]
-pub(crate) enum Turn {
-    On(Pass),
-    Refused,
-}
-
-// The UTF-8 state behind some bytes; it counts in E alone.
-// Rules out: the state before them lost (must-fail: state_not_carried).
-fn next_tail(family: Family, tail: Utf8Tail, bytes: &[u8]) -> Utf8Tail
-    ensures { due_of result ≡ due_by (checks family) (due_of tail) bytes.now }
-{
-    match family {
-        Family::Standard {
-            mark: _,
-            backslash: _,
-        } => tail,
-        Family::Escape => utf8_from(tail, bytes),
-        Family::Unicode { mark: _ } => tail,
-    }
-}
-
 // Goes past a unit that stands for some bytes, `more` of the body behind its first; `own` says whether it is a byte that stands for itself. The bytes are
 // counted, and written if there is room for them behind what is written so far. Bytes that break UTF-8 refuse.
+// Stays: one family goes over a body with two buffers, none and the caller's: a struct of family and buffer would be built for each pass.
 // Rules out: a body with an escape called plain; bytes written over those before them (must-fail: escaped_is_plain, bytes_at_the_start).
-fn go_past(family: Family, pass: Pass, own: bool, more: usize, bytes: &[u8], out: &mut [u8]) -> Turn
+fn go_past<F: EscapeFamily>(
+    family: &F,
+    pass: Pass,
+    own: bool,
+    more: usize,
+    bytes: &[u8],
+    out: &mut [u8],
+) -> Option<Pass>
     requires { Near pass more bytes.now }
-    ensures { Moves family pass own more bytes.now out.old result out.new }
+    ensures { Moves (F.is_checked family.now) pass own more bytes.now out.old result out.new }
 {
     let tail = pass.tail;
-    let next = next_tail(family, tail, bytes);
+    let next = family.next_tail(tail, bytes);
     if let Utf8Tail::Broken = next {
-        return Turn::Refused;
+        return None;
     }
     let from = least(pass.n, out.len());
     put_bytes(bytes, &mut out[from..]);
-    Turn::On(Pass {
+    Some(Pass {
         at: pass.at + 1 + more,
         n: pass.n + bytes.len(),
         plain: pass.plain & own,
@@ -75,12 +52,13 @@ fn go_past(family: Family, pass: Pass, own: bool, more: usize, bytes: &[u8], out
 
 // One unit, at a place inside the body: it refuses, or the pass goes past it.
 // Rules out: a number that is no character taken; a unit of two bytes taken for one (must-fail: no_character_taken, two_bytes_taken_for_one).
-fn take_unit(body: &[u8], family: Family, escape: &[u8], pass: Pass, out: &mut [u8]) -> Turn
-    requires { Ready family escape.now body.now pass }
-    ensures { Turns family escape.now body.now out.old pass result out.new }
+fn take_unit<F: EscapeFamily>(body: &[u8], family: &F, pass: Pass, out: &mut [u8]) -> Option<Pass>
+    requires { Ready (F.step family.now) (F.is_checked family.now) body.now pass }
+    ensures { Turns (F.step family.now) (F.is_checked family.now) body.now out.old pass result out.new }
 {
     let at = pass.at;
-    match unit_at(body, at, family, escape) {
+    // Stays: Refused is one of six cases of a unit, and no Err that `?` could pass on.
+    match unit_at(body, at, family) {
         Piece::Keep => go_past(family, pass, true, 0, &body[at..at + 1], out),
         Piece::Byte(byte, more) => {
             let one = [byte];
@@ -94,19 +72,24 @@ fn take_unit(body: &[u8], family: Family, escape: &[u8], pass: Pass, out: &mut [
             let mut four = [0u8; 4];
             let n = encode_utf8(scalar, &mut four);
             if (scalar == 0) | (n == 0) {
-                return Turn::Refused;
+                return None;
             }
             go_past(family, pass, false, more, &four[..n], out)
         }
-        Piece::Escape(more) => go_past(family, pass, false, more, escape, out),
-        Piece::Refused => Turn::Refused,
+        Piece::Escape(more) => go_past(family, pass, false, more, family.escape_bytes(), out),
+        Piece::Refused => None,
     }
 }
 
-// All units of a body: what its value is; and the value at the buffer's start, where there is room for all of it.
+// All units of a body: how long its value is, which stands at the buffer's start, where there is room for all of it; `None` where each byte stood for itself,
+// so that the value is the body. A refusal leaves the place at which reading stops.
 // Rules out: a place taken for a length (must-fail: place_for_length).
-pub(crate) fn pass_units(body: &[u8], family: Family, escape: &[u8], out: &mut [u8]) -> Measured
-    ensures { Passes (course_of family escape.now body.now) out.old result out.new }
+pub(crate) fn pass_units<F: EscapeFamily>(
+    body: &[u8],
+    family: &F,
+    out: &mut [u8],
+) -> Result<Option<usize>, usize>
+    ensures { Passes (course_by (F.step family.now) (F.is_checked family.now) body.now) out.old result out.new }
 {
     let mut pass = Pass {
         at: 0,
@@ -114,22 +97,19 @@ pub(crate) fn pass_units(body: &[u8], family: Family, escape: &[u8], out: &mut [
         plain: true,
         tail: Utf8Tail::Start,
     };
+    // Stays: no iterator counts these turns: how far each goes is what its unit takes.
     while pass.at < body.len() {
-        match take_unit(body, family, escape, pass, out) {
-            Turn::On(next) => {
-                pass = next;
-            }
-            Turn::Refused => {
-                return Measured::Refused(pass.at);
-            }
-        }
+        let Some(next) = take_unit(body, family, pass, out) else {
+            return Err(pass.at);
+        };
+        pass = next;
     }
     let tail = pass.tail;
     if !is_whole(tail) {
-        return Measured::Refused(pass.at);
+        return Err(pass.at);
     }
     if pass.plain {
-        return Measured::Plain;
+        return Ok(None);
     }
-    Measured::Length(pass.n)
+    Ok(Some(pass.n))
 }

@@ -2,12 +2,12 @@
 ghost use Rattle.std.specs.Prelude.{◌≡◌, false, ◌<◌, length, drop, ltb};
 ghost use Rattle.meaning.specs.Bytes.{digit};
 ghost use Rattle.std.specs.Prelude.{if◌then◌else◌};
-ghost use Rattle.meaning.specs.Steps.{standard_step, mysql, one_byte, escaped, escape_step, low_half, uescaped, unicode_step};
+ghost use Rattle.meaning.specs.Steps.{standard_step, mysql, one_byte, escaped, low_half, uescaped};
 ghost use Rattle.cutting.specs.Marks.{mark_of};
 ghost use Rattle.escapes.specs.Pieces.{Is, IsBy, letter_of, Behind, HighHalf};
-ghost use Rattle.escapes.specs.Families.{step_of};
 
 use crate::digits::{digits_at, eight_at, four_at, six_at};
+use crate::families::EscapeFamily;
 use crate::pieces::Piece;
 use cutting::marks::{Mark, mark_byte};
 use leaves::bytes::byte_at;
@@ -22,7 +22,7 @@ pub enum Family {
 }
 
 // What stands where no escape does: the mark, which doubled is one and alone refuses, or a byte that stands for itself.
-fn mark_unit(body: &[u8], at: usize, mark: Mark) -> Piece
+pub(crate) fn mark_unit(body: &[u8], at: usize, mark: Mark) -> Piece
     requires { at < length body.now }
     ensures { Is result (standard_step false (mark_of mark) (drop at body.now)) }
 {
@@ -38,7 +38,7 @@ fn mark_unit(body: &[u8], at: usize, mark: Mark) -> Piece
 
 // What follows MySQL's backslash, at a place.
 // Rules out: % without its backslash (must-fail: percent_loses_its_backslash).
-fn mysql_unit(body: &[u8], at: usize) -> Piece
+pub(crate) fn mysql_unit(body: &[u8], at: usize) -> Piece
     ensures { Is result (mysql (drop at body.now)) }
 {
     if body.len() <= at {
@@ -69,6 +69,7 @@ fn byte_unit(byte: u8, more: usize) -> Piece
 }
 
 // One of two bytes. A choice, and no jump, so that letters in any order are read at one pace.
+// Stays: a public function with its own clause; its name says at each call that a choice is meant, and no jump.
 // Rules out: the same for both; neither (must-fail: nothing_chosen, one_for_both).
 pub fn choose(test: bool, yes: u8, no: u8) -> u8
     ensures { result ≡ (if test then yes else no) }
@@ -92,6 +93,7 @@ pub fn escape_letter(letter: u8) -> u8
 }
 
 // Whether a byte is an octal digit.
+// Stays: a public function; no method of u8 tests octal digits.
 // Rules out: 8 taken for one; 0 taken for none (must-fail: eight_is_octal, zero_is_not_octal).
 pub fn is_octal(byte: u8) -> bool
     ensures { result ≡ ltb (digit byte) 8 }
@@ -153,7 +155,7 @@ fn low_half_unit(body: &[u8], at: usize, escape: &[u8], high: u32) -> Piece
 }
 
 // What follows the U& escape character, at a place.
-fn uescaped_unit(body: &[u8], at: usize, escape: &[u8]) -> Piece
+pub(crate) fn uescaped_unit(body: &[u8], at: usize, escape: &[u8]) -> Piece
     requires { Behind escape.now body.now at }
     ensures { IsBy escape.now result (uescaped escape.now (drop at body.now)) }
 {
@@ -174,49 +176,13 @@ fn uescaped_unit(body: &[u8], at: usize, escape: &[u8]) -> Piece
     Piece::Scalar(value, len + 3)
 }
 
-// The unit at a place inside a body, for each family.
-fn standard_unit(body: &[u8], at: usize, mark: Mark, backslash: bool) -> Piece
-    requires { at < length body.now }
-    ensures { Is result (standard_step backslash (mark_of mark) (drop at body.now)) }
-{
-    if backslash & (body[at] == 92) {
-        return mysql_unit(body, at + 1);
-    }
-    mark_unit(body, at, mark)
-}
-
-fn escape_unit(body: &[u8], at: usize) -> Piece
-    requires { at < length body.now }
-    ensures { Is result (escape_step (drop at body.now)) }
-{
-    if body[at] == 92 {
-        return escaped_unit(body, at + 1);
-    }
-    mark_unit(body, at, Mark::Quote)
-}
-
-// The mark is looked for before the escape character.
-fn unicode_unit(body: &[u8], at: usize, mark: Mark, escape: &[u8]) -> Piece
-    requires { at < length body.now }
-    ensures { IsBy escape.now result (unicode_step escape.now (mark_of mark) (drop at body.now)) }
-{
-    if (body[at] != mark_byte(mark)) & starts_at(body, at, escape) {
-        return uescaped_unit(body, at + escape.len(), escape);
-    }
-    mark_unit(body, at, mark)
-}
-
 // The unit at a place of a body; behind its end nothing stands, and nothing can be read.
-// Rules out: the unit at the start told; the body taken for the escape character (must-fail: body_for_escape, every_body_as_e, unit_at_the_start).
-pub fn unit_at(body: &[u8], at: usize, family: Family, escape: &[u8]) -> Piece
-    ensures { IsBy escape.now result (step_of family escape.now (drop at body.now)) }
+// Rules out: the unit at the start told; each unit refused (must-fail: unit_at_the_start, unit_refused).
+pub fn unit_at<F: EscapeFamily>(body: &[u8], at: usize, family: &F) -> Piece
+    ensures { IsBy (F.escape family.now) result (F.step family.now (drop at body.now)) }
 {
     if body.len() <= at {
         return Piece::Refused;
     }
-    match family {
-        Family::Standard { mark, backslash } => standard_unit(body, at, mark, backslash),
-        Family::Escape => escape_unit(body, at),
-        Family::Unicode { mark } => unicode_unit(body, at, mark, escape),
-    }
+    family.unit(body, at)
 }

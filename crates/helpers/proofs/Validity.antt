@@ -8,10 +8,12 @@ use native.Mathlib.Omega.{arith}
 use lib.Dec.{eqb, leb, ltb}
 use lib.ListN.{length, take, drop}
 use borrow.Author.Tests.{lt-ltb, not-true, not-false}
-use Rattle.meaning.specs.declared.Read.{Read}
-use Rattle.meaning.specs.declared.Read.TheVariants as Read'
+use Rattle.meaning.specs.declared.ReadText.{ReadText}
+use Rattle.meaning.specs.declared.ReadRefusal.{ReadRefusal}
+use Rattle.meaning.specs.declared.ReadText.TheVariants as ReadText'
+use Rattle.meaning.specs.declared.ReadRefusal.TheVariants as ReadRefusal'
 use Rattle.meaning.specs.Bytes.{◌!◌, part, quote}
-use Rattle.std.specs.Prelude.{if◌then◌else◌}
+use Rattle.std.specs.Prelude.{if◌then◌else◌, Result, Ok, Err}
 use Rattle.meaning.specs.Chars.{utf8}
 use Rattle.meaning.specs.Walk.{Trace, ended, stopped, kept, gave, walk, size, stops, plain, value}
 use Rattle.meaning.specs.Steps.{unicode_step}
@@ -34,11 +36,10 @@ use Rattle.spellings.specs.Spelled.{escape_of, spelling_by, Lexes}
 use Rattle.strings.specs.Answers.{lexeme_of}
 
 -- A BODY'S COURSE goes to its end where reading it, into whatever buffer, is not refused
-abbrev is_read : Read → Bool
-is_read (Read'.Borrowed f u) = true
-is_read (Read'.Written n) = true
-is_read (Read'.Refused p) = false
-is_read (Read'.NoRoom n) = true
+abbrev is_read : Result ReadText ReadRefusal → Bool
+is_read (Ok s) = true
+is_read (Err (ReadRefusal'.At p)) = false
+is_read (Err (ReadRefusal'.NoRoom n)) = true
 
 goes_on : (f u m : ℕ) (c : Trace) → is_read (read_of m (answer f u c)) ≡ not (stops c)
 unfolding answer
@@ -50,7 +51,7 @@ goes_on f u m c = go (plain c) (stops c) refl refl
     plain_goes (kept b c) h = plain_goes c h
     plain_goes (gave n out c) h = absurd (false≢true h)
 
-    room : (z : Bool) → is_read (if z then Read'.Written (length (value c)) else Read'.NoRoom (length (value c))) ≡ true
+    room : (z : Bool) → is_read (if z then Ok (ReadText'.Written (length (value c))) else Err (ReadRefusal'.NoRoom (length (value c)))) ≡ true
     room true = refl
     room false = refl
 
@@ -60,21 +61,18 @@ goes_on f u m c = go (plain c) (stops c) refl refl
     go false true p s = refl
     go false false p s = room (leb (length (value c)) m)
 
-module _ (f u : ℕ) (c : Trace) (none after : List ℕ) (r : Read) (k : Reads (answer f u c) none r after) where
-  reads_by : (s : Read) → r ≡ s → is_read s ≡ not (stops c)
+module _ (f u : ℕ) (c : Trace) (none after : List ℕ) (r : Result ReadText ReadRefusal) (k : Reads (answer f u c) none r after) where
+  reads_by : (s : Result ReadText ReadRefusal) → r ≡ s → is_read s ≡ not (stops c)
   reads_by s q = ap is_read (sym q ∙ k.answer) ∙ goes_on f u (length none) c
 
-  pub reads_borrowed : (a b : ℕ) → r ≡ Read'.Borrowed a b → true ≡ not (stops c)
-  reads_borrowed a b q = reads_by (Read'.Borrowed a b) q
+  pub reads_text : (s : ReadText) → r ≡ Ok s → true ≡ not (stops c)
+  reads_text s q = reads_by (Ok s) q
 
-  pub reads_written : (n : ℕ) → r ≡ Read'.Written n → true ≡ not (stops c)
-  reads_written n q = reads_by (Read'.Written n) q
+  pub reads_short : (n : ℕ) → r ≡ Err (ReadRefusal'.NoRoom n) → true ≡ not (stops c)
+  reads_short n q = reads_by (Err (ReadRefusal'.NoRoom n)) q
 
-  pub reads_short : (n : ℕ) → r ≡ Read'.NoRoom n → true ≡ not (stops c)
-  reads_short n q = reads_by (Read'.NoRoom n) q
-
-  pub reads_refused : (p : ℕ) → r ≡ Read'.Refused p → false ≡ not (stops c)
-  reads_refused p q = reads_by (Read'.Refused p) q
+  pub reads_refused : (p : ℕ) → r ≡ Err (ReadRefusal'.At p) → false ≡ not (stops c)
+  reads_refused p q = reads_by (Err (ReadRefusal'.At p)) q
 
 -- a text that is spelled with U&
 record Spelt (t : List ℕ) : Type 0 where
@@ -136,8 +134,8 @@ module _ (t : List ℕ) (x : Bool) (ex : x ≡ utf8 t) where
         let m = rw q at l in
         sym (unicode_by_lem ∙ ap (λ (w : Spelling). x && unicode_valid_as t w) (sym m.means) ∙ and-true x)
 
-    module _ (o : s ≡ Spelled'.Unspelt → ⊥) (none after : List ℕ) (r : Read) (k : Reads (lexeme_of quote t) none r after) where
-      by_reading : (a : Read) → r ≡ a → (x && is_read a) ≡ unicode_valid t
+    module _ (o : s ≡ Spelled'.Unspelt → ⊥) (none after : List ℕ) (r : Result ReadText ReadRefusal) (k : Reads (lexeme_of quote t) none r after) where
+      by_reading : (a : Result ReadText ReadRefusal) → r ≡ a → (x && is_read a) ≡ unicode_valid t
       unfolding lexeme_of
       by_reading a q =
           let p = spelt t s l o in
@@ -146,20 +144,17 @@ module _ (t : List ℕ) (x : Bool) (ex : x ≡ utf8 t) where
           subst (λ (w : Spelling). Reads (if_unicode (λ e f u. answer f u (walk (unicode_step e quote) 0 (part f u t))) (refused 0) w) none r after) p.is k in
           sym (unicode_by_lem ∙ ap (λ (w : Spelling). x && unicode_valid_as t w) p.is ∙ ap (x &&◌) (sym (reads_by p.from p.until c none after r g a q)))
 
-      read : (a : Read) → r ≡ a → is_read a ≡ true → x ≡ unicode_valid t
+      read : (a : Result ReadText ReadRefusal) → r ≡ a → is_read a ≡ true → x ≡ unicode_valid t
       read a q y = sym (and-true x) ∙ ap (x &&◌) (sym y) ∙ by_reading a q
 
-      pub unicode_borrowed : (f u : ℕ) → r ≡ Read'.Borrowed f u → x ≡ unicode_valid t
-      unicode_borrowed f u q = read (Read'.Borrowed f u) q refl
+      pub unicode_text : (s : ReadText) → r ≡ Ok s → x ≡ unicode_valid t
+      unicode_text s q = read (Ok s) q refl
 
-      pub unicode_written : (n : ℕ) → r ≡ Read'.Written n → x ≡ unicode_valid t
-      unicode_written n q = read (Read'.Written n) q refl
+      pub unicode_short : (n : ℕ) → r ≡ Err (ReadRefusal'.NoRoom n) → x ≡ unicode_valid t
+      unicode_short n q = read (Err (ReadRefusal'.NoRoom n)) q refl
 
-      pub unicode_short : (n : ℕ) → r ≡ Read'.NoRoom n → x ≡ unicode_valid t
-      unicode_short n q = read (Read'.NoRoom n) q refl
-
-      pub unicode_refused : (p : ℕ) → r ≡ Read'.Refused p → false ≡ unicode_valid t
-      unicode_refused p q = sym (and-false x) ∙ by_reading (Read'.Refused p) q
+      pub unicode_refused : (p : ℕ) → r ≡ Err (ReadRefusal'.At p) → false ≡ unicode_valid t
+      unicode_refused p q = sym (and-false x) ∙ by_reading (Err (ReadRefusal'.At p)) q
 
 pub argument_illegal : (t : List ℕ) (a : Argument) → a ≡ argument_of t → a ≡ Illegal → false ≡ uescape_legal t
 unfolding uescape_legal argument_of

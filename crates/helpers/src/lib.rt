@@ -14,7 +14,7 @@ use escapes::reading::read_units;
 use escapes::units::Family;
 use leaves::bytes::byte_at;
 use leaves::texts::is_enclosed;
-use meaning::{Identifier, Read};
+use meaning::{IdentifierError, ReadRefusal, ReadText, Text};
 use spellings::spelling::{Spelled, is_unicode_lexeme, unicode_lexeme};
 use strings::ident::{read_ident, read_lexeme};
 use uescape::{Argument, uescape_argument};
@@ -37,10 +37,9 @@ fn is_readable(body: &[u8], family: Family, escape: &[u8]) -> bool
 {
     let mut none = [0u8; 0];
     match read_units(body, family, escape, &mut none) {
-        Read::Borrowed { from: _, until: _ } => true,
-        Read::Written { len: _ } => true,
-        Read::Refused { place: _ } => false,
-        Read::NoRoom { needed: _ } => true,
+        Ok(_) => true,
+        Err(ReadRefusal::At { place: _ }) => false,
+        Err(ReadRefusal::NoRoom { needed: _ }) => true,
     }
 }
 
@@ -71,10 +70,9 @@ pub fn unicode_escape_string_is_valid(text: &[u8]) -> bool
     }
     let mut none = [0u8; 0];
     match read_lexeme(text, mark, &mut none) {
-        Read::Borrowed { from: _, until: _ } => utf8,
-        Read::Written { len: _ } => utf8,
-        Read::Refused { place: _ } => false,
-        Read::NoRoom { needed: _ } => utf8,
+        Ok(_) => utf8,
+        Err(ReadRefusal::At { place: _ }) => false,
+        Err(ReadRefusal::NoRoom { needed: _ }) => utf8,
     }
 }
 
@@ -88,19 +86,19 @@ pub fn is_unicode_ident(text: &[u8]) -> bool
 
 // Reads an identifier's text: a part of it, or so many bytes at the buffer's start. Not UTF-8 comes before all else that refuses.
 // Rules out: bytes that aren't UTF-8 told as a bad string; a length told where nothing is written (must-fail: bytes_pass, too_much_accepted).
-pub fn materialize_unicode_ident(text: &[u8], out: &mut [u8]) -> Identifier
+pub fn materialize_unicode_ident(text: &[u8], out: &mut [u8]) -> Result<Text, IdentifierError>
     ensures { Meets (identifier_question text.now out.old) result out.new }
 {
     if !is_utf8(text) {
-        return Identifier::NotUtf8;
+        return Err(IdentifierError::NotUtf8);
     }
     match read_ident(text, out) {
-        Read::Borrowed { from, until } => Identifier::Borrowed {
+        Ok(ReadText::Borrowed { from, until }) => Ok(Text::Borrowed {
             start: from,
             end: until,
-        },
-        Read::Written { len } => Identifier::Written { len },
-        Read::Refused { place: _ } => Identifier::InvalidString,
-        Read::NoRoom { needed } => Identifier::NoRoom { needed },
+        }),
+        Ok(ReadText::Written { len }) => Ok(Text::Written { len }),
+        Err(ReadRefusal::At { place: _ }) => Err(IdentifierError::InvalidString),
+        Err(ReadRefusal::NoRoom { needed }) => Err(IdentifierError::NoRoom { needed }),
     }
 }

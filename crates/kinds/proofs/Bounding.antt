@@ -10,10 +10,12 @@ use lib.ListN.{length, take, drop, length-take, length-drop}
 use lib.Seq.{length-take-le}
 use borrow.Author.Tests.{ltb-true}
 use Rattle.meaning.specs.declared.Settings.{Settings}
-use Rattle.meaning.specs.declared.Read.{Read}
-use Rattle.meaning.specs.declared.Read.TheVariants as Read'
+use Rattle.meaning.specs.declared.ReadText.{ReadText}
+use Rattle.meaning.specs.declared.ReadRefusal.{ReadRefusal}
+use Rattle.meaning.specs.declared.ReadText.TheVariants as ReadText'
+use Rattle.meaning.specs.declared.ReadRefusal.TheVariants as ReadRefusal'
 use Rattle.meaning.specs.Bytes.{◌!◌, ascii, has, starts, quote, in_tag}
-use Rattle.std.specs.Prelude.{if◌then◌else◌}
+use Rattle.std.specs.Prelude.{if◌then◌else◌, Result, Ok, Err}
 use Rattle.meaning.specs.Walk.{after, walk}
 use Rattle.meaning.specs.Steps.{gap}
 use Rattle.meaning.specs.Cutting.{segment, segment_by, segment_step, cut, continues}
@@ -138,16 +140,16 @@ joined_in σ zero (b ∷ t) = go (segment σ (b ∷ t)) (λ n. joined_in σ n t)
         (alone_bound σ (take (suc n) (b ∷ t))) (ih (n + gap (drop (suc n) (b ∷ t))))
 
 -- WHAT IS READ of a text of n bytes, as the code holds it
-abbrev pub ReadIn : ℕ → Read → Type 0
-ReadIn n (Read'.Borrowed f u) = Bounds n f u
-ReadIn n (Read'.Written m) = Unit {0}
-ReadIn n (Read'.Refused p) = p ≤ n
-ReadIn n (Read'.NoRoom m) = Unit {0}
+abbrev pub ReadIn : ℕ → Result ReadText ReadRefusal → Type 0
+ReadIn n (Ok (ReadText'.Borrowed f u)) = Bounds n f u
+ReadIn n (Ok (ReadText'.Written m)) = Unit {0}
+ReadIn n (Err (ReadRefusal'.At p)) = p ≤ n
+ReadIn n (Err (ReadRefusal'.NoRoom m)) = Unit {0}
 
 either : (m n : ℕ) (v : List ℕ) → ReadIn n (read_of m (written v))
 either m n v = go (leb (length v) m)
   where
-    go : (x : Bool) → ReadIn n (if x then Read'.Written (length v) else Read'.NoRoom (length v))
+    go : (x : Bool) → ReadIn n (if x then Ok (ReadText'.Written (length v)) else Err (ReadRefusal'.NoRoom (length v)))
     go true = tt
     go false = tt
 

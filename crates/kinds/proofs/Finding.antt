@@ -12,26 +12,15 @@ use borrow.Author.Tests.{eqb-true, eq-eqb, ne_eqb}
 use Rattle.meaning.specs.Bytes.{◌!◌, starts}
 use Rattle.std.specs.Prelude.{if◌then◌else◌}
 use Rattle.meaning.specs.Kinds.{first_place_of, last_by, past_last, place_by, found}
-use Rattle.leaves.proofs.RunSteps.{RunSoFar, run_more, run_stop, run_end}
-use Rattle.kinds.specs.Tokens.{unmarked, first_mark}
+use Rattle.std.specs.Prelude.{Some, None}
+use Rattle.kinds.specs.Tokens.{place_of, unmarked, first_mark}
 
--- THE FIRST MARK: a run of other bytes, i of them so far
-pub mark_none : (l : List ℕ) → RunSoFar unmarked l 0 0
-mark_none l = record { run = sym (zero-add (first_mark l)); within = omega arith }
+-- THE FIRST MARK: at a byte that is one, or behind one that is none
+pub mark_here : (b : ℕ) (t : List ℕ) → unmarked b ≡ false → first_mark (b ∷ t) ≡ 0
+mark_here b t e = rw e
 
-module _ (l : List ℕ) (i : ℕ) (s : RunSoFar unmarked l 0 i) where
-  pub mark_end : length l ≤ i → i ≡ first_mark l
-  mark_end h = run_end unmarked l 0 i s (omega arith)
-
-  module _ (h : i < length l) (b : ℕ) (eb : b ≡ l ! i) where
-    mark_at : (x : Bool) → (eqb b 39 || eqb b 36) ≡ x → not x ≡ unmarked (l ! (0 + i))
-    mark_at x e = rw (zero-add i, ← eb, e)
-
-    pub mark_here : (eqb b 39 || eqb b 36) ≡ true → i ≡ first_mark l
-    mark_here t = run_stop unmarked l 0 i s (omega arith) false (mark_at true t) refl
-
-    pub mark_more : (eqb b 39 || eqb b 36) ≡ false → RunSoFar unmarked l 0 (i + 1)
-    mark_more t = run_more unmarked l 0 i s (omega arith) true (mark_at false t) refl
+pub mark_more : (b : ℕ) (t : List ℕ) → unmarked b ≡ true → first_mark (b ∷ t) ≡ first_mark t + 1
+mark_more b t e = rw e (omega arith)
 
 -- ITS BYTE tells which of the two stands first. None stands at the end: the byte there is 0
 pub mark_dollar : (l : List ℕ) → l ! first_mark l ≡ 36 → (first_mark l ≡ first_place_of 36 l) × (first_place_of 36 l < first_place_of 39 l)
@@ -86,7 +75,7 @@ module _ (q : ℕ) (l : List ℕ) (i : ℕ) (s : LastBefore q l i) where
         ap (past_last q) (drop-cons l (i - 1) 0 (omega (arith, s.within)))
         ∙ ap (last_by (eqb (l ! (i - 1)) q)) (ap (λ (j : ℕ). past_last q (drop j l)) z ∙ s.none)
 
-    pub last_here : l ! (i - 1) ≡ q → i ≡ past_last q l
+    pub last_here : l ! (i - 1) ≡ q → i - 1 + 1 ≡ past_last q l
     last_here e = omega (arith, last_behind q l (i - 1) 0 (last_at ∙ rw (eq-eqb (l ! (i - 1)) q e)))
 
     pub last_less : (l ! (i - 1) ≡ q → ⊥) → LastBefore q l (i - 1)
@@ -114,8 +103,10 @@ found_start p l at =
     let z : at - at ≡ 0 = omega arith in record { rest = rw z (sym (further_none (found p (drop at l)))); from = omega arith }
 
 module _ (p l : List ℕ) (at i : ℕ) (s : FoundBehind p l at i) where
-  pub found_none : length l ≤ i → 0 ≡ found p (drop at l)
-  found_none h = sym (s.rest ∙ rw (drop_of_length-le l h))
+  pub found_none : length l ≤ i → None ≡ place_of (found p (drop at l))
+  found_none h =
+      let e : found p (drop at l) ≡ 0 = s.rest ∙ rw (drop_of_length-le l h) in
+      ap place_of (sym e)
 
   module _ (h : i < length l) (x : Bool) (ex : x ≡ starts p (drop i l)) where
     found_at : found p (drop i l) ≡ place_by x (found p (drop (suc i) l))
@@ -123,8 +114,11 @@ module _ (p l : List ℕ) (at i : ℕ) (s : FoundBehind p l at i) where
         ap (found p) (drop-cons l i 0 h)
         ∙ ap (λ (y : Bool). place_by y (found p (drop (suc i) l))) (sym (ex ∙ ap (starts p) (drop-cons l i 0 h)))
 
-    pub found_here : x ≡ true → i - at + 1 ≡ found p (drop at l)
-    found_here t = let z : suc (i - at + 0) ≡ i - at + 1 = omega arith in sym (s.rest ∙ rw (found_at, t) z)
+    pub found_here : x ≡ true → Some (i - at) ≡ place_of (found p (drop at l))
+    found_here t =
+        let z : suc (i - at + 0) ≡ suc (i - at) = omega arith in
+        let e : found p (drop at l) ≡ suc (i - at) = s.rest ∙ rw (found_at, t) z in
+        ap place_of (sym e)
 
     pub found_more : x ≡ false → FoundBehind p l at (i + 1)
     found_more t =

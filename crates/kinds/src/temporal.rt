@@ -3,86 +3,75 @@ ghost use Rattle.std.specs.Prelude.{◌≡◌, drop};
 ghost use Rattle.meaning.specs.Kinds.{past_last, found, dollar_token, token_start, quote_token, temporal_token, temporal};
 ghost use Rattle.meaning.specs.Reads.{Reads};
 ghost use Rattle.meaning.specs.Spelling.{delimiter};
-ghost use Rattle.kinds.specs.Tokens.{token_of, first_mark};
+ghost use Rattle.kinds.specs.Tokens.{token_of, place_of, first_mark};
 
 use leaves::bytes::byte_at;
 use leaves::names::is_dollar_tag_continue;
 use leaves::texts::starts_at;
-use meaning::{Read, Settings};
+use meaning::{ReadRefusal, ReadText, Settings};
 use spellings::spelling::dollar_open_delim_len;
 use strings::reading::read_bytes;
 
-// The string token of a temporal text, from a place up to another; or that there is none.
+// The string token of a temporal text, from a place up to another.
 #[derive(Clone, Copy)]
-pub(crate) enum Token {
-    Found { from: usize, until: usize },
-    Nothing,
+pub(crate) struct Token {
+    pub from: usize,
+    pub until: usize,
 }
 
 // The place of the first ' or $; the length if there is none.
+// Stays: the definition `first_mark` is a number, and this public function answers it for every text.
 // Rules out: " taken for '; % taken for $ (must-fail: one_for_another, other_sign).
 pub fn first_mark(text: &[u8]) -> usize
     ensures { result ≡ first_mark text.now }
 {
-    let mut i: usize = 0;
-    while i < text.len() {
-        let byte = text[i];
-        if (byte == 39) | (byte == 36) {
-            return i;
-        }
-        i += 1;
-    }
-    i
+    text.iter()
+        .position(|byte| (*byte == 39) | (*byte == 36))
+        .unwrap_or(text.len())
 }
 
 // One past the place of the last such byte, sought from the end; 0 if there is none.
+// Stays: `quote_token` of specs/Kinds, which takes any text, has the token end at 0 where there is none.
 // Rules out: the first mark taken for the last (must-fail: one_for_another).
 fn past_last(text: &[u8], byte: u8) -> usize
     ensures { result ≡ past_last byte text.now }
 {
-    let mut i = text.len();
-    while 0 < i {
-        if text[i - 1] == byte {
-            return i;
+    for place in (0..text.len()).rev() {
+        if text[place] == byte {
+            return place + 1;
         }
-        i -= 1;
     }
     0
 }
 
-// One more than the bytes between a place and where a text next stands; 0 if it stands nowhere behind. A delimiter has its $ at its ends alone: no byte is
+// How many bytes lie between a place and where a text next stands; None if it stands nowhere behind. A delimiter has its $ at its ends alone: no byte is
 // compared more than twice.
-fn found_from(text: &[u8], at: usize, wanted: &[u8]) -> usize
-    ensures { result ≡ found wanted.now (drop at text.now) }
+fn found_from(text: &[u8], at: usize, wanted: &[u8]) -> Option<usize>
+    ensures { result ≡ place_of (found wanted.now (drop at text.now)) }
 {
-    let mut i = at;
-    while i < text.len() {
-        if starts_at(text, i, wanted) {
-            return i - at + 1;
+    for place in at..text.len() {
+        if starts_at(text, place, wanted) {
+            return Some(place - at);
         }
-        i += 1;
     }
-    0
+    None
 }
 
 // The dollar token at a place, to its first close.
 // Rules out: the opening of a dollar token taken for its close (must-fail: one_for_another).
-fn dollar_token(text: &[u8], at: usize) -> Token
+fn dollar_token(text: &[u8], at: usize) -> Option<Token>
     ensures { result ≡ token_of (dollar_token at (drop at text.now) (delimiter (drop at text.now))) }
 {
     let len = dollar_open_delim_len(text, at);
     if len == 0 {
-        return Token::Nothing;
+        return None;
     }
     let body = at + len;
-    let found = found_from(text, body, &text[at..body]);
-    if found == 0 {
-        return Token::Nothing;
-    }
-    Token::Found {
+    let found = found_from(text, body, &text[at..body])?;
+    Some(Token {
         from: at,
-        until: body + (found - 1) + len,
-    }
+        until: body + found + len,
+    })
 }
 
 // Where a token begins whose first quote mark is given: at an E before the mark, unless a tag byte stands before the E.
@@ -108,21 +97,21 @@ fn token_start(text: &[u8], quote: usize) -> usize
 }
 
 // The token whose first quote mark is given, to the last one.
-fn quote_token(text: &[u8], quote: usize) -> Token
+fn quote_token(text: &[u8], quote: usize) -> Option<Token>
     ensures { result ≡ token_of (quote_token quote text.now) }
 {
     if text.len() <= quote {
-        return Token::Nothing;
+        return None;
     }
-    Token::Found {
+    Some(Token {
         from: token_start(text, quote),
         until: past_last(text, 39),
-    }
+    })
 }
 
 // The string token, by its first mark: by $ if a $ precedes any ', otherwise by '.
 // Rules out: a token in quotes read as a dollar token (must-fail: quote_read_as_dollar).
-fn temporal_token(text: &[u8]) -> Token
+fn temporal_token(text: &[u8]) -> Option<Token>
     ensures { result ≡ token_of (temporal_token text.now) }
 {
     let at = first_mark(text);
@@ -135,26 +124,32 @@ fn temporal_token(text: &[u8]) -> Token
 // Reads a temporal text: its string token, read as a string at the setting, at the token's place of the text.
 // Rules out: the setting lost, on or off; a range or a place told within the token; no token told behind the start (must-fail: range_within_the_token,
 // setting_lost, setting_on, place_within_the_token, no_token_behind_the_start).
-pub fn read_temporal(text: &[u8], settings: Settings, out: &mut [u8]) -> Read
+pub fn read_temporal(
+    text: &[u8],
+    settings: Settings,
+    out: &mut [u8],
+) -> Result<ReadText, ReadRefusal>
     ensures { Reads (temporal settings text.now) out.old result out.new }
 {
     match temporal_token(text) {
-        Token::Found { from, until } => {
+        Some(Token { from, until }) => {
             match read_bytes(&text[from..until], settings, out) {
-                Read::Borrowed {
-                    from: start,
-                    until: end,
-                } => Read::Borrowed {
+                Ok(
+                    ReadText::Borrowed {
+                        from: start,
+                        until: end,
+                    },
+                ) => Ok(ReadText::Borrowed {
                     from: from + start,
                     until: from + end,
-                },
-                Read::Written { len } => Read::Written { len },
-                Read::Refused { place } => Read::Refused {
+                }),
+                Ok(ReadText::Written { len }) => Ok(ReadText::Written { len }),
+                Err(ReadRefusal::At { place }) => Err(ReadRefusal::At {
                     place: from + place,
-                },
-                Read::NoRoom { needed } => Read::NoRoom { needed },
+                }),
+                Err(ReadRefusal::NoRoom { needed }) => Err(ReadRefusal::NoRoom { needed }),
             }
         }
-        Token::Nothing => Read::Refused { place: 0 },
+        None => Err(ReadRefusal::At { place: 0 }),
     }
 }

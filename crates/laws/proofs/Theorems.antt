@@ -22,16 +22,12 @@ use Rattle.meaning.specs.declared.LiteralExpected.TheVariants as Expected
 use Rattle.meaning.specs.declared.Refusal.TheVariants.{WrongKind, NotUtf8, InvalidString, NoRoom, InvalidDate}
 use Rattle.meaning.specs.declared.Text.{Text}
 use Rattle.meaning.specs.declared.Text.TheVariants as Text
-use Rattle.meaning.specs.declared.Identifier.{Identifier}
-use Rattle.meaning.specs.declared.Writing.TheVariants as Writing
+use Rattle.meaning.specs.declared.WritingError.TheVariants as WritingError
 use Rattle.meaning.specs.declared.CalendarDay.{CalendarDay}
-use Rattle.meaning.specs.declared.Day.TheVariants as Day
-use Rattle.meaning.specs.declared.Dated.{Dated}
-use Rattle.meaning.specs.declared.Dated.TheVariants as Dated
 use Rattle.meaning.specs.declared.BitStringRadix.{BitStringRadix}
-use Rattle.meaning.specs.declared.PackedBits.TheVariants as Packed
-use Rattle.meaning.specs.declared.BitWriting.TheVariants as BitWriting
-use Rattle.meaning.specs.declared.Read.{Read}
+use Rattle.meaning.specs.declared.BitWritingError.TheVariants as BitWritingError
+use Rattle.meaning.specs.declared.ReadText.{ReadText}
+use Rattle.meaning.specs.declared.ReadRefusal.{ReadRefusal}
 use Rattle.meaning.specs.declared.Item.{Item}
 use Rattle.meaning.specs.declared.Four.{Four}
 use Rattle.meaning.specs.Bytes.{◌!◌, part, within, is_mark, quote, backslash, digits, digit, number, has, starts}
@@ -169,6 +165,10 @@ use Rattle.laws.proofs.room.Called as RoomCalled
 use Rattle.laws.proofs.tables.Starred as Starred
 use Rattle.laws.proofs.tables.Controls as Controls
 use Rattle.laws.proofs.tables.Controls.{Program, Telling, WritesAt, ShutOut}
+use Rattle.std.specs.Prelude.{Result, Ok, Err}
+use Rattle.std.specs.Prelude.{Some, None}
+use Rattle.meaning.specs.declared.IdentifierError.{IdentifierError}
+use Rattle.meaning.specs.Answers.{packed_at}
 
 -- THE ORDER, DEMAND 1
 -- "Every question ends for every kind, span, source and buffer, with an answer or a numbered refusal from document 01, and asks no caller to have checked":
@@ -210,13 +210,13 @@ pub encodes_unique : (cs ds : List ℕ) → encodes cs ≡ encodes ds → AllSca
 encodes_unique = Sequences.encodes_unique
 
 -- "What our writer writes reads back as its value at the same setting." In a span of any source; a text of but two bytes more than the value needs no room
-pub writer_round_trip : (σ : Settings) (size : PartSize) (v out : List ℕ) (n : ℕ) → (write_question σ size v out).answer ≡ Writing.Written n
+pub writer_round_trip : (σ : Settings) (size : PartSize) (v out : List ℕ) (n : ℕ) → (write_question σ size v out).answer ≡ Ok n
     → (l : Literal) (S d : List ℕ) → is_string l.kind ≡ true → Spans l S (take n (write_question σ size v out).buffer)
     → (length v + 2 < n → length v ≤ length d) → Answered S v (string_question l S σ d)
 writer_round_trip = RoundTrip.writer_round_trip
 
 -- the same of what calls return, whatever their contracts permit; of the C exports: `valdrabus`, `Demands`
-pub round_trip_calls : (σ : Settings) (size : PartSize) (v : List ℕ) (w : WriterCall σ size v) (n : ℕ) → w.result ≡ Writing.Written n
+pub round_trip_calls : (σ : Settings) (size : PartSize) (v : List ℕ) (w : WriterCall σ size v) (n : ℕ) → w.result ≡ Ok n
     → (c : StringCall σ (take n w.after)) → (length v + 2 < n → length v ≤ length c.lent) → Shows c v
 round_trip_calls = Calls.round_trip_calls
 
@@ -225,7 +225,7 @@ round_trip_calls = Calls.round_trip_calls
 -- character between. If the whole fits a span and the buffer has room, it is accepted and means A's value followed by B's."
 pub joining_law : (σ : Settings) (A G B v w : List ℕ) → Complete σ A v → Gap G → Complete σ B w → is_mark (B ! 0) ≡ true
     → (l : Literal) (S out : List ℕ) → is_string l.kind ≡ true → Spans l S (A ++ (G ++ B)) → length (v ++ w) ≤ length out
-    → string_question l S σ out ≡ record { answer = Text.Written (length (v ++ w)); buffer = (v ++ w) ++ drop (length (v ++ w)) out }
+    → string_question l S σ out ≡ record { answer = Ok (Text.Written (length (v ++ w))); buffer = (v ++ w) ++ drop (length (v ++ w)) out }
 joining_law = JoiningLaw.joining_law
 
 pub joining_calls : (σ : Settings) (A G B v w : List ℕ) (a : StringCall σ A) (b : StringCall σ B) → Shows a v → Shows b w → complete σ A ≡ true
@@ -285,7 +285,7 @@ utf8_uncut = Sequences.utf8_uncut
 
 -- "4: text [..] not UTF-8"
 pub string_not_utf8 : (l : Literal) (S t : List ℕ) (σ : Settings) (out : List ℕ) → is_string l.kind ≡ true → Spans l S t → utf8 t ≡ false
-    → (string_question l S σ out).answer ≡ Text.Refused (NotUtf8 l.span)
+    → (string_question l S σ out).answer ≡ Err (NotUtf8 l.span)
 string_not_utf8 = Asked.string_question_not_utf8
 
 -- "12: value over 268,435,456 bytes, or part size below 4"
@@ -419,10 +419,10 @@ written_text_length = WriterText.written_text_length
 
 -- what it accepts it writes, where there is room, and nothing else
 pub writer_answers : (σ : Settings) (size : PartSize) (v out : List ℕ) → Accepted σ size v → length (written_text σ size v) ≤ length out
-    → (write_question σ size v out).answer ≡ Writing.Written (length (written_text σ size v))
+    → (write_question σ size v out).answer ≡ Ok (length (written_text σ size v))
 writer_answers = RoundTrip.writer_answers
 
-pub written_accepted : (σ : Settings) (size : PartSize) (v out : List ℕ) (n : ℕ) → (write_question σ size v out).answer ≡ Writing.Written n → Accepted σ size v
+pub written_accepted : (σ : Settings) (size : PartSize) (v out : List ℕ) (n : ℕ) → (write_question σ size v out).answer ≡ Ok n → Accepted σ size v
 written_accepted = RoundTrip.written_accepted
 
 -- DOCUMENT 01, RECORD PROGRAM
@@ -446,7 +446,7 @@ starred_hold = Starred.starred_hold
 pub meets_unique : {A : Type 0} (o : Outcome A) (r r' : A) (d d' : List ℕ) → Meets o r d → Meets o r' d' → Same r r' d d'
 meets_unique = Determined.meets_unique
 
-pub reads_unique : (a : Answer) (out : List ℕ) (r r' : Read) (d d' : List ℕ) → Reads a out r d → Reads a out r' d' → Same r r' d d'
+pub reads_unique : (a : Answer) (out : List ℕ) (r r' : Result ReadText ReadRefusal) (d d' : List ℕ) → Reads a out r d → Reads a out r' d' → Same r r' d d'
 reads_unique = Determined.reads_unique
 
 pub part_unique : (v : List ℕ) (place : ℕ × ℕ) (r r' : Bor (List ℕ)) → IsPart v place r → IsPart v place r' → SamePart r r'
@@ -469,24 +469,24 @@ number_lt = Digits.number_lt
 
 -- DOCUMENT 02, T-01
 -- "What either writes reads back as the value, proved once over the two": E and U& literals, at every setting
-pub form_round_trip : (f : Form) (v out : List ℕ) (n : ℕ) → (form_question f v out).answer ≡ Writing.Written n → (σ : Settings) (l : Literal) (S d : List ℕ)
+pub form_round_trip : (f : Form) (v out : List ℕ) (n : ℕ) → (form_question f v out).answer ≡ Ok n → (σ : Settings) (l : Literal) (S d : List ℕ)
     → is_string l.kind ≡ true → Spans l S (take n (form_question f v out).buffer) → (length v + suc (length (form_opening f)) < n → length v ≤ length d)
     → Answered S v (string_question l S σ d)
 form_round_trip = FormRoundTrip.form_round_trip
 
 -- "Refusals: 12, 4, 11 (any NUL, at either setting), 9, in that order.": each whatever the later ones would say
 module _ (f : Form) (v out : List ℕ) where
-  pub form_limit : 268435456 < length v → form_question f v out ≡ record { answer = Writing.OverLimit; buffer = out }
+  pub form_limit : 268435456 < length v → form_question f v out ≡ record { answer = Err WritingError.OverLimit; buffer = out }
   form_limit = FormRoundTrip.form_limit f v out
 
-  pub form_utf8 : length v ≤ 268435456 → utf8 v ≡ false → form_question f v out ≡ record { answer = Writing.NotUtf8; buffer = out }
+  pub form_utf8 : length v ≤ 268435456 → utf8 v ≡ false → form_question f v out ≡ record { answer = Err WritingError.NotUtf8; buffer = out }
   form_utf8 = FormRoundTrip.form_utf8 f v out
 
-  pub form_nul : length v ≤ 268435456 → utf8 v ≡ true → has 0 v ≡ true → form_question f v out ≡ record { answer = Writing.HoldsNul; buffer = out }
+  pub form_nul : length v ≤ 268435456 → utf8 v ≡ true → has 0 v ≡ true → form_question f v out ≡ record { answer = Err WritingError.HoldsNul; buffer = out }
   form_nul = FormRoundTrip.form_nul f v out
 
   pub form_room : FormAccepted v → length out < length (form_text f v)
-      → form_question f v out ≡ record { answer = Writing.NoRoom (length (form_text f v)); buffer = out }
+      → form_question f v out ≡ record { answer = Err (WritingError.NoRoom (length (form_text f v))); buffer = out }
   form_room = FormRoundTrip.form_room f v out
 
   pub form_leaves : WritingLeaves out (form_question f v out).answer (form_question f v out).buffer
@@ -572,7 +572,7 @@ block_one = BlockCalls.call_one
 -- the same of what calls return: an item's single call, in the room behind the bytes that are told as written before it, tells, writes and shows the same.
 -- "A borrowed start is in the source, a written one in the buffer": `four_shown`
 module _ (a : List ℕ) (k g s e : ℕ) (b S : List ℕ) (f : length a % 4 ≡ 0) (c : BlockCall (a ++ (k ∷ (g ∷ (s ∷ (e ∷ b))))) S) (z : c.result ≡ 0) where
-  pub block_calls : is_known k 0 g ≡ true → (r : Text) (d : List ℕ)
+  pub block_calls : is_known k 0 g ≡ true → (r : Result Text Refusal) (d : List ℕ)
       → Meets (string_question (literal_of k 0 s e) S (settings_of g) (drop (room_from c (length a)) c.lent)) r d → Returned c (length a) r d
   block_calls = BlockReturns.block_calls a k g s e b S f c z
 
@@ -642,7 +642,7 @@ module _ (l : Literal) (S t : List ℕ) (σ : Settings) (out : List ℕ) (k : is
   pub place_told_lem : utf8 t ≡ true → (p : ℕ) → read σ t ≡ refused p → string_question l S σ out ≡ stopped_at l.span p out
   place_told_lem = PlaceTold.place_told_lem l S t σ out k h
 
-  pub told_place : (sp : Span) (p : ℕ) → (string_question l S σ out).answer ≡ Text.Refused (InvalidString sp p)
+  pub told_place : (sp : Span) (p : ℕ) → (string_question l S σ out).answer ≡ Err (InvalidString sp p)
       → (sp ≡ l.span) × (utf8 t ≡ true) × (read σ t ≡ refused p)
   told_place = PlaceTold.told_place l S t σ out k h
 
@@ -726,39 +726,39 @@ module _ (l : Literal) (S t out : List ℕ) (k : is_temporal l.kind ≡ true) (h
   pub temporal_place_told : utf8 t ≡ true → (p : ℕ) → temporal off t ≡ refused p → temporal_question l S out ≡ stopped_at l.span p out
   temporal_place_told = PlaceTold.temporal_place_told l S t out k h
 
-  pub temporal_told_place : (sp : Span) (p : ℕ) → (temporal_question l S out).answer ≡ Text.Refused (InvalidString sp p)
+  pub temporal_told_place : (sp : Span) (p : ℕ) → (temporal_question l S out).answer ≡ Err (InvalidString sp p)
       → (sp ≡ l.span) × (utf8 t ≡ true) × (temporal off t ≡ refused p)
   temporal_told_place = PlaceTold.temporal_told_place l S t out k h
 
 -- the same of what calls return; of the C exports: `valdrabus`, `PlaceExports`
 pub place_calls : {σ : Settings} {t : List ℕ} (c : StringCall σ t) → utf8 t ≡ true → (p : ℕ) → read σ t ≡ refused p
-    → (c.result ≡ Text.Refused (InvalidString c.literal.span p)) × (c.after ≡ c.lent)
+    → (c.result ≡ Err (InvalidString c.literal.span p)) × (c.after ≡ c.lent)
 place_calls = PlaceTold.place_calls
 
-pub calls_place : {σ : Settings} {t : List ℕ} (c : StringCall σ t) (sp : Span) (p : ℕ) → c.result ≡ Text.Refused (InvalidString sp p)
+pub calls_place : {σ : Settings} {t : List ℕ} (c : StringCall σ t) (sp : Span) (p : ℕ) → c.result ≡ Err (InvalidString sp p)
     → (sp ≡ c.literal.span) × (utf8 t ≡ true) × (read σ t ≡ refused p)
 calls_place = PlaceTold.calls_place
 
 pub temporal_place_calls : {t : List ℕ} (c : TemporalCall t) → utf8 t ≡ true → (p : ℕ) → temporal off t ≡ refused p
-    → (c.result ≡ Text.Refused (InvalidString c.literal.span p)) × (c.after ≡ c.lent)
+    → (c.result ≡ Err (InvalidString c.literal.span p)) × (c.after ≡ c.lent)
 temporal_place_calls = PlaceTold.temporal_place_calls
 
-pub temporal_calls_place : {t : List ℕ} (c : TemporalCall t) (sp : Span) (p : ℕ) → c.result ≡ Text.Refused (InvalidString sp p)
+pub temporal_calls_place : {t : List ℕ} (c : TemporalCall t) (sp : Span) (p : ℕ) → c.result ≡ Err (InvalidString sp p)
     → (sp ≡ c.literal.span) × (utf8 t ≡ true) × (temporal off t ≡ refused p)
 temporal_calls_place = PlaceTold.temporal_calls_place
 
 -- calls on the first segments were answered (`Taken`), and the call on the next was refused at q
 pub joined_place_calls : (σ : Settings) (s : List ℕ) (ps : List (Further σ)) (p : Further σ) (rest : List ℕ) → Whole σ s → Cuts.Each (Taken σ) (segments s ps)
-    → (d : StringCall σ p.text) (sp : Span) (q : ℕ) → d.result ≡ Text.Refused (InvalidString sp q) → is_mark (rest ! 0) ≡ false
+    → (d : StringCall σ p.text) (sp : Span) (q : ℕ) → d.result ≡ Err (InvalidString sp q) → is_mark (rest ! 0) ≡ false
     → is_mark (second (ps ++ (p ∷ [])) rest ! 0) ≡ true → (c : StringCall σ (strung s (ps ++ (p ∷ [])) rest))
     → utf8 (strung s (ps ++ (p ∷ [])) rest) ≡ true
-    → (c.result ≡ Text.Refused (InvalidString c.literal.span (length (strung s ps p.gap) + q))) × (c.after ≡ c.lent)
+    → (c.result ≡ Err (InvalidString c.literal.span (length (strung s ps p.gap) + q))) × (c.after ≡ c.lent)
 joined_place_calls = PlaceTold.joined_calls
 
 pub remainder_place_calls : (σ : Settings) (s : List ℕ) (ps : List (Further σ)) (rest : List ℕ) → Whole σ s → Cuts.Each (Taken σ) (segments s ps)
     → is_mark (rest ! 0) ≡ false → segment σ (trim rest) ≡ 0 → 0 < length (trim rest) → is_mark (second ps rest ! 0) ≡ true
     → (c : StringCall σ (strung s ps rest)) → utf8 (strung s ps rest) ≡ true
-    → (c.result ≡ Text.Refused (InvalidString c.literal.span (length (strung s ps []) + gap rest))) × (c.after ≡ c.lent)
+    → (c.result ≡ Err (InvalidString c.literal.span (length (strung s ps []) + gap rest))) × (c.after ≡ c.lent)
 remainder_place_calls = PlaceTold.remainder_calls
 
 -- "T-03 puts the place in its start field": of an item of a block call that is answered
@@ -816,43 +816,43 @@ pub back_number : (n : ℕ) → 1 ≤ n → n ≤ last_day
     × ((date_of n).number ≡ n)
 back_number = Calendar.back_number
 
-pub number_found : (n : ℕ) → 1 ≤ n → n ≤ last_day → day_question n ≡ Day.On (date_of n)
+pub number_found : (n : ℕ) → 1 ≤ n → n ≤ last_day → day_question n ≡ Some (date_of n)
 number_found = Calendar.day_found
 
-pub number_outside : (n : ℕ) → (n ≡ 0) ⊎ (last_day < n) → day_question n ≡ Day.InvalidDate
+pub number_outside : (n : ℕ) → (n ≡ 0) ⊎ (last_day < n) → day_question n ≡ None
 number_outside = Calendar.day_outside
 
 -- "exactly ten bytes, yyyy-mm-dd, years 0001 to 9999": a value is a date exactly if it is the ten bytes of a day
-pub spelled_date : (y m d : ℕ) → is_day y m d ≡ true → day_in (spelled_day y m d) ≡ Day.On (calendar_day y m d)
+pub spelled_date : (y m d : ℕ) → is_day y m d ≡ true → day_in (spelled_day y m d) ≡ Some (calendar_day y m d)
 spelled_date = DateSpelt.spelled_date
 
-pub date_spelled : (v : List ℕ) (c : CalendarDay) → day_in v ≡ Day.On c
+pub date_spelled : (v : List ℕ) (c : CalendarDay) → day_in v ≡ Some c
     → (is_day c.year c.month c.day ≡ true) × (v ≡ spelled_day c.year c.month c.day) × (c ≡ calendar_day c.year c.month c.day)
 date_spelled = DateSpelt.date_spelled
 
 -- "For Date literals, answer year, month, day and a day number, from the decoded value [..] then 14 for a value that is no such date"
 module _ (l : Literal) (S t : List ℕ) (k : is_date_kind l.kind ≡ true) (h : Spans l S t) (u : utf8 t ≡ true) where
-  pub date_on : (c : CalendarDay) → (date_question l S ≡ Dated.On c) ↔ DayOf t c
+  pub date_on : (c : CalendarDay) → (date_question l S ≡ Ok c) ↔ DayOf t c
   date_on = DateAsked.date_on l S t k h u
 
   pub date_fourteen : (sp : Span)
-      → (date_question l S ≡ Dated.Refused (InvalidDate sp))
+      → (date_question l S ≡ Err (InvalidDate sp))
       ↔ ((sp ≡ l.span) × (v : List ℕ) × (value_of t (temporal off t) ≡ means v) × (is_date v ≡ false))
   date_fourteen = DateAsked.date_fourteen l S t k h u
 
 -- "Refusals: 1 (kind not Date), 2, 3, 4, 6, then 14": no other; 2 to 6 where the temporal question gives them, whatever buffer it is lent, at the same place
-pub date_wrong_kind : (l : Literal) (S : List ℕ) → is_date_kind l.kind ≡ false → date_question l S ≡ Dated.Refused (WrongKind Expected.Date l.kind)
+pub date_wrong_kind : (l : Literal) (S : List ℕ) → is_date_kind l.kind ≡ false → date_question l S ≡ Err (WrongKind Expected.Date l.kind)
 date_wrong_kind = DateAsked.date_wrong_kind
 
 pub date_numbers_lem : (l : Literal) (S : List ℕ) → has (dated_number (date_question l S)) date_numbers ≡ true
 date_numbers_lem = DateAsked.date_numbers_lem
 
 module _ (l : Literal) (S out : List ℕ) (k : is_date_kind l.kind ≡ true) where
-  pub date_shared : (r : Refusal) → refusal_number r ≤ 8 → (date_question l S ≡ Dated.Refused r) ↔ ((temporal_question l S out).answer ≡ Text.Refused r)
+  pub date_shared : (r : Refusal) → refusal_number r ≤ 8 → (date_question l S ≡ Err r) ↔ ((temporal_question l S out).answer ≡ Err r)
   date_shared = DateAsked.date_shared l S out k
 
   pub date_six : (sp : Span) (p : ℕ)
-      → (date_question l S ≡ Dated.Refused (InvalidString sp p)) ↔ ((temporal_question l S out).answer ≡ Text.Refused (InvalidString sp p))
+      → (date_question l S ≡ Err (InvalidString sp p)) ↔ ((temporal_question l S out).answer ≡ Err (InvalidString sp p))
   date_six = DateAsked.date_six l S out k
 
   pub date_shown : text_number (temporal_question l S out).answer ≡ 0
@@ -862,7 +862,7 @@ module _ (l : Literal) (S out : List ℕ) (k : is_date_kind l.kind ≡ true) whe
 -- "Joined segments count as one value": the same value gives the same day, and a token that is joined has the joined value
 pub date_same_value : (l l' : Literal) (S S' t t' : List ℕ) → is_date_kind l.kind ≡ true → is_date_kind l'.kind ≡ true → Spans l S t → Spans l' S' t'
     → utf8 t ≡ true → utf8 t' ≡ true → value_of t (temporal off t) ≡ value_of t' (temporal off t') → (c : CalendarDay)
-    → (date_question l S ≡ Dated.On c) ↔ (date_question l' S' ≡ Dated.On c)
+    → (date_question l S ≡ Ok c) ↔ (date_question l' S' ≡ Ok c)
 date_same_value = DateAsked.date_same_value
 
 pub date_joined : (t : List ℕ) (f u : ℕ) (A G B v w : List ℕ) → temporal_token t ≡ token f u → part f u t ≡ A ++ (G ++ B) → Complete off A v → Gap G
@@ -872,7 +872,7 @@ date_joined = DateJoined.date_joined
 
 pub date_same_day : (w a g b : List ℕ) → TwoOf w a g b → (l l' : Literal) (S S' : List ℕ) → is_date_kind l.kind ≡ true → is_date_kind l'.kind ≡ true
     → Spans l S (w ++ (quoted a ++ (g ++ quoted b))) → Spans l' S' (w ++ quoted (a ++ b)) → utf8 (w ++ (quoted a ++ (g ++ quoted b))) ≡ true
-    → utf8 (w ++ quoted (a ++ b)) ≡ true → (c : CalendarDay) → (date_question l S ≡ Dated.On c) ↔ (date_question l' S' ≡ Dated.On c)
+    → utf8 (w ++ quoted (a ++ b)) ≡ true → (c : CalendarDay) → (date_question l S ≡ Ok c) ↔ (date_question l' S' ≡ Ok c)
 date_same_day = DateJoined.same_day
 
 -- two sources in neither of which the span gives 3, agreeing inside it, get the same answer
@@ -881,43 +881,43 @@ date_sources = Sources.date_question_same
 
 -- the same of what calls return; of the C exports: `valdrabus`, `DateExports`
 module _ {t : List ℕ} (a : DateCall t) (u : utf8 t ≡ true) where
-  pub on_calls : (c : CalendarDay) → (a.result ≡ Dated.On c) ↔ DayOf t c
+  pub on_calls : (c : CalendarDay) → (a.result ≡ Ok c) ↔ DayOf t c
   on_calls = DateCalled.on_calls a u
 
   pub fourteen_calls : (sp : Span)
-      → (a.result ≡ Dated.Refused (InvalidDate sp))
+      → (a.result ≡ Err (InvalidDate sp))
       ↔ ((sp ≡ a.literal.span) × (v : List ℕ) × (value_of t (temporal off t) ≡ means v) × (is_date v ≡ false))
   fourteen_calls = DateCalled.fourteen_calls a u
 
-pub order_calls : (l l' : Literal) (S S' : List ℕ) (r r' : Dated) → r ≡ date_question l S → r' ≡ date_question l' S' → (c d : CalendarDay) → r ≡ Dated.On c
-    → r' ≡ Dated.On d → Earlier c.year c.month c.day d.year d.month d.day ↔ (c.number < d.number)
+pub order_calls : (l l' : Literal) (S S' : List ℕ) (r r' : Result CalendarDay Refusal) → r ≡ date_question l S → r' ≡ date_question l' S' → (c d : CalendarDay) → r ≡ Ok c
+    → r' ≡ Ok d → Earlier c.year c.month c.day d.year d.month d.day ↔ (c.number < d.number)
 order_calls = DateCalled.order_calls
 
-pub back_calls : (l : Literal) (S : List ℕ) (r : Dated) → r ≡ date_question l S → (c : CalendarDay) → r ≡ Dated.On c → (a : DayCall c.number)
-    → a.result ≡ Day.On c
+pub back_calls : (l : Literal) (S : List ℕ) (r : Result CalendarDay Refusal) → r ≡ date_question l S → (c : CalendarDay) → r ≡ Ok c → (a : DayCall c.number)
+    → a.result ≡ Some c
 back_calls = DateCalled.back_calls
 
 pub number_calls : {n : ℕ} (a : DayCall n) → 1 ≤ n → n ≤ last_day
-    → (a.result ≡ Day.On (date_of n)) × (is_day (date_of n).year (date_of n).month (date_of n).day ≡ true)
+    → (a.result ≡ Some (date_of n)) × (is_day (date_of n).year (date_of n).month (date_of n).day ≡ true)
     × (day_number (date_of n).year (date_of n).month (date_of n).day ≡ n)
 number_calls = DateCalled.number_calls
 
-pub outside_calls : {n : ℕ} (a : DayCall n) → (n ≡ 0) ⊎ (last_day < n) → a.result ≡ Day.InvalidDate
+pub outside_calls : {n : ℕ} (a : DayCall n) → (n ≡ 0) ⊎ (last_day < n) → a.result ≡ None
 outside_calls = DateCalled.outside_calls
 
-pub six_calls : {t : List ℕ} (a : DateCall t) (lent : List ℕ) (r : Text) (after : List ℕ)
+pub six_calls : {t : List ℕ} (a : DateCall t) (lent : List ℕ) (r : Result Text Refusal) (after : List ℕ)
     → Meets (temporal_question a.literal a.source lent) r after → (sp : Span) (p : ℕ)
-    → (a.result ≡ Dated.Refused (InvalidString sp p)) ↔ (r ≡ Text.Refused (InvalidString sp p))
+    → (a.result ≡ Err (InvalidString sp p)) ↔ (r ≡ Err (InvalidString sp p))
 six_calls = DateCalled.six_calls
 
-pub shown_calls : {t : List ℕ} (a : DateCall t) (lent : List ℕ) (r : Text) (after : List ℕ)
+pub shown_calls : {t : List ℕ} (a : DateCall t) (lent : List ℕ) (r : Result Text Refusal) (after : List ℕ)
     → Meets (temporal_question a.literal a.source lent) r after → text_number r ≡ 0
     → a.result ≡ dated_on a.literal.span (day_in (shown a.source after r))
 shown_calls = DateCalled.shown_calls
 
 pub joined_date_calls : (w a g b : List ℕ) → TwoOf w a g b → (x : DateCall (w ++ (quoted a ++ (g ++ quoted b)))) (y : DateCall (w ++ quoted (a ++ b)))
     → utf8 (w ++ (quoted a ++ (g ++ quoted b))) ≡ true → utf8 (w ++ quoted (a ++ b)) ≡ true
-    → (c : CalendarDay) → (x.result ≡ Dated.On c) ↔ (y.result ≡ Dated.On c)
+    → (c : CalendarDay) → (x.result ≡ Ok c) ↔ (y.result ≡ Ok c)
 joined_date_calls = DateCalled.joined_calls
 
 -- DOCUMENT 02, T-07
@@ -925,14 +925,14 @@ joined_date_calls = DateCalled.joined_calls
 -- length in 9 counting packed bytes"; and what is answered is so (`PackedAs`)
 module _ (r : BitStringRadix) (l : Literal) (S t out : List ℕ) (k : l.kind ≡ Kind.BitString r) (h : Spans l S t) where
   pub packed_room : utf8 t ≡ true → (v : List ℕ) → value_of t (bits off (2 ^ radix_bits r) t) ≡ means v → packed_length (radix_bits r * length v) ≤ length out
-      → (packed_question l S out).answer ≡ Packed.Written (packed_length (radix_bits r * length v)) (radix_bits r * length v)
+      → (packed_question l S out).answer ≡ Ok (packed_at (packed_length (radix_bits r * length v)) (radix_bits r * length v))
   packed_room = PackAsked.packed_room r l S t out k h
 
   pub packed_short : utf8 t ≡ true → (v : List ℕ) → value_of t (bits off (2 ^ radix_bits r) t) ≡ means v → length out < packed_length (radix_bits r * length v)
-      → packed_question l S out ≡ record { answer = Packed.Refused (NoRoom (packed_length (radix_bits r * length v))); buffer = out }
+      → packed_question l S out ≡ record { answer = Err (NoRoom (packed_length (radix_bits r * length v))); buffer = out }
   packed_short = PackAsked.packed_short r l S t out k h
 
-  pub packed_written : (len n : ℕ) → (packed_question l S out).answer ≡ Packed.Written len n → PackedAs r t out len n (packed_question l S out).buffer
+  pub packed_written : (len n : ℕ) → (packed_question l S out).answer ≡ Ok (packed_at len n) → PackedAs r t out len n (packed_question l S out).buffer
   packed_written = PackAsked.packed_written r l S t out k h
 
 -- "A binary digit is one bit, a hex digit four; the first bit is the top bit of the first byte; unused low bits of the last byte are zero": the packed bytes'
@@ -962,7 +962,7 @@ pub packed_joined : (r : BitStringRadix) (ds : List ℕ) → DigitsTo (2 ^ radix
 packed_joined = PackJoined.packed_joined
 
 -- "Add the reverse, bytes and a bit count to a B or X literal, X only when the count is a multiple of four": what is written, and how long it is
-module _ (r : BitStringRadix) (bytes : List ℕ) (n : ℕ) (out : List ℕ) (m : ℕ) (e : (bit_write_question r bytes n out).answer ≡ BitWriting.Written m) where
+module _ (r : BitStringRadix) (bytes : List ℕ) (n : ℕ) (out : List ℕ) (m : ℕ) (e : (bit_write_question r bytes n out).answer ≡ Ok m) where
   pub bit_accepted : (length bytes ≤ 268435456) × Fine r bytes n × (m ≡ length (bit_literal r bytes n)) × (m ≤ length out)
   bit_accepted = PackReverse.bit_accepted r bytes n out m e
 
@@ -983,17 +983,17 @@ bit_literal_one = PackRoundTrip.written_one
 
 -- "bytes and count come back through either literal, read with the kind of its letter". Bytes are numbers below 256, as lent bytes are
 pub bytes_round_trip : (r : BitStringRadix) (bytes : List ℕ) (n : ℕ) (out : List ℕ) (m : ℕ) → ((i : ℕ) → bytes ! i < 256)
-    → (bit_write_question r bytes n out).answer ≡ BitWriting.Written m
+    → (bit_write_question r bytes n out).answer ≡ Ok m
     → (l : Literal) (S d : List ℕ) → l.kind ≡ Kind.BitString r → Spans l S (take m (bit_write_question r bytes n out).buffer) → length bytes ≤ length d
-    → packed_question l S d ≡ record { answer = Packed.Written (length bytes) n; buffer = bytes ++ drop (length bytes) d }
+    → packed_question l S d ≡ record { answer = Ok (packed_at (length bytes) n); buffer = bytes ++ drop (length bytes) d }
 bytes_round_trip = PackRoundTrip.bytes_round_trip
 
 -- "a literal of just one segment, with an upper-case letter equal to its kind, upper-case digits and packed bytes within the limit, comes back as it was". Its
 -- text is the segment; each of these premises is needed: `PackControls`
 pub literal_round_trip : (r : BitStringRadix) (l : Literal) (S t d : List ℕ) (len n : ℕ) → l.kind ≡ Kind.BitString r → Spans l S t → OneUpper r t
-    → (packed_question l S d).answer ≡ Packed.Written len n → len ≤ 268435456 → (e : List ℕ) → length t ≤ length e
+    → (packed_question l S d).answer ≡ Ok (packed_at len n) → len ≤ 268435456 → (e : List ℕ) → length t ≤ length e
     → bit_write_question r (take len (packed_question l S d).buffer) n e
-    ≡ record { answer = BitWriting.Written (length t); buffer = t ++ drop (length t) e }
+    ≡ record { answer = Ok (length t); buffer = t ++ drop (length t) e }
 literal_round_trip = PackRoundTrip.literal_round_trip
 
 -- every answer of packing is one that the reverse takes: none gives 16
@@ -1003,7 +1003,7 @@ packed_fine = PackRoundTrip.packed_fine
 -- "Refusals: packing as for bits": 1 to 7 exactly where the bits question gives them, whatever buffers the two are lent; and what that shows is packed
 module _ (l : Literal) (S out out' : List ℕ) where
   pub packed_refuses : (r : Refusal) → refusal_number r ≤ 8
-      → ((packed_question l S out).answer ≡ Packed.Refused r) ↔ ((bits_question l S out').answer ≡ Text.Refused r)
+      → ((packed_question l S out).answer ≡ Err r) ↔ ((bits_question l S out').answer ≡ Err r)
   packed_refuses = PackAsked.packed_refuses l S out out'
 
   pub packed_shown_lem : text_number (bits_question l S out').answer ≡ 0
@@ -1023,10 +1023,10 @@ pub bit_fine : (r : BitStringRadix) (bytes : List ℕ) (n : ℕ) → (bad_bits r
 bit_fine = PackReverse.fine_bits
 
 module _ (r : BitStringRadix) (bytes : List ℕ) (n : ℕ) (out : List ℕ) where
-  pub bit_over : 268435456 < length bytes → bit_write_question r bytes n out ≡ record { answer = BitWriting.OverLimit; buffer = out }
+  pub bit_over : 268435456 < length bytes → bit_write_question r bytes n out ≡ record { answer = Err BitWritingError.OverLimit; buffer = out }
   bit_over = PackReverse.bit_over r bytes n out
 
-  pub bit_bad : length bytes ≤ 268435456 → bad_bits r bytes n ≡ true → bit_write_question r bytes n out ≡ record { answer = BitWriting.BadBits; buffer = out }
+  pub bit_bad : length bytes ≤ 268435456 → bad_bits r bytes n ≡ true → bit_write_question r bytes n out ≡ record { answer = Err BitWritingError.BadBits; buffer = out }
   bit_bad = PackReverse.bit_bad r bytes n out
 
   pub bit_writes_lem : length bytes ≤ 268435456 → Fine r bytes n → bit_write_question r bytes n out ≡ bit_writes (bit_literal r bytes n) out
@@ -1048,22 +1048,22 @@ packed_sources = Sources.packed_question_same
 
 -- the same of what calls return, whatever their contracts permit
 pub bytes_calls : (r : BitStringRadix) (bytes : List ℕ) (n : ℕ) → ((i : ℕ) → bytes ! i < 256) → (w : BitWriterCall r bytes n) (m : ℕ)
-    → w.result ≡ BitWriting.Written m → (c : PackedCall r (take m w.after)) → length bytes ≤ length c.lent
-    → (c.result ≡ Packed.Written (length bytes) n) × (c.after ≡ bytes ++ drop (length bytes) c.lent)
+    → w.result ≡ Ok m → (c : PackedCall r (take m w.after)) → length bytes ≤ length c.lent
+    → (c.result ≡ Ok (packed_at (length bytes) n)) × (c.after ≡ bytes ++ drop (length bytes) c.lent)
 bytes_calls = PackCalled.bytes_calls
 
-pub literal_calls : (r : BitStringRadix) (t : List ℕ) → OneUpper r t → (c : PackedCall r t) (len n : ℕ) → c.result ≡ Packed.Written len n
+pub literal_calls : (r : BitStringRadix) (t : List ℕ) → OneUpper r t → (c : PackedCall r t) (len n : ℕ) → c.result ≡ Ok (packed_at len n)
     → len ≤ 268435456 → (w : BitWriterCall r (take len c.after) n) → length t ≤ length w.lent
-    → (w.result ≡ BitWriting.Written (length t)) × (w.after ≡ t ++ drop (length t) w.lent)
+    → (w.result ≡ Ok (length t)) × (w.after ≡ t ++ drop (length t) w.lent)
 literal_calls = PackCalled.literal_calls
 
-pub packed_calls : {r : BitStringRadix} {t : List ℕ} (c : PackedCall r t) (len n : ℕ) → c.result ≡ Packed.Written len n
+pub packed_calls : {r : BitStringRadix} {t : List ℕ} (c : PackedCall r t) (len n : ℕ) → c.result ≡ Ok (packed_at len n)
     → PackedAs r t c.lent len n c.after
 packed_calls = PackCalled.packed_calls
 
-module _ {r : BitStringRadix} {t : List ℕ} (c : PackedCall r t) (lent : List ℕ) (x : Text) (after : List ℕ)
+module _ {r : BitStringRadix} {t : List ℕ} (c : PackedCall r t) (lent : List ℕ) (x : Result Text Refusal) (after : List ℕ)
     (m : Meets (bits_question c.literal c.source lent) x after) where
-  pub packed_refuses_calls : (q : Refusal) → refusal_number q ≤ 8 → (c.result ≡ Packed.Refused q) ↔ (x ≡ Text.Refused q)
+  pub packed_refuses_calls : (q : Refusal) → refusal_number q ≤ 8 → (c.result ≡ Err q) ↔ (x ≡ Err q)
   packed_refuses_calls = PackCalled.refuses_calls c lent x after m
 
   pub packed_shown_calls : text_number x ≡ 0
@@ -1083,7 +1083,7 @@ room = Short.meaning_length
 
 -- so 9 tells a length that the span holds with two bytes more; a buffer of the span's length less two never gets a 9, and every accepted text is shown there
 module _ (l : Literal) (S : List ℕ) (out : List ℕ) (σ : Settings) where
-  pub room_string_nine : (n : ℕ) → (string_question l S σ out).answer ≡ Text.Refused (NoRoom n) → (n + 2 ≤ spanned l) × (length out < n)
+  pub room_string_nine : (n : ℕ) → (string_question l S σ out).answer ≡ Err (NoRoom n) → (n + 2 ≤ spanned l) × (length out < n)
   room_string_nine = RoomAsked.string_nine l S out σ
 
   pub room_string : spanned l ≤ length out + 2 → text_number (string_question l S σ out).answer ≡ 9 → ⊥
@@ -1098,7 +1098,7 @@ pub room_temporal_value : (σ : Settings) (t v : List ℕ) → value_of t (tempo
 room_temporal_value = RoomValues.temporal_length
 
 module _ (l : Literal) (S : List ℕ) (out : List ℕ) where
-  pub room_temporal_nine : (n : ℕ) → (temporal_question l S out).answer ≡ Text.Refused (NoRoom n) → (n + 2 ≤ spanned l) × (length out < n)
+  pub room_temporal_nine : (n : ℕ) → (temporal_question l S out).answer ≡ Err (NoRoom n) → (n + 2 ≤ spanned l) × (length out < n)
   room_temporal_nine = RoomAsked.temporal_nine l S out
 
   pub room_temporal : spanned l ≤ length out + 2 → text_number (temporal_question l S out).answer ≡ 9 → ⊥
@@ -1145,7 +1145,7 @@ module _ {σ : Settings} {t : List ℕ} (c : StringCall σ t) where
   pub room_calls : (v : List ℕ) → Shows c v → length v + 2 ≤ length t
   room_calls = RoomCalled.string_shown_calls c
 
-  pub room_string_nine_calls : (n : ℕ) → c.result ≡ Text.Refused (NoRoom n) → (n + 2 ≤ length t) × (length c.lent < n)
+  pub room_string_nine_calls : (n : ℕ) → c.result ≡ Err (NoRoom n) → (n + 2 ≤ length t) × (length c.lent < n)
   room_string_nine_calls = RoomCalled.string_nine_calls c
 
   pub room_string_calls : length t ≤ length c.lent + 2 → text_number c.result ≡ 9 → ⊥
@@ -1155,12 +1155,12 @@ module _ {σ : Settings} {t : List ℕ} (c : StringCall σ t) where
   room_string_shows_calls = RoomCalled.string_enough_calls c
 
 -- and a call that is lent what another on the same text told with a 9 writes just that
-pub room_again_calls : {σ : Settings} {t : List ℕ} (c d : StringCall σ t) (n : ℕ) → c.result ≡ Text.Refused (NoRoom n) → n ≤ length d.lent
-    → d.result ≡ Text.Written n
+pub room_again_calls : {σ : Settings} {t : List ℕ} (c d : StringCall σ t) (n : ℕ) → c.result ≡ Err (NoRoom n) → n ≤ length d.lent
+    → d.result ≡ Ok (Text.Written n)
 room_again_calls = RoomCalled.string_again_calls
 
 module _ {t : List ℕ} (c : TemporalCall t) where
-  pub room_temporal_nine_calls : (n : ℕ) → c.result ≡ Text.Refused (NoRoom n) → (n + 2 ≤ length t) × (length c.lent < n)
+  pub room_temporal_nine_calls : (n : ℕ) → c.result ≡ Err (NoRoom n) → (n + 2 ≤ length t) × (length c.lent < n)
   room_temporal_nine_calls = RoomCalled.temporal_nine_calls c
 
   pub room_temporal_calls : length t ≤ length c.lent + 2 → text_number c.result ≡ 9 → ⊥
@@ -1177,13 +1177,13 @@ module _ (a : List ℕ) (k g s e : ℕ) (b S : List ℕ) (f : length a % 4 ≡ 0
 pub room_packed_calls : {r : BitStringRadix} {t : List ℕ} (c : PackedCall r t) → length t ≤ 2 * length c.lent + 3 → packed_number c.result ≡ 9 → ⊥
 room_packed_calls = RoomCalled.packed_never_calls
 
-module _ (l : Literal) (S lent : List ℕ) (r : Text) (after : List ℕ) where
+module _ (l : Literal) (S lent : List ℕ) (r : Result Text Refusal) (after : List ℕ) where
   pub room_bits_calls : Meets (bits_question l S lent) r after → spanned l ≤ length lent + 3 → text_number r ≡ 9 → ⊥
   room_bits_calls = RoomCalled.bits_never_calls l S lent r after
 
   pub room_decimal_calls : Meets (decimal_question l S lent) r after → 40 ≤ length lent → spanned l ≤ length lent + 1 → text_number r ≡ 9 → ⊥
   room_decimal_calls = RoomCalled.decimal_never_calls l S lent r after
 
-pub room_identifier_calls : (t lent : List ℕ) (r : Identifier) (after : List ℕ) → Meets (identifier_question t lent) r after → length t ≤ length lent + 4
+pub room_identifier_calls : (t lent : List ℕ) (r : Result Text IdentifierError) (after : List ℕ) → Meets (identifier_question t lent) r after → length t ≤ length lent + 4
     → identifier_number r ≡ 9 → ⊥
 room_identifier_calls = RoomCalled.identifier_never_calls

@@ -4,3 +4,5 @@ pub mod Shown
 pub mod Putting
 pub mod Sums
 pub mod WordFlags
+pub mod Chunks
+pub mod Starts

@@ -1,5 +1,6 @@
 -- Runs of bytes at a place of a text. Assumes nothing.
-use Rattle.std.proofs.Common.{◌≡◌, ℕ, zero, suc, ◌+◌, ◌-◌, ◌<◌, ◌≤◌, Bool, true, false, not, List, [], ◌∷◌, length, drop, sym, refl, ap, ◌∙◌, subst, arith, length-drop, drop_of_length-le, get_or-drop, drop-cons}
+use Rattle.std.proofs.Common.{◌≡◌, ℕ, zero, suc, ◌+◌, ◌-◌, ◌<◌, ◌≤◌, Bool, true, false, not, List, [], ◌∷◌, length, take, drop, sym, refl, ap, ◌∙◌, subst, arith, length-drop, drop_of_length-le, get_or-drop, drop-cons}
+use lib.Seq.{take_all}
 use borrow.Author.Tests.{not-true, not-false}
 use Rattle.meaning.specs.Bytes.{◌!◌, span, in_name, in_tag}
 use Rattle.std.specs.Prelude.{if◌then◌else◌}
@@ -39,12 +40,6 @@ module _ (p : ℕ → Bool) (l : List ℕ) (at : ℕ) where
   span_at i h = ap (span p) (drop-cons l i 0 h)
 
   module _ (n : ℕ) (s : RunSoFar p l at n) where
-    pub run_more : n < length l - at → (x : Bool) → x ≡ p (l ! (at + n)) → not x ≡ false → RunSoFar p l at (n + 1)
-    run_more h x e t =
-        let z : suc (at + n) ≡ at + (n + 1) = omega arith in
-        let f : span p (drop (at + n) l) ≡ suc (span p (drop (at + (n + 1)) l)) = span_at (at + n) (omega arith) ∙ rw (sym e ∙ not-false x t, z) in
-        record { run = omega (arith, s.run, f); within = omega arith }
-
     pub run_stop : n < length l - at → (x : Bool) → x ≡ p (l ! (at + n)) → not x ≡ true → n ≡ span p (drop at l)
     run_stop h x e t =
         let f : span p (drop (at + n) l) ≡ 0 = span_at (at + n) (omega arith) ∙ rw (sym e ∙ not-true x t) in
@@ -56,8 +51,15 @@ module _ (p : ℕ → Bool) (l : List ℕ) (at : ℕ) where
         let f : span p (drop (at + n) l) ≡ 0 = ap (span p) (drop_of_length-le l i) in
         omega (arith, s.run, f)
 
-  pub run_past : length l ≤ at → 0 ≡ span p (drop at l)
-  run_past h = sym (ap (span p) (drop_of_length-le l h))
+pub run_past : (p : ℕ → Bool) (l : List ℕ) (at : ℕ) → length l ≤ at → 0 ≡ span p (drop at l)
+run_past p l at h = sym (ap (span p) (drop_of_length-le l h))
+
+-- a byte that does not pass ends a run, and one that passes goes on with it
+pub span_hit : (p : ℕ → Bool) (b : ℕ) (t : List ℕ) → p b ≡ false → span p (b ∷ t) ≡ 0
+span_hit p b t e = rw e
+
+pub span_miss : (p : ℕ → Bool) (b : ℕ) (t : List ℕ) → p b ≡ true → span p (b ∷ t) ≡ span p t + 1
+span_miss p b t e = rw e (omega arith)
 
 -- BYTES THAT STAND FOR THEMSELVES: each that passes a test does, whatever follows it
 abbrev pub KeepsAll : (ℕ → Bool) → (List ℕ → Step) → Type 0
@@ -88,6 +90,13 @@ run_kept p step k l at h e n en = record { room = room; each = each }
         let b : p (l ! (at + suc j)) ≡ true = subst (λ (i : ℕ). p (l ! i) ≡ true) z
         (ap p (sym (get_or-drop (at + 1) l j 0)) ∙ span_each p (drop (at + 1) l) j (omega (arith, en))) in
         ap step (drop-cons l (at + suc j) 0 i) ∙ k (l ! (at + suc j)) (drop (suc (at + suc j)) l) b
+
+-- WHAT STANDS BEHIND A PLACE
+pub rest_all : (at : ℕ) (t : List ℕ) → take (length t - at) (drop at t) ≡ drop at t
+rest_all at t = take_all (length t - at) (drop at t) (omega (arith, length-drop at t))
+
+pub rest_length : (at : ℕ) (t : List ℕ) → length (take (length t - at) (drop at t)) ≡ length t - at
+rest_length at t = ap length (rest_all at t) ∙ length-drop at t
 
 -- A CLASS by its case
 module _ (k : NameClass) (b : ℕ) (x : Bool) where

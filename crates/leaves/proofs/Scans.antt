@@ -1,11 +1,11 @@
 -- Runs of bytes that pass a test: a loop over a block, and a scan by blocks of which the last may overlap the one before it. Assumes nothing.
-use Rattle.std.proofs.Common.{◌≡◌, ℕ, zero, suc, ◌+◌, ◌-◌, ◌<◌, ◌≤◌, Bool, true, false, not, ◌&&◌, ◌||◌, eqb, List, [], ◌∷◌, length, get_or, drop, sym, refl, ap, ◌∙◌, arith, length-drop, drop_of_length-le, drop-cons, drop-drop, eq-eqb, ne_eqb, eqb-true}
+use Rattle.std.proofs.Common.{◌≡◌, ℕ, zero, suc, ◌+◌, ◌-◌, ◌<◌, ◌≤◌, Bool, true, false, not, ◌&&◌, ◌||◌, eqb, List, [], ◌∷◌, length, get_or, drop, sym, refl, ap, ◌∙◌, arith, length-drop, drop-cons, drop-drop, eq-eqb, ne_eqb, eqb-true}
 use mathlib.Core.Bool.{and_assoc, and-true, and-false, false≢true}
 use borrow.Author.Tests.{eqb-false, not-true, not-false}
 use Rattle.meaning.specs.Bytes.{has, span}
 use Rattle.std.specs.Prelude.{if◌then◌else◌}
 use Rattle.laws.proofs.basics.Tests.{and_left, and_right, eqb_sym}
-use Rattle.leaves.specs.Blocks.{free_of, passes, Past}
+use Rattle.leaves.specs.Blocks.{free_of, passes}
 
 pub passes_append : (p : ℕ → Bool) (m n k : ℕ) (t : List ℕ) → k ≡ m + n → passes p k t ≡ (passes p m t && passes p n (drop m t))
 passes_append p zero n k t e = let z : k ≡ n = omega arith in rw z
@@ -110,52 +110,6 @@ span_passes p (b ∷ t) = go (p b) refl (span_passes p t)
     go : (x : Bool) → p b ≡ x → passes p (span p t) t ≡ true → passes p (if x then suc (span p t) else 0) (b ∷ t) ≡ true
     go true e ih = rw e ih
     go false e ih = refl
-
-module _ (p : ℕ → Bool) (t : List ℕ) (at : ℕ) where
-  pub past_none : at ≤ length t → Past p t at at
-  past_none h = let z : at - at ≡ 0 = omega arith in record { ordered = omega arith; inside = h; pass = rw z }
-
-  module _ (i : ℕ) (v : Past p t at i) where
-    here : drop (i - at) (drop at t) ≡ drop i t
-    here = let z : at + (i - at) ≡ i = omega (arith, v.ordered) in drop-drop (i - at) at t ∙ ap (λ (k : ℕ). drop k t) z
-
-    further : (n : ℕ) → n ≤ length t - i → passes p n (drop i t) ≡ true → Past p t at (i + n)
-    further n h e = record {
-      ordered = omega (arith, v.ordered);
-      inside = omega (arith, v.inside);
-      pass = passes_append p (i - at) n (i + n - at) (drop at t) (omega (arith, v.ordered)) ∙ rw (v.pass, here) e;
-    }
-
-    pub past_fits : (x : Bool) → x ≡ passes p 8 (drop i t) → x ≡ true → i + 8 ≤ length t
-    past_fits x e y = omega (arith, v.inside, passes_inside p 8 (drop i t) (sym e ∙ y), length-drop i t)
-
-    pub past_block : (n : ℕ) → n ≤ length t - i → (x : Bool) → x ≡ passes p n (drop i t) → not x ≡ false → Past p t at (i + n)
-    past_block n h x e y = further n h (sym e ∙ not-false x y)
-
-    pub past_eight : (x : Bool) → x ≡ passes p 8 (drop i t) → x ≡ true → Past p t at (i + 8)
-    past_eight x e y = further 8 (omega (arith, past_fits x e y)) (sym e ∙ y)
-
-    one : i < length t → passes p 1 (drop i t) ≡ p (get_or t i 0)
-    one h = ap (passes p 1) (drop-cons t i 0 h) ∙ and-true (p (get_or t i 0))
-
-    pub past_byte : i < length t → (x : Bool) → x ≡ p (get_or t i 0) → not x ≡ false → Past p t at (i + 1)
-    past_byte h x e y = further 1 (omega arith) (one h ∙ sym e ∙ not-false x y)
-
-    whole : span p (drop i t) ≡ 0 → i - at ≡ span p (drop at t)
-    whole e = omega (arith, passes_span p (i - at) (drop at t) v.pass, ap (span p) here, e)
-
-    pub past_stop : i < length t → (x : Bool) → x ≡ p (get_or t i 0) → not x ≡ true → i - at ≡ span p (drop at t)
-    past_stop h x e y = whole (ap (span p) (drop-cons t i 0 h) ∙ rw (sym e ∙ not-true x y))
-
-    pub past_end : length t ≤ i → i - at ≡ span p (drop at t)
-    past_end h = whole (ap (span p) (drop_of_length-le t h))
-
-  -- none passes where the first does not
-  pub past_first : at < length t → (x : Bool) → x ≡ p (get_or t at 0) → not x ≡ true → 0 ≡ span p (drop at t)
-  past_first h x e y = let z = past_stop at (past_none (omega arith)) h x e y in omega arith
-
-  pub past_behind : length t ≤ at → 0 ≡ span p (drop at t)
-  past_behind h = sym (ap (span p) (drop_of_length-le t h))
 
 -- A RAW NUL is what a search for it finds
 found : (t : List ℕ) → not (passes (free_of (record { first = 0; second = 0; third = 0 })) (length t) t) ≡ has 0 t

@@ -1,12 +1,14 @@
 -- Words of bytes: a word read byte by byte, the flags that a search for one byte sets in it, and the run that flags tell. Assumes nothing.
-use Rattle.std.proofs.Common.{◌≡◌, ℕ, zero, suc, ◌+◌, ◌-◌, ◌*◌, ◌/◌, ◌%◌, ◌^◌, ◌<◌, ◌≤◌, Bool, true, false, not, ◌&&◌, eqb, List, [], ◌∷◌, length, get_or, take, drop, sym, refl, ap, ◌∙◌, subst, ap₂, mul-one, arith, length-drop, length-take, length-take-le, drop-cons, eqb-true, le-leb}
+use Rattle.std.proofs.Common.{◌≡◌, ℕ, zero, suc, ◌+◌, ◌*◌, ◌/◌, ◌%◌, ◌^◌, ◌<◌, ◌≤◌, Bool, true, false, not, ◌&&◌, eqb, List, [], ◌∷◌, length, get_or, take, drop, sym, refl, ap, ◌∙◌, subst, ap₂, mul-one, arith, length-drop, length-take-le, eqb-true, le-leb, get_or-drop}
 use lib.Bits.{bit_and, bit_or, bit_xor, and_block, and_le_l, and_le_r, and_mask, and_high, or_lt, or_mod, or_shr, or_add_and}
 use lib.Bits.{xor_block, xor_lt, xor_self, xor_add_and, shifted_half, shifted_even}
 use lib.Pow.{split}
-use lib.Count.{count_trailing_zeros, trailing_le}
+use mir.Syntax.{w64, w8}
+use mir.Val.{Fits}
+use Rattle.std.specs.Int.{from_le_bytes}
+use lib.Count.{count_trailing_zeros}
 use borrow.Author.Tests.{lt-leb, eqb-false}
 use Rattle.meaning.specs.Bytes.{span}
-use Rattle.std.specs.Prelude.{if◌then◌else◌}
 use Rattle.leaves.specs.Words.{other, neither, eight_run, Word, none, byte, Flags, end, stopped, passed}
 
 -- n bytes that are the same; k behind n bytes; n steps past k
@@ -174,64 +176,38 @@ run_of {f = f} (passed {t = t} e h v) = rw e (run_one f (alike 128 (length t)) (
 
 -- EIGHT BYTES at a place of a text
 module _ (p : ℕ → Bool) (s : List ℕ) (at : ℕ) where
-  pub eight_short : length s < 8 → 0 ≡ eight_run p s at
+  pub eight_short : length s < at + 8 → 0 ≡ eight_run p s at
   unfolding eight_run
-  eight_short h = rw (lt-leb (at + 8) (length s) (omega arith))
+  eight_short h = rw (lt-leb (at + 8) (length s) h)
 
-  pub eight_late : 8 ≤ length s → length s - 8 < at → 0 ≡ eight_run p s at
-  unfolding eight_run
-  eight_late m h = rw (lt-leb (at + 8) (length s) (omega arith))
-
-pub zeros_fit : (n : ℕ) → count_trailing_zeros 64 n < 2 ^ 64
-zeros_fit n = omega (arith, trailing_le 64 n)
-
-pub eight_told : (s : List ℕ) (at a b w f g : ℕ) → 8 ≤ length s → at ≤ length s - 8 → Word (take 8 (drop at s)) w
+pub eight_told : (s : List ℕ) (at a b w f g : ℕ) → at + 8 ≤ length s → Word (take 8 (drop at s)) w
     → ((t : List ℕ) → length t ≡ 8 → Word t w → Flags (other a) t f)
     → ((t : List ℕ) → length t ≡ 8 → Word t w → Flags (other b) t g)
     → count_trailing_zeros 64 (bit_and (bit_or f g) 0x8080808080808080) / 8 ≡ eight_run (neither a b) s at
 unfolding eight_run neither
-eight_told s at a b w f g m h v ka kb =
+eight_told s at a b w f g m v ka kb =
     let t = take 8 (drop at s) in
     let len : length t ≡ 8 = length-take-le 8 (drop at s) (omega (arith, length-drop at s)) in
     subst (λ (n : ℕ). count_trailing_zeros (bits n) (bit_and (bit_or f g) (alike 128 n)) / 8 ≡ span (neither a b) t) len
     (run_of (both_flags (ka t len v) (kb t len v)))
     ∙ rw (le-leb (at + 8) (length s) (omega arith))
 
--- READING a word: the bytes from place j on are read
-pub record Reading (s : List ℕ) (at w j : ℕ) : Type 0 where
-  pub inside : j ≤ 8
-  pub room : at + 8 ≤ length s
-  pub so_far : Word (take (8 - j) (drop (at + j) s)) w
+-- EIGHT BYTES, read as one number
+bytes_fit : (n : ℕ) (t : List ℕ) → ((i : ℕ) → get_or t i 0 < 256) → (i : ℕ) → get_or (take n t) i 0 < 256
+bytes_fit zero t s i = omega arith
+bytes_fit (suc n) [] s i = omega arith
+bytes_fit (suc n) (b ∷ t) s zero = s 0
+bytes_fit (suc n) (b ∷ t) s (suc i) = bytes_fit n t (λ j. s (suc j)) i
 
-pub reading_start : (s : List ℕ) (at : ℕ) → at + 8 ≤ length s → Reading s at 0 8
-reading_start s at h = record { inside = omega arith; room = h; so_far = none }
+word_eight : (t : List ℕ) → length t ≡ 8 → ((i : ℕ) → get_or t i 0 < 256) → Word t (from_le_bytes w64 t)
+word_eight (a ∷ b ∷ c ∷ d ∷ e ∷ f ∷ g ∷ h ∷ []) l s =
+    let w = byte (s 0) (byte (s 1) (byte (s 2) (byte (s 3) (byte (s 4) (byte (s 5) (byte (s 6) (byte (s 7) none))))))) in
+    subst (λ (n : ℕ). Word (a ∷ b ∷ c ∷ d ∷ e ∷ f ∷ g ∷ h ∷ []) n) (omega arith) w
+word_eight t l s = absurd (omega arith)
 
-behind_more : (m n : ℕ) → m ≤ n → behind 1 m ≤ behind 1 n
-behind_more zero zero h = omega arith
-behind_more zero (suc n) h = let r = behind_more zero n (omega arith) in omega arith
-behind_more (suc m) zero h = absurd (omega arith)
-behind_more (suc m) (suc n) h = let r = behind_more m n (omega arith) in omega arith
-
-word_below : {t : List ℕ} {w : ℕ} → Word t w → w < behind 1 (length t)
-word_below none = omega arith
-word_below (byte h v) = let r = word_below v in omega arith
-
-module _ {s : List ℕ} {at w j : ℕ} (v : Reading s at w j) where
-  pub reading_fits : 0 < j → w < 2 ^ 56
-  reading_fits h =
-      let l = drop (at + j) s in
-      let m : length (take (8 - j) l) ≤ 7 = omega (arith, length-take (8 - j) l) in
-      omega (arith, word_below v.so_far, behind_more (length (take (8 - j) l)) 7 m)
-
-  pub reading_on : 0 < j → get_or s (at + (j - 1)) 0 < 256 → Reading s at (w * 256 + get_or s (at + (j - 1)) 0) (j - 1)
-  reading_on h k =
-      let i : at + (j - 1) < length s = omega (arith, v.room, v.inside) in
-      let z : suc (at + (j - 1)) ≡ at + j = omega arith in
-      let n : 8 - (j - 1) ≡ suc (8 - j) = omega (arith, v.inside) in
-      record { inside = omega (arith, v.inside); room = v.room; so_far = rw (n, drop-cons s (at + (j - 1)) 0 i, z) (byte k v.so_far) }
-
-  pub reading_done : j ≤ 0 → Word (take 8 (drop at s)) w
-  reading_done h =
-      let z : j ≡ 0 = omega arith in
-      let y : at + j ≡ at = omega arith in
-      subst (λ (i : ℕ). Word (take 8 (drop i s)) w) y (subst (λ (i : ℕ). Word (take (8 - i) (drop (at + j) s)) w) z v.so_far)
+pub word_at : (t : List ℕ) (at r : ℕ) (f : List ℕ) → at + 8 ≤ length t → ((i : ℕ) → Fits w8 (get_or t i 0)) → f ≡ take 8 (drop at t)
+    → r ≡ from_le_bytes w64 f → Word (take 8 (drop at t)) r
+word_at t at r f h s e q =
+    let l : length (take 8 (drop at t)) ≡ 8 = length-take-le 8 (drop at t) (omega (arith, length-drop at t)) in
+    let b : (i : ℕ) → get_or (drop at t) i 0 < 256 = λ i. rw (get_or-drop at t i 0) (s (at + i)).fits in
+    subst (λ (n : ℕ). Word (take 8 (drop at t)) n) (sym (q ∙ ap (from_le_bytes w64) e)) (word_eight (take 8 (drop at t)) l (bytes_fit 8 (drop at t) b))

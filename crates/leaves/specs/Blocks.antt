@@ -1,5 +1,5 @@
 -- Bytes that are none of three, and runs of bytes that pass a test. Assumes nothing.
-use Rattle.std.specs.Prelude.{◌≡◌, ℕ, zero, suc, ◌-◌, ◌≤◌, Bool, true, false, not, ◌&&◌, List, [], ◌∷◌, length, drop, ◌==◌}
+use Rattle.std.specs.Prelude.{ℕ, zero, suc, Bool, true, false, not, ◌&&◌, List, [], ◌∷◌, ◌==◌}
 use Rattle.leaves.specs.declared.blocks.Stops.{Stops}
 
 -- none of the three
@@ -11,9 +11,3 @@ abbrev pub passes : (ℕ → Bool) → ℕ → List ℕ → Bool
 passes p zero t = true
 passes p (suc n) [] = false
 passes p (suc n) (b ∷ t) = p b && passes p n t
-
--- the bytes from one place up to another are there, and each passes
-pub record Past (p : ℕ → Bool) (t : List ℕ) (from upto : ℕ) : Type 0 where
-  pub ordered : from ≤ upto
-  pub inside : upto ≤ length t
-  pub pass : passes p (upto - from) (drop from t) ≡ true

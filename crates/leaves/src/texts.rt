@@ -6,29 +6,15 @@ ghost use Rattle.meaning.specs.Spelling.{encloses};
 
 use crate::blocks::{Stops, is_free};
 
-// Whether a text stands at a place.
+// Whether a text stands at a place, which may lie past the end.
 // Rules out: one byte asked for all; the first byte of the text asked for all (must-fail: other_bytes, start_asked_again).
 pub fn starts_at(body: &[u8], at: usize, prefix: &[u8]) -> bool
     ensures { result ≡ starts prefix.now (drop at body.now) }
 {
-    let len = prefix.len();
-    if len == 0 {
-        return true;
+    if body.len() < at {
+        return prefix.len() == 0;
     }
-    if body.len() <= at {
-        return false;
-    }
-    if body.len() - at < len {
-        return false;
-    }
-    let mut i: usize = 0;
-    while i < len {
-        if body[at + i] != prefix[i] {
-            return false;
-        }
-        i += 1;
-    }
-    true
+    body[at..].starts_with(prefix)
 }
 
 // Whether a mark stands at a place and, as another byte, at the text's end.

@@ -1,2 +1,0 @@
-pub mod Lent
-pub mod Running

@@ -1,59 +1,97 @@
-// Keys kept for comparing, in a store, with where each ends there and on which line it stands.
-use crate::state::{State, one_more};
-use leaves::puts::put_bytes;
+// Keys kept for comparing, one behind the other in a store, with where each ends there and on which line it stands.
+use doubles::key_at;
 
-// Puts a number at a place; false where the place is not there.
-pub(crate) fn put_number(numbers: &mut [usize], at: usize, n: usize) -> bool {
-    if numbers.len() <= at {
-        return false;
-    }
-    numbers[at] = n;
-    true
+// Rows with a key for which there was no room, and the line of the first.
+#[derive(Clone, Copy)]
+pub(crate) struct Unkept {
+    pub rows: usize,
+    pub first_line: usize,
 }
 
-// Copies a key to a place of the store; false where there is no room for it.
-fn put_key(key: &[u8], store: &mut [u8], at: usize) -> bool {
-    if store.len() < at {
-        return false;
-    }
-    if store.len() - at < key.len() {
-        return false;
-    }
-    put_bytes(key, &mut store[at..]);
-    true
+// Stays: no heap: the room is lent, and `find_before` takes the store and the ends as slices of their own.
+#[derive(Drop)]
+pub(crate) struct Kept<'a> {
+    store: &'a mut [u8],
+    ends: &'a mut [usize],
+    lines: &'a mut [usize],
+    rows: usize,
+    filled: usize,
+    pub unkept: Option<Unkept>,
 }
 
-fn unkept(state: State) -> State {
-    let mut after = state;
-    if state.unkept == 0 {
-        after.unkept_line = state.lines;
+impl<'a> Kept<'a> {
+    // Stays: no heap: the arrays are lent, and `find_before` takes one of them as it is.
+    pub(crate) fn new(
+        store: &'a mut [u8],
+        ends: &'a mut [usize],
+        lines: &'a mut [usize],
+    ) -> Kept<'a> {
+        Kept {
+            store,
+            ends,
+            lines,
+            rows: 0,
+            filled: 0,
+            unkept: None,
+        }
     }
-    after.unkept = one_more(state.unkept);
-    after
-}
 
-// Keeps a key for comparing, as long as there is room; once there is none, no later key is kept.
-pub(crate) fn keep(
-    key: &[u8],
-    state: State,
-    store: &mut [u8],
-    ends: &mut [usize],
-    lines: &mut [usize],
-) -> State {
-    if 0 < state.unkept {
-        return unkept(state);
+    // Copies a key behind those in the store, and its end and line behind theirs; false where there is no room for one of them.
+    fn put(&mut self, key: &[u8], line: usize) -> bool {
+        let (row, from) = (self.rows, self.filled);
+        let until = from.wrapping_add(key.len());
+        let Some(place) = self.store.get_mut(from..until) else {
+            return false;
+        };
+        place.copy_from_slice(key);
+        let Some(end) = self.ends.get_mut(row) else {
+            return false;
+        };
+        *end = until;
+        let Some(on) = self.lines.get_mut(row) else {
+            return false;
+        };
+        *on = line;
+        self.filled = until;
+        self.rows = row.wrapping_add(1);
+        true
     }
-    if !put_number(lines, state.rows, state.lines) {
-        return unkept(state);
+
+    // Keeps a row's key for comparing, as long as there is room; once there is none, no later key is kept.
+    pub(crate) fn keep(&mut self, key: &[u8], line: usize) {
+        if let Some(unkept) = self.unkept {
+            self.unkept = Some(Unkept {
+                rows: unkept.rows.wrapping_add(1),
+                first_line: unkept.first_line,
+            });
+        } else if !self.put(key, line) {
+            self.unkept = Some(Unkept {
+                rows: 1,
+                first_line: line,
+            });
+        }
     }
-    if !put_key(key, store, state.filled) {
-        return unkept(state);
+
+    pub(crate) fn rows(&self) -> usize {
+        self.rows
     }
-    let mut after = state;
-    after.filled = std::num::wrapping_add_usize(state.filled, key.len());
-    if !put_number(ends, state.rows, after.filled) {
-        return unkept(state);
+
+    pub(crate) fn store(&self) -> &[u8] {
+        self.store
     }
-    after.rows = one_more(state.rows);
-    after
+
+    // Where the keys end in the store.
+    pub(crate) fn ends(&self) -> &[usize] {
+        self.ends.get(..self.rows).unwrap_or(&[])
+    }
+
+    pub(crate) fn key(&self, row: usize) -> &[u8] {
+        key_at(self.store, self.ends, row)
+    }
+
+    // The line of a row; 0 past the last.
+    // Stays: only rows that are kept are asked for; an Option would be met by a default in both callers.
+    pub(crate) fn line(&self, row: usize) -> usize {
+        self.lines.get(row).copied().unwrap_or(0)
+    }
 }

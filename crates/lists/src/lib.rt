@@ -11,6 +11,5 @@ mod rows;
 pub mod run;
 mod said;
 mod shown;
-mod state;
 mod stops;
 mod turned;

@@ -1,154 +1,124 @@
 // A line of a list: a row, told and kept, a setting, or none of these.
-use crate::answers::{is_refused, say_answer, whole};
-use crate::kept::keep;
+use crate::answers::{say_answer, whole};
+use crate::kept::Kept;
 use crate::lines::{Line, line_of, may_set, without_order_mark};
-use crate::said::{say, say_line, say_number, tell, tell_number};
-use crate::shown::tell_key;
-use crate::state::{State, after_said, one_more, stopped};
-use crate::turned::after_turned;
-use meaning::{Settings, Text};
+use crate::said::{Stopped, Stream, say_line, tell};
+use crate::shown::show_key;
+use crate::turned::say_if_turned;
+use meaning::Settings;
 use questions::shown::text_shown;
 use questions::texts::as_str_in;
+use std::fmt::Write;
 
-// A refused row is counted, any other row's key is kept.
-fn after_answer<'a>(
-    line: &'a [u8],
-    value: &'a [u8],
-    answer: Text,
-    state: State,
-    store: &mut [u8],
-    ends: &mut [usize],
-    lines: &mut [usize],
-) -> State {
-    if is_refused(answer) {
-        let mut after = state;
-        after.refused = one_more(state.refused);
-        return after;
+// What is known of a list as far as it is read.
+// Stays: `value` and `other` are two rooms for two answers to one row, both lent: no table of pairs.
+#[derive(Drop)]
+pub(crate) struct Rows<'a> {
+    // the setting that holds for the rows to come
+    settings: Settings,
+    // lines so far
+    lines: usize,
+    // room for what a row means, at its setting and at the other
+    value: &'a mut [u8],
+    other: &'a mut [u8],
+    pub kept: Kept<'a>,
+    // rows refused; rows too long to be read; rows that have another key, or none, or one, at the other setting
+    pub refused: usize,
+    pub unread: usize,
+    pub depending: usize,
+}
+
+impl<'a> Rows<'a> {
+    pub(crate) fn new(value: &'a mut [u8], other: &'a mut [u8], kept: Kept<'a>) -> Rows<'a> {
+        Rows {
+            settings: Settings { backslash: false },
+            lines: 0,
+            value,
+            other,
+            kept,
+            refused: 0,
+            unread: 0,
+            depending: 0,
+        }
     }
-    keep(text_shown(line, value, answer), state, store, ends, lines)
-}
 
-fn after_row(
-    line: &[u8],
-    value: &mut [u8],
-    other: &mut [u8],
-    state: State,
-    store: &mut [u8],
-    ends: &mut [usize],
-    lines: &mut [usize],
-) -> State {
-    let settings = Settings {
-        backslash: state.backslash,
-    };
-    let answer = as_str_in(whole(line), line, settings, value);
-    let written = say_line(state.lines) && say_answer(line, value, answer);
-    let said = after_said(state, written);
-    let told = after_turned(line, value, answer, other, said);
-    after_answer(line, value, answer, told, store, ends, lines)
-}
-
-fn no_setting(line: &[u8], state: State) -> State {
-    tell_number(b"keys: line ", state.lines);
-    tell(b": ");
-    tell_key(line);
-    tell(
-        b" is neither -- backslash on nor -- backslash off; no row from here on is read, and none is compared\n",
-    );
-    stopped(state)
-}
-
-fn set(backslash: bool, state: State) -> State {
-    let mut after = state;
-    after.backslash = backslash;
-    after
-}
-
-// A line, counted already.
-fn after_counted(
-    line: &[u8],
-    value: &mut [u8],
-    other: &mut [u8],
-    state: State,
-    store: &mut [u8],
-    ends: &mut [usize],
-    lines: &mut [usize],
-) -> State {
-    match line_of(line) {
-        Line::Row => after_row(line, value, other, state, store, ends, lines),
-        Line::Blank => state,
-        Line::Passed => state,
-        Line::Backslash(on) => set(on, state),
-        Line::NoSetting => no_setting(line, state),
+    // A refused row is counted, any other row's key is kept. A row that means another product at the other setting is told with that.
+    fn take_row(&mut self, line: &[u8]) -> Result<(), Stopped> {
+        let (number, settings) = (self.lines, self.settings);
+        let value = &mut *self.value;
+        let answer = as_str_in(whole(line), line, settings, value);
+        say_line(number)?;
+        say_answer(line, value, answer)?;
+        if say_if_turned(line, value, answer, settings, self.other)? {
+            self.depending = self.depending.wrapping_add(1);
+        }
+        if answer.is_err() {
+            self.refused = self.refused.wrapping_add(1);
+        } else {
+            self.kept.keep(text_shown(line, value, answer), number);
+        }
+        Ok(())
     }
-}
 
-// A line without its end. The rest of a line that was too long is none.
-pub(crate) fn after_line(
-    line: &[u8],
-    value: &mut [u8],
-    other: &mut [u8],
-    state: State,
-    store: &mut [u8],
-    ends: &mut [usize],
-    lines: &mut [usize],
-) -> State {
-    let mut counted = state;
-    counted.skipping = false;
-    if state.skipping | state.stopped {
-        return counted;
+    // A line that may be a setting, and is none that is known.
+    fn no_setting(&self, line: &[u8]) -> Stopped {
+        let mut error = Stream::Error;
+        let _ = write!(error, "keys: line {}: ", self.lines);
+        let _ = show_key(error, line);
+        tell(
+            b" is neither -- backslash on nor -- backslash off; no row from here on is read, and none is compared\n",
+        );
+        Stopped::Told
     }
-    counted.lines = one_more(state.lines);
-    let text = without_order_mark(line, state.lines);
-    after_counted(text, value, other, counted, store, ends, lines)
-}
 
-// A row that fills the window.
-fn unread(bytes: usize, state: State) -> State {
-    let written = say_line(state.lines)
-        && say_number(b"not read: it has ", bytes)
-        && say(b" bytes or more\n");
-    let mut after = after_said(state, written);
-    after.unread = one_more(state.unread);
-    after
-}
-
-// What a line that fills the window and goes on is, by its beginning. Where that may be a setting's, no row behind it has a meaning.
-fn after_begun(line: &[u8], state: State) -> State {
-    if may_set(line) {
-        return no_setting(b"a line that fills the window", state);
+    // Counts a line; it is handed back without a byte order mark.
+    fn count<'t>(&mut self, line: &'t [u8]) -> &'t [u8] {
+        let before = self.lines;
+        self.lines = before.wrapping_add(1);
+        without_order_mark(line, before)
     }
-    match line_of(line) {
-        Line::Row => unread(line.len(), state),
-        Line::Blank => state,
-        Line::Passed => state,
-        Line::Backslash(_) => no_setting(b"a line that fills the window", state),
-        Line::NoSetting => no_setting(b"a line that fills the window", state),
-    }
-}
 
-// A line that fills the window: the window is passed. The rest of one that was told already is not told again.
-fn too_long(line: &[u8], state: State) -> State {
-    let mut after = state;
-    after.skipping = true;
-    after.begun = line.len();
-    if state.skipping | state.stopped {
-        return after;
+    // A line without its end.
+    pub(crate) fn take(&mut self, line: &[u8]) -> Result<(), Stopped> {
+        let text = self.count(line);
+        match line_of(text) {
+            Line::Row => self.take_row(text),
+            Line::Passed => Ok(()),
+            Line::Backslash(backslash) => {
+                self.settings = Settings { backslash };
+                Ok(())
+            }
+            Line::NoSetting => Err(self.no_setting(text)),
+        }
     }
-    after.lines = one_more(state.lines);
-    after_begun(without_order_mark(line, state.lines), after)
-}
 
-// A full window, of which the lines are taken that end in it.
-pub(crate) fn after_window(window: &[u8], state: State) -> State {
-    if state.begun == 0 {
-        return too_long(window, state);
+    // A row of which only the beginning is there.
+    fn pass_row(&mut self, beginning: &[u8]) -> Result<(), Stopped> {
+        say_line(self.lines)?;
+        let mut output = Stream::Output;
+        writeln!(output, "not read: it has {} bytes or more", beginning.len())?;
+        self.unread = self.unread.wrapping_add(1);
+        Ok(())
     }
-    state
-}
 
-// Reading fails: the line at hand may be cut off, so it is no row.
-pub(crate) fn cut_off(state: State) -> State {
-    tell_number(b"keys: behind line ", state.lines);
-    tell(b" the list cannot be read on; no row from there on is read, and none is compared\n");
-    stopped(state)
+    // A line that fills the window and goes on, by its beginning: the rest of it is passed. Where it may be a setting, no row behind it has a meaning.
+    pub(crate) fn pass(&mut self, beginning: &[u8]) -> Result<(), Stopped> {
+        let text = self.count(beginning);
+        match line_of(text) {
+            Line::Row if !may_set(text) => self.pass_row(text),
+            Line::Passed if !may_set(text) => Ok(()),
+            _ => Err(self.no_setting(b"a line that fills the window")),
+        }
+    }
+
+    // Reading fails: the line at hand may be cut off, so it is no row.
+    pub(crate) fn cut_off(&self) -> Stopped {
+        let mut error = Stream::Error;
+        let _ = writeln!(
+            error,
+            "keys: behind line {} the list cannot be read on; no row from there on is read, and none is compared",
+            self.lines
+        );
+        Stopped::Told
+    }
 }

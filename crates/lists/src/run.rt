@@ -16,9 +16,10 @@ ghost use Rattle.std.specs.Prelude.{◌≡◌, ◌≤◌, length};
 ghost use Rattle.words.specs.Ending.{asked_of, Ends};
 
 use crate::doubled::{Counts, for_rows, report};
-use crate::list::after_list;
-use crate::said::{say, tell};
-use crate::state::State;
+use crate::kept::Kept;
+use crate::list::read_list;
+use crate::rows::Rows;
+use crate::said::{Stopped, say, tell};
 use std::io::Stdin;
 use words::{Asked, asked_by};
 
@@ -29,10 +30,20 @@ fn zeros<const N: usize>() -> [u8; N]
     [0; N]
 }
 
+// Stays: no heap: C's main hands the program no allocator, so that what is kept has fixed room.
 fn room() -> [u8; 524288]
     ensures { 524288 ≡ length result }
 {
     zeros()
+}
+
+// With which status the program ends.
+#[derive(Clone, Copy)]
+enum Status {
+    Done = 0,
+    LeftOut = 1,
+    Failed = 2,
+    Doubled = 3,
 }
 
 // A line on standard error, and the status that goes with it.
@@ -40,7 +51,7 @@ fn failed(line: &[u8]) -> u32
     ensures { result ≡ 2 }
 {
     tell(line);
-    2
+    Status::Failed as u32
 }
 
 fn unwritten() -> u32
@@ -50,53 +61,39 @@ fn unwritten() -> u32
 }
 
 // The status of a list that was read to its end: doubled products come first, since they are what an import has to stop for.
-fn status_of(state: State, counts: Counts) -> u32
-    ensures { result ≤ 3 }
-{
-    if !counts.written {
-        return unwritten();
-    }
+fn status_of(rows: &Rows, counts: Counts) -> Status {
     if 0 < counts.doubled {
-        return 3;
+        return Status::Doubled;
     }
-    if (0 < state.refused) | (0 < state.unread) | (0 < state.unkept) {
-        return 1;
+    if (0 < rows.refused) | (0 < rows.unread) | rows.kept.unkept.is_some() {
+        return Status::LeftOut;
     }
-    0
+    Status::Done
 }
 
-// Why a list was not read to its end is told already, but for this.
-fn stopped_status(state: State) -> u32
-    ensures { result ≤ 3 }
-{
-    if state.unwritten {
-        return unwritten();
-    }
-    2
-}
-
-fn list_status(from: &mut Stdin) -> u32
-    ensures { result ≤ 3 }
-{
+fn decode(from: &mut Stdin) -> Result<Status, Stopped> {
     let mut window = room();
     let mut value = room();
     let mut other = room();
     let mut store = room();
     let mut ends = for_rows();
     let mut lines = for_rows();
-    let state = after_list(
-        from,
-        &mut window,
-        &mut value,
-        &mut other,
-        &mut store,
-        &mut ends,
-        &mut lines,
-    );
-    if state.stopped {
-        return stopped_status(state);
+    let kept = Kept::new(&mut store, &mut ends, &mut lines);
+    let mut rows = Rows::new(&mut value, &mut other, kept);
+    read_list(from, &mut window, &mut rows)?;
+    let counts = report(&rows)?;
+    Ok(status_of(&rows, counts))
+}
+
+// Why a list was not read to its end is told already, but where the output cannot be written.
+fn list_status(from: &mut Stdin) -> u32
+    ensures { result ≤ 3 }
+{
+    match decode(from) {
+        Ok(status) => status as u32,
+        Err(Stopped::Told) => Status::Failed as u32,
+        Err(Stopped::Unwritten) => unwritten(),
     }
-    status_of(state, report(state, &store, &ends, &lines))
 }
 
 fn help() -> u32
@@ -113,10 +110,10 @@ Status: 3 a product is doubled; else 1 a row is refused, too long to be read, or
 end, the output cannot be written, or a word is not understood; then standard error says which.
 ",
     );
-    if written {
-        return 0;
+    match written {
+        Ok(()) => Status::Done as u32,
+        Err(_) => unwritten(),
     }
-    unwritten()
 }
 
 // The program. Its words are those behind its name, each ended by a 0 byte; its result is the status to end with.
@@ -126,8 +123,7 @@ pub extern "C" fn valdrabus_keys(input: Stdin, words: &[u8]) -> u32
     ensures { Ends 3 (asked_of words.now) result }
 {
     let mut from = input;
-    let what = asked_by(words);
-    match what {
+    match asked_by(words) {
         Asked::Work => list_status(&mut from),
         Asked::Help => help(),
         Asked::Other => failed(b"keys: it takes no word but --help\nusage: keys [--help] <LIST\n"),

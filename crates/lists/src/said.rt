@@ -1,54 +1,55 @@
-// Writing: rows to standard output, what went wrong to standard error. Each function tells whether all of it was written; what is told to standard error alone
-// need not, since there is nobody left to tell.
-use leaves::views::part_of;
+// Writing: rows to standard output, what went wrong to standard error.
+use std::fmt;
+use std::fmt::Write;
 
-pub(crate) const STDOUT_FILENO: i32 = 1;
-
-pub(crate) const STDERR_FILENO: i32 = 2;
-
-pub(crate) fn say(bytes: &[u8]) -> bool {
-    io::write_all(STDOUT_FILENO, bytes)
+// A standard stream, by its number. It keeps nothing back: each piece is written at once.
+#[derive(Clone, Copy)]
+pub(crate) enum Stream {
+    Output = 1,
+    Error = 2,
 }
 
-// A number, and what stands before it.
-pub(crate) fn say_number(before: &[u8], n: usize) -> bool {
-    if !say(before) {
-        return false;
+impl Stream {
+    pub(crate) fn put(self, bytes: &[u8]) -> fmt::Result {
+        if io::write_all(self as i32, bytes) {
+            Ok(())
+        } else {
+            Err(fmt::Error)
+        }
     }
-    io::print_decimal(STDOUT_FILENO, n as u64)
 }
 
-// How many blanks stand before a number in six places.
-fn blanks_before(n: usize) -> usize {
-    if n < 10 {
-        return 5;
+impl fmt::Write for Stream {
+    fn write_str(&mut self, text: &str) -> fmt::Result {
+        self.put(text.as_bytes())
     }
-    if n < 100 {
-        return 4;
+}
+
+// Why a list is not read to its end: that is told already; or not all of the output was written, and what would come behind it would look as if nothing were
+// missing.
+#[derive(Clone, Copy)]
+pub(crate) enum Stopped {
+    Told,
+    Unwritten,
+}
+
+impl From<fmt::Error> for Stopped {
+    fn from(_: fmt::Error) -> Stopped {
+        Stopped::Unwritten
     }
-    if n < 1000 {
-        return 3;
-    }
-    if n < 10000 {
-        return 2;
-    }
-    if n < 100000 {
-        return 1;
-    }
-    0
+}
+
+pub(crate) fn say(bytes: &[u8]) -> fmt::Result {
+    Stream::Output.put(bytes)
 }
 
 // A line's number in six places, and two blanks.
-pub(crate) fn say_line(n: usize) -> bool {
-    let blanks = [32u8; 6];
-    say_number(part_of(&blanks, 0, blanks_before(n)), n) && say(b"  ")
+pub(crate) fn say_line(n: usize) -> fmt::Result {
+    let mut output = Stream::Output;
+    write!(output, "{n:>6}  ")
 }
 
+// What is told need not be written: there is nobody left to tell.
 pub(crate) fn tell(bytes: &[u8]) {
-    io::write_all(STDERR_FILENO, bytes);
-}
-
-pub(crate) fn tell_number(before: &[u8], n: usize) {
-    tell(before);
-    io::print_decimal(STDERR_FILENO, n as u64);
+    let _ = Stream::Error.put(bytes);
 }

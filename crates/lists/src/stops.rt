@@ -3,139 +3,120 @@
 use crate::bytes::{columns_of_bytes, readable_len, say_bytes};
 use crate::said::say;
 use crate::shown::{columns_of, say_key};
-use leaves::puts::least;
 use leaves::views::part_of;
+use std::fmt;
 
 const AROUND: usize = 40;
 
 // Whether no character's later byte stands at a place; none does past the end.
 fn begins_at(text: &[u8], at: usize) -> bool {
-    if text.len() <= at {
-        return true;
-    }
-    (text[at] < 0x80) | (0xBF < text[at])
+    text.get(at).is_none_or(|byte| !matches!(*byte, 0x80..0xC0))
 }
 
 // Where the character before a place begins; at the text's start there is none.
 fn before(text: &[u8], at: usize) -> usize {
-    let mut from = at;
-    while 0 < from {
-        from -= 1;
-        if begins_at(text, from) {
-            return from;
-        }
-    }
-    0
+    (0..at)
+        .rev()
+        .find(|from| begins_at(text, *from))
+        .unwrap_or(0)
 }
 
 // Where the character at a place ends; at the text's end there is none.
 fn behind(text: &[u8], at: usize) -> usize {
-    let mut until = at;
-    while until < text.len() {
-        until += 1;
-        if begins_at(text, until) {
-            return until;
+    (at..text.len())
+        .skip(1)
+        .find(|until| begins_at(text, *until))
+        .unwrap_or(text.len())
+}
+
+// By what a text is shown.
+#[derive(Clone, Copy)]
+enum Unit {
+    Character,
+    Byte,
+}
+
+impl Unit {
+    fn say(self, text: &[u8]) -> fmt::Result {
+        match self {
+            Unit::Character => say_key(text),
+            Unit::Byte => say_bytes(text),
         }
     }
-    text.len()
-}
 
-fn shown_from(text: &[u8], place: usize) -> usize {
-    let mut at = place;
-    let mut left = AROUND;
-    while 0 < left {
-        at = before(text, at);
-        left -= 1;
+    fn columns(self, text: &[u8]) -> usize {
+        match self {
+            Unit::Character => columns_of(text),
+            Unit::Byte => columns_of_bytes(text),
+        }
     }
-    at
 }
 
-fn shown_until(text: &[u8], place: usize) -> usize {
-    let mut at = place;
-    let mut left = AROUND;
-    while 0 < left {
-        at = behind(text, at);
-        left -= 1;
-    }
-    at
-}
-
-// Around which place of a text it is shown, and from where to where; whether by bytes.
-#[derive(Clone, Copy)]
-struct Around {
-    pub from: usize,
-    pub place: usize,
-    pub until: usize,
-    pub bytes: bool,
-}
-
-fn say_blanks(n: usize) -> bool {
-    let blanks = [32u8; 256];
-    say(part_of(&blanks, 0, n))
-}
-
-fn say_text(text: &[u8], bytes: bool) -> bool {
-    if bytes {
-        return say_bytes(text);
-    }
-    say_key(text)
-}
-
-fn columns(text: &[u8], bytes: bool) -> usize {
-    if bytes {
-        return columns_of_bytes(text);
-    }
-    columns_of(text)
+fn say_blanks(n: usize) -> fmt::Result {
+    say(part_of(&[b' '; 256], 0, n))
 }
 
 // Three points where a text goes on.
-fn say_points(goes_on: bool) -> bool {
+fn say_points(goes_on: bool) -> fmt::Result {
     if goes_on {
         return say(b"\xE2\x80\xA6");
     }
-    true
+    Ok(())
 }
 
-// The row's text around the place.
-fn say_part(text: &[u8], around: Around) -> bool {
-    say_blanks(8)
-        && say_points(0 < around.from)
-        && say_text(part_of(text, around.from, around.until), around.bytes)
-        && say_points(around.until < text.len())
-        && say(b"\n")
+// A text that is shown around a place, from and to where, and by what.
+#[derive(Clone, Copy)]
+struct Around<'a> {
+    text: &'a [u8],
+    from: usize,
+    place: usize,
+    until: usize,
+    unit: Unit,
 }
 
-// The mark, under the character or byte at the place.
-fn say_mark(text: &[u8], around: Around) -> bool {
-    let before = columns(part_of(text, around.from, around.place), around.bytes);
-    say_blanks(8) && say_blanks((0 < around.from) as usize) && say_blanks(before) && say(b"^\n")
-}
-
-pub(crate) fn say_stop(text: &[u8], place: usize) -> bool {
-    let around = Around {
-        from: shown_from(text, place),
-        place,
-        until: shown_until(text, place),
-        bytes: false,
-    };
-    say_part(text, around) && say_mark(text, around)
-}
-
-// Where a text begins to be shown by bytes.
-fn bytes_from(place: usize) -> usize {
-    if place < AROUND {
-        return 0;
+impl<'a> Around<'a> {
+    // The text around the place.
+    fn say_part(&self) -> fmt::Result {
+        say_blanks(8)?;
+        say_points(0 < self.from)?;
+        self.unit.say(part_of(self.text, self.from, self.until))?;
+        say_points(self.until < self.text.len())?;
+        say(b"\n")
     }
-    place - AROUND
+
+    // The mark, under the character or byte at the place.
+    fn say_mark(&self) -> fmt::Result {
+        say_blanks(8)?;
+        say_blanks(usize::from(0 < self.from))?;
+        say_blanks(self.unit.columns(part_of(self.text, self.from, self.place)))?;
+        say(b"^\n")
+    }
+
+    fn say(&self) -> fmt::Result {
+        self.say_part()?;
+        self.say_mark()
+    }
 }
 
-pub(crate) fn say_broken(text: &[u8]) -> bool {
+pub(crate) fn say_stop(text: &[u8], place: usize) -> fmt::Result {
+    let around = Around {
+        text,
+        from: (0..AROUND).fold(place, |at, _| before(text, at)),
+        place,
+        until: (0..AROUND).fold(place, |at, _| behind(text, at)),
+        unit: Unit::Character,
+    };
+    around.say()
+}
+
+pub(crate) fn say_broken(text: &[u8]) -> fmt::Result {
     let place = readable_len(text);
     let around = Around {
-        from: bytes_from(place),
+        text,
+        from: place.saturating_sub(AROUND),
         place,
-        until: least(text.len(), std::num::wrapping_add_usize(place, AROUND)),
-        bytes: true,
+        until: place.wrapping_add(AROUND).min(text.len()),
+        unit: Unit::Byte,
     };
-    say_part(text, around) && say_mark(text, around)
+    around.say()
 }

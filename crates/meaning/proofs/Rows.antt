@@ -1,5 +1,6 @@
 -- The rows of the tables of this folder: a question, what it is asked of, and the answer that must come out. Each table is one
 -- computation, `T (all rows)`. Assumes nothing.
+use Rattle.std.specs.Prelude.{Result, Ok, Err}
 use mathlib.Core.Bool.{Bool, true, false, ◌&&◌, not}
 use mathlib.Core.List.{List, [], ◌∷◌, ◌++◌}
 use Prim.Native.Nat.{ℕ, zero, suc, ◌+◌, ◌-◌}
@@ -13,23 +14,10 @@ use Rattle.meaning.specs.declared.Form.{Form}
 use Rattle.meaning.specs.declared.RadixPrefix.{RadixPrefix}
 use Rattle.meaning.specs.declared.Literal.{Literal}
 use Rattle.meaning.specs.declared.Text.{Text}
-use Rattle.meaning.specs.declared.Range.{Range}
-use Rattle.meaning.specs.declared.Charset.{Charset}
-use Rattle.meaning.specs.declared.Integer.{Integer}
-use Rattle.meaning.specs.declared.Integer.TheVariants as Integer'
-use Rattle.meaning.specs.declared.Truth.{Truth}
-use Rattle.meaning.specs.declared.Nullness.{Nullness}
-use Rattle.meaning.specs.declared.Nullness.TheVariants as Nullness'
-use Rattle.meaning.specs.declared.Identifier.{Identifier}
-use Rattle.meaning.specs.declared.Identifier.TheVariants as Identifier'
-use Rattle.meaning.specs.declared.Writing.{Writing}
-use Rattle.meaning.specs.declared.Writing.TheVariants as Writing'
-use Rattle.meaning.specs.declared.Day.{Day}
-use Rattle.meaning.specs.declared.Dated.{Dated}
-use Rattle.meaning.specs.declared.PackedBits.{PackedBits}
-use Rattle.meaning.specs.declared.PackedBits.TheVariants as Packed'
-use Rattle.meaning.specs.declared.BitWriting.{BitWriting}
-use Rattle.meaning.specs.declared.BitWriting.TheVariants as BitWriting'
+use Rattle.meaning.specs.declared.WritingError.{WritingError}
+use Rattle.meaning.specs.declared.WritingError.TheVariants as WritingError'
+use Rattle.meaning.specs.declared.BitWritingError.{BitWritingError}
+use Rattle.meaning.specs.declared.BitWritingError.TheVariants as BitWritingError'
 use Rattle.meaning.specs.Bytes.{ascii, same}
 use Rattle.meaning.specs.Answers.{Outcome, kind_code, payload, refusal_values, text_number, text_values, range_number, range_values, charset_number}
 use Rattle.meaning.specs.Answers.{charset_values, integer_number, integer_values, truth_number, truth_values, nullness_number, nullness_values, identifier_number}
@@ -47,6 +35,14 @@ use Rattle.meaning.specs.Records.{output}
 use Rattle.meaning.specs.Blocks.{BlockOutcome, block_call}
 use Rattle.meaning.specs.Dates.{date_question, day_question}
 use Rattle.meaning.specs.Packing.{packed_question, bit_write_question}
+use Rattle.meaning.specs.declared.Refusal.{Refusal}
+use Rattle.meaning.specs.declared.Part.{Part}
+use Rattle.std.specs.Prelude.{Option}
+use Rattle.meaning.specs.declared.CalendarDay.{CalendarDay}
+use Rattle.meaning.specs.declared.Text.TheVariants as Text'
+use Rattle.meaning.specs.declared.IdentifierError.{IdentifierError}
+use Rattle.meaning.specs.declared.IdentifierError.TheVariants as IdentifierError'
+use Rattle.meaning.specs.declared.PackedBits.{PackedBits}
 
 -- Texts stand in quotes, one character for each byte: `ascii` turns a character into the byte of its code, also from 80 to FF
 
@@ -125,14 +121,14 @@ due l (packed n t b) = record { values = 0 ∷ length (ascii t) ∷ b ∷ []; by
 due l (lending n w) = record { values = (due l w).values; bytes = (due l w).bytes; buffer = fill n }
 
 -- what is seen of each kind of answer
-abbrev pub text_seen : List ℕ → Outcome Text → Seen
+abbrev pub text_seen : List ℕ → Outcome (Result Text Refusal) → Seen
 text_seen source o =
     record { values = text_number o.answer ∷ text_values o.answer; bytes = shown source o.buffer o.answer; buffer = o.buffer }
 
-abbrev pub range_seen : List ℕ → List ℕ → Range → Seen
+abbrev pub range_seen : List ℕ → List ℕ → Result Part Refusal → Seen
 range_seen source out a = record { values = range_number a ∷ range_values a; bytes = range_shown source a; buffer = out }
 
-abbrev pub charset_seen : List ℕ → List ℕ → Charset → Seen
+abbrev pub charset_seen : List ℕ → List ℕ → Result (Option Part) Refusal → Seen
 charset_seen source out a = record { values = charset_number a ∷ charset_values a; bytes = charset_shown source a; buffer = out }
 
 -- an integer's sign, 1 for a minus, and its magnitude
@@ -141,31 +137,31 @@ sign_and_size [] = []
 sign_and_size (pos n ∷ zs) = 0 ∷ n ∷ sign_and_size zs
 sign_and_size (negsuc n ∷ zs) = 1 ∷ suc n ∷ sign_and_size zs
 
-abbrev pub integer_told : Integer → List ℕ
-integer_told (Integer'.Value z) = integer_number (Integer'.Value z) ∷ sign_and_size (integer_values (Integer'.Value z))
-integer_told (Integer'.Refused r) = integer_number (Integer'.Refused r) ∷ refusal_values r
+abbrev pub integer_told : Result ℤ Refusal → List ℕ
+integer_told (Ok z) = integer_number (Ok z) ∷ sign_and_size (integer_values (Ok z))
+integer_told (Err r) = integer_number (Err r) ∷ refusal_values r
 
-abbrev pub truth_told : Truth → List ℕ
+abbrev pub truth_told : Result Bool Refusal → List ℕ
 truth_told a = truth_number a ∷ truth_values a
 
 -- that it is null is told as a yes
-abbrev pub nullness_told : Nullness → List ℕ
-nullness_told Nullness'.IsNull = nullness_number Nullness'.IsNull ∷ 1 ∷ nullness_values Nullness'.IsNull
-nullness_told (Nullness'.Refused r) = nullness_number (Nullness'.Refused r) ∷ nullness_values (Nullness'.Refused r)
+abbrev pub nullness_told : Result (Unit {0}) Refusal → List ℕ
+nullness_told (Ok tt) = nullness_number (Ok tt) ∷ 1 ∷ nullness_values (Ok tt)
+nullness_told (Err r) = nullness_number (Err r) ∷ nullness_values (Err r)
 
 -- the day of a date, or of a number
-abbrev pub dated_told : Dated → List ℕ
+abbrev pub dated_told : Result CalendarDay Refusal → List ℕ
 dated_told a = dated_number a ∷ dated_values a
 
-abbrev pub found_told : Day → List ℕ
+abbrev pub found_told : Option CalendarDay → List ℕ
 found_told a = found_number a ∷ found_values a
 
 -- packed bits are shown where they are written
-abbrev pub packed_shown : List ℕ → PackedBits → List ℕ
-packed_shown out (Packed'.Written n b) = part_shown 0 n out
-packed_shown out (Packed'.Refused r) = []
+abbrev pub packed_shown : List ℕ → Result PackedBits Refusal → List ℕ
+packed_shown out (Ok π) = part_shown 0 π.len out
+packed_shown out (Err r) = []
 
-abbrev pub packed_seen : Outcome PackedBits → Seen
+abbrev pub packed_seen : Outcome (Result PackedBits Refusal) → Seen
 packed_seen o =
     record { values = packed_number o.answer ∷ packed_values o.answer; bytes = packed_shown o.buffer o.answer; buffer = o.buffer }
 
@@ -211,14 +207,14 @@ identifier_due (dated y m d n) = values_seen [] []
 identifier_due (packed n t b) = values_seen [] []
 identifier_due (lending n w) = values_seen [] []
 
-abbrev pub identifier_shown : List ℕ → List ℕ → Identifier → List ℕ
-identifier_shown t out (Identifier'.Borrowed f u) = part_shown f u t
-identifier_shown t out (Identifier'.Written n) = part_shown 0 n out
-identifier_shown t out Identifier'.NotUtf8 = []
-identifier_shown t out Identifier'.InvalidString = []
-identifier_shown t out (Identifier'.NoRoom n) = []
+abbrev pub identifier_shown : List ℕ → List ℕ → Result Text IdentifierError → List ℕ
+identifier_shown t out (Ok (Text'.Borrowed f u)) = part_shown f u t
+identifier_shown t out (Ok (Text'.Written n)) = part_shown 0 n out
+identifier_shown t out (Err IdentifierError'.NotUtf8) = []
+identifier_shown t out (Err IdentifierError'.InvalidString) = []
+identifier_shown t out (Err (IdentifierError'.NoRoom n)) = []
 
-abbrev pub identifier_seen : List ℕ → Outcome Identifier → Seen
+abbrev pub identifier_seen : List ℕ → Outcome (Result Text IdentifierError) → Seen
 identifier_seen t o =
     record { values = identifier_number o.answer ∷ identifier_values o.answer; bytes = identifier_shown t o.buffer o.answer; buffer = o.buffer }
 
@@ -232,24 +228,24 @@ wrote_due n (wrote t) = record { values = 0 ∷ length (ascii t) ∷ []; bytes =
 wrote_due n (needs k) = record { values = 9 ∷ k ∷ []; bytes = []; buffer = fill n }
 wrote_due n (refused k) = record { values = k ∷ []; bytes = []; buffer = fill n }
 
-abbrev pub wrote_shown : List ℕ → Writing → List ℕ
-wrote_shown out (Writing'.Written n) = part_shown 0 n out
-wrote_shown out Writing'.OverLimit = []
-wrote_shown out Writing'.NotUtf8 = []
-wrote_shown out Writing'.HoldsNul = []
-wrote_shown out (Writing'.NoRoom n) = []
+abbrev pub wrote_shown : List ℕ → Result ℕ WritingError → List ℕ
+wrote_shown out (Ok n) = part_shown 0 n out
+wrote_shown out (Err WritingError'.OverLimit) = []
+wrote_shown out (Err WritingError'.NotUtf8) = []
+wrote_shown out (Err WritingError'.HoldsNul) = []
+wrote_shown out (Err (WritingError'.NoRoom n)) = []
 
-abbrev pub wrote_seen : Outcome Writing → Seen
+abbrev pub wrote_seen : Outcome (Result ℕ WritingError) → Seen
 wrote_seen o =
     record { values = writing_number o.answer ∷ writing_values o.answer; bytes = wrote_shown o.buffer o.answer; buffer = o.buffer }
 
-abbrev pub bits_wrote_shown : List ℕ → BitWriting → List ℕ
-bits_wrote_shown out (BitWriting'.Written n) = part_shown 0 n out
-bits_wrote_shown out BitWriting'.OverLimit = []
-bits_wrote_shown out BitWriting'.BadBits = []
-bits_wrote_shown out (BitWriting'.NoRoom n) = []
+abbrev pub bits_wrote_shown : List ℕ → Result ℕ BitWritingError → List ℕ
+bits_wrote_shown out (Ok n) = part_shown 0 n out
+bits_wrote_shown out (Err BitWritingError'.OverLimit) = []
+bits_wrote_shown out (Err BitWritingError'.BadBits) = []
+bits_wrote_shown out (Err (BitWritingError'.NoRoom n)) = []
 
-abbrev pub bits_wrote_seen : Outcome BitWriting → Seen
+abbrev pub bits_wrote_seen : Outcome (Result ℕ BitWritingError) → Seen
 bits_wrote_seen o =
     record {
       values = bit_writing_number o.answer ∷ bit_writing_values o.answer;

@@ -1,6 +1,7 @@
 -- What the definitions say and no question shows: which texts cut completely; where a temporal text breaks with the setting on; the numbers and values of
 -- answers that no row reaches; the view of a range that does not fit; where a view stands; where each range of white space ends; the bytes that an
 -- argument of UESCAPE gives. Assumes nothing.
+use Rattle.std.specs.Prelude.{Ok, Err}
 use mathlib.Core.Bool.{Bool, true, false, ◌&&◌}
 use mathlib.Core.List.{List, [], ◌∷◌, map}
 use Prim.Native.Nat.{ℕ}
@@ -12,8 +13,6 @@ use Rattle.meaning.specs.declared.Settings.{Settings}
 use Rattle.meaning.specs.declared.TimeZone.TheVariants as Zone
 use Rattle.meaning.specs.declared.IntervalFields.{IntervalFields}
 use Rattle.meaning.specs.declared.IntervalFields.TheVariants as Field
-use Rattle.meaning.specs.declared.Fields.TheVariants as Fields'
-use Rattle.meaning.specs.declared.Precision.TheVariants as Precision'
 use Rattle.meaning.specs.declared.BitStringRadix.TheVariants.{Binary, Hex}
 use Rattle.meaning.specs.declared.LiteralKind.{LiteralKind}
 use Rattle.meaning.specs.declared.LiteralKind.TheVariants as Kind
@@ -22,16 +21,10 @@ use Rattle.meaning.specs.declared.Span.{Span}
 use Rattle.meaning.specs.declared.Refusal.{Refusal}
 use Rattle.meaning.specs.declared.Refusal.TheVariants.{WrongKind, MissingSource, InvalidSourceRange, NotUtf8, InvalidInteger, InvalidString}
 use Rattle.meaning.specs.declared.Refusal.TheVariants.{InvalidBitString, InvalidMoney, NoRoom, InvalidDate}
-use Rattle.meaning.specs.declared.Read.TheVariants as Read'
+use Rattle.meaning.specs.declared.ReadText.TheVariants as ReadText'
+use Rattle.meaning.specs.declared.ReadRefusal.TheVariants as ReadRefusal'
 use Rattle.meaning.specs.declared.Text.{Text}
 use Rattle.meaning.specs.declared.Text.TheVariants as Text'
-use Rattle.meaning.specs.declared.Range.{Range}
-use Rattle.meaning.specs.declared.Range.TheVariants as Range'
-use Rattle.meaning.specs.declared.Charset.{Charset}
-use Rattle.meaning.specs.declared.Charset.TheVariants as Charset'
-use Rattle.meaning.specs.declared.Integer.TheVariants as Integer'
-use Rattle.meaning.specs.declared.Truth.TheVariants as Truth'
-use Rattle.meaning.specs.declared.Nullness.TheVariants as Nullness'
 use Rattle.meaning.specs.Bytes.{ascii, same, within, is_mark, is_letter, is_decimal, in_name, starts_tag, in_tag, digit, all_digits}
 use Rattle.meaning.specs.Chars.{lead, utf8, more, encode, is_scalar, is_space}
 use Rattle.meaning.specs.Steps.{doubled, one_byte, may_escape, scalar_by, pair, low_half, uescaped}
@@ -46,6 +39,10 @@ use Rattle.meaning.specs.Reads.{read_place}
 use Rattle.meaning.specs.Codes.{kind_of}
 use Rattle.meaning.specs.Blocks.{numbers_of, refused_four}
 use Rattle.meaning.proofs.Rows.{equal, sign_and_size}
+use Rattle.std.specs.Prelude.{Result}
+use Rattle.meaning.specs.declared.Part.{Part}
+use Rattle.meaning.specs.Answers.{part_at}
+use Rattle.std.specs.Prelude.{Option, Some, None}
 
 pub data Fact : Type 0 where
   -- at a setting a text cuts completely, or it does not
@@ -62,9 +59,9 @@ pub data Fact : Type 0 where
   -- two lists of numbers are the same
   gives : List ℕ → List ℕ → Fact
   -- what is shown of a source and a buffer, and of a source
-  shows : Text → String → String → String → Fact
-  part_shows : Range → String → String → Fact
-  name_shows : Charset → String → String → Fact
+  shows : Result Text Refusal → String → String → String → Fact
+  part_shows : Result Part Refusal → String → String → Fact
+  name_shows : Result (Option Part) Refusal → String → String → Fact
 
 abbrev pub refused_at : ℕ → Answer → Bool
 refused_at p (borrowed f u) = false
@@ -131,8 +128,8 @@ kinds =
     kind Kind.Integer (1 ∷ []) ∷ kind Kind.Float (2 ∷ []) ∷ kind Kind.Decimal (3 ∷ []) ∷ kind Kind.String (4 ∷ []) ∷ kind (Kind.Boolean true) (5 ∷ []) ∷
     kind (Kind.Boolean false) (6 ∷ []) ∷ kind Kind.Null (7 ∷ []) ∷ kind Kind.Date (8 ∷ []) ∷ kind (Kind.Time Zone.Unspecified) (9 ∷ 0 ∷ []) ∷
     kind (Kind.Time Zone.WithTimeZone) (9 ∷ 1 ∷ []) ∷ kind (Kind.Timestamp Zone.WithoutTimeZone) (10 ∷ 2 ∷ []) ∷
-    kind (Kind.Interval Fields'.Absent Precision'.Absent) (11 ∷ 0 ∷ []) ∷
-    kind (Kind.Interval (Fields'.Given Field.DayToSecond) (Precision'.Given 6)) (11 ∷ 10 ∷ 6 ∷ []) ∷
+    kind (Kind.Interval None None) (11 ∷ 0 ∷ []) ∷
+    kind (Kind.Interval (Some Field.DayToSecond) (Some 6)) (11 ∷ 10 ∷ 6 ∷ []) ∷
     kind (Kind.BitString Binary) (12 ∷ []) ∷ kind (Kind.BitString Hex) (13 ∷ []) ∷ kind Kind.Money (14 ∷ []) ∷
     coded 1 ∷ coded 2 ∷ coded 3 ∷ coded 4 ∷ coded 5 ∷ coded 6 ∷ coded 7 ∷ coded 8 ∷ coded 9 ∷ coded 10 ∷ coded 11 ∷ coded 12 ∷ coded 13 ∷ coded 14 ∷ []
 
@@ -163,26 +160,26 @@ numbers =
     gives
     (numbers_of (map refused_four refusals))
     (1 ∷ 0 ∷ 0 ∷ 0 ∷ 2 ∷ 0 ∷ 0 ∷ 0 ∷ 3 ∷ 0 ∷ 0 ∷ 0 ∷ 4 ∷ 0 ∷ 0 ∷ 0 ∷ 5 ∷ 0 ∷ 0 ∷ 0 ∷ 6 ∷ 0 ∷ 4 ∷ 0 ∷ 7 ∷ 0 ∷ 0 ∷ 0 ∷ 8 ∷ 0 ∷ 0 ∷ 0 ∷ 9 ∷ 0 ∷ 0 ∷ 3 ∷ 14 ∷ 0 ∷ 0 ∷ 0 ∷ []) ∷
-    gives (map (λ r. text_number (Text'.Refused r)) refusals) (map refusal_number refusals) ∷
-    gives (map (λ r. range_number (Range'.Refused r)) refusals) (map refusal_number refusals) ∷
-    gives (map (λ r. charset_number (Charset'.Refused r)) refusals) (map refusal_number refusals) ∷
-    gives (map (λ r. integer_number (Integer'.Refused r)) refusals) (map refusal_number refusals) ∷
-    gives (map (λ r. truth_number (Truth'.Refused r)) refusals) (map refusal_number refusals) ∷
-    gives (map (λ r. nullness_number (Nullness'.Refused r)) refusals) (map refusal_number refusals) ∷
-    gives (integer_number (Integer'.Value (negsuc 4)) ∷ sign_and_size (integer_values (Integer'.Value (negsuc 4)))) (0 ∷ 1 ∷ 5 ∷ []) ∷
-    gives (sign_and_size (integer_values (Integer'.Refused (NotUtf8 here)))) (0 ∷ 7 ∷ 0 ∷ 5 ∷ []) ∷
-    gives (truth_number (Truth'.Value false) ∷ truth_values (Truth'.Value false)) (0 ∷ 0 ∷ []) ∷
-    gives (nullness_number Nullness'.IsNull ∷ nullness_values Nullness'.IsNull) (0 ∷ []) ∷ []
+    gives (map (λ r. text_number (Err r)) refusals) (map refusal_number refusals) ∷
+    gives (map (λ r. range_number (Err r)) refusals) (map refusal_number refusals) ∷
+    gives (map (λ r. charset_number (Err r)) refusals) (map refusal_number refusals) ∷
+    gives (map (λ r. integer_number (Err r)) refusals) (map refusal_number refusals) ∷
+    gives (map (λ r. truth_number (Err r)) refusals) (map refusal_number refusals) ∷
+    gives (map (λ r. nullness_number (Err r)) refusals) (map refusal_number refusals) ∷
+    gives (integer_number (Ok (negsuc 4)) ∷ sign_and_size (integer_values (Ok (negsuc 4)))) (0 ∷ 1 ∷ 5 ∷ []) ∷
+    gives (sign_and_size (integer_values (Err (NotUtf8 here)))) (0 ∷ 7 ∷ 0 ∷ 5 ∷ []) ∷
+    gives (truth_number (Ok false) ∷ truth_values (Ok false)) (0 ∷ 0 ∷ []) ∷
+    gives (nullness_number (Ok tt) ∷ nullness_values (Ok tt)) (0 ∷ []) ∷ []
 
 -- [01 What is carried over] "a range that doesn't fit its slice, or a refusal, shows an empty part"
 abbrev pub views : List Fact
 views =
-    shows (Text'.Borrowed 1 3) "abc" "xyz" "bc" ∷ shows (Text'.Borrowed 3 3) "abc" "xyz" "" ∷ shows (Text'.Borrowed 2 1) "abc" "xyz" "" ∷
-    shows (Text'.Borrowed 0 4) "abc" "xyzw" "" ∷ shows (Text'.Borrowed 4 4) "abc" "xyzw" "" ∷ shows (Text'.Written 2) "abc" "xyz" "xy" ∷
-    shows (Text'.Written 4) "abcd" "xyz" "" ∷ shows (Text'.Refused (NoRoom 2)) "abc" "xyz" "" ∷
-    part_shows (Range'.Found 0 2) "abc" "ab" ∷ part_shows (Range'.Found 1 4) "abc" "" ∷ part_shows (Range'.Found 2 1) "abc" "" ∷
-    part_shows (Range'.Refused (InvalidMoney here)) "abc" "" ∷ name_shows (Charset'.Named 1 2) "abc" "b" ∷ name_shows (Charset'.Named 1 4) "abc" "" ∷
-    name_shows Charset'.Unnamed "abc" "" ∷ name_shows (Charset'.Refused (NotUtf8 here)) "abc" "" ∷ []
+    shows (Ok (Text'.Borrowed 1 3)) "abc" "xyz" "bc" ∷ shows (Ok (Text'.Borrowed 3 3)) "abc" "xyz" "" ∷ shows (Ok (Text'.Borrowed 2 1)) "abc" "xyz" "" ∷
+    shows (Ok (Text'.Borrowed 0 4)) "abc" "xyzw" "" ∷ shows (Ok (Text'.Borrowed 4 4)) "abc" "xyzw" "" ∷ shows (Ok (Text'.Written 2)) "abc" "xyz" "xy" ∷
+    shows (Ok (Text'.Written 4)) "abcd" "xyz" "" ∷ shows (Err (NoRoom 2)) "abc" "xyz" "" ∷
+    part_shows (Ok (part_at 0 2)) "abc" "ab" ∷ part_shows (Ok (part_at 1 4)) "abc" "" ∷ part_shows (Ok (part_at 2 1)) "abc" "" ∷
+    part_shows (Err (InvalidMoney here)) "abc" "" ∷ name_shows (Ok (Some (part_at 1 2))) "abc" "b" ∷ name_shows (Ok (Some (part_at 1 4))) "abc" "" ∷
+    name_shows (Ok None) "abc" "" ∷ name_shows (Err (NotUtf8 here)) "abc" "" ∷ []
 
 -- [01 Where each language form goes] "returned as slices of the lent source, proved to be that range": where a part stands. The source's three bytes are at
 -- place 10 of block 1 of the memory, the buffer's three at place 20 of block 2
@@ -197,16 +194,16 @@ stands p block place = gives (p.0 ∷ p.1 ∷ []) (block ∷ place ∷ [])
 
 abbrev pub standing : List Fact
 standing =
-    stands (shown_place source buffer (Text'.Borrowed 1 3)) 1 11 ∷ stands (shown_place source buffer (Text'.Borrowed 3 3)) 1 13 ∷
-    stands (shown_place source buffer (Text'.Borrowed 2 1)) 1 10 ∷ stands (shown_place source buffer (Text'.Borrowed 1 4)) 1 10 ∷
-    stands (shown_place source buffer (Text'.Written 2)) 2 20 ∷ stands (shown_place source buffer (Text'.Written 4)) 2 20 ∷
-    stands (shown_place source buffer (Text'.Refused (NoRoom 4))) 1 10 ∷
-    stands (range_place source (Range'.Found 1 2)) 1 11 ∷ stands (range_place source (Range'.Found 1 4)) 1 10 ∷
-    stands (range_place source (Range'.Refused (InvalidMoney here))) 1 10 ∷
-    stands (charset_place source (Charset'.Named 1 2)) 1 11 ∷ stands (charset_place source (Charset'.Named 1 4)) 1 10 ∷
-    stands (charset_place source Charset'.Unnamed) 1 10 ∷ stands (charset_place source (Charset'.Refused (NotUtf8 here))) 1 10 ∷
-    stands (read_place source buffer (Read'.Borrowed 1 2)) 1 11 ∷ stands (read_place source buffer (Read'.Written 2)) 2 20 ∷
-    stands (read_place source buffer (Read'.Refused 1)) 1 10 ∷ stands (read_place source buffer (Read'.NoRoom 4)) 1 10 ∷ []
+    stands (shown_place source buffer (Ok (Text'.Borrowed 1 3))) 1 11 ∷ stands (shown_place source buffer (Ok (Text'.Borrowed 3 3))) 1 13 ∷
+    stands (shown_place source buffer (Ok (Text'.Borrowed 2 1))) 1 10 ∷ stands (shown_place source buffer (Ok (Text'.Borrowed 1 4))) 1 10 ∷
+    stands (shown_place source buffer (Ok (Text'.Written 2))) 2 20 ∷ stands (shown_place source buffer (Ok (Text'.Written 4))) 2 20 ∷
+    stands (shown_place source buffer (Err (NoRoom 4))) 1 10 ∷
+    stands (range_place source (Ok (part_at 1 2))) 1 11 ∷ stands (range_place source (Ok (part_at 1 4))) 1 10 ∷
+    stands (range_place source (Err (InvalidMoney here))) 1 10 ∷
+    stands (charset_place source (Ok (Some (part_at 1 2)))) 1 11 ∷ stands (charset_place source (Ok (Some (part_at 1 4)))) 1 10 ∷
+    stands (charset_place source (Ok None)) 1 10 ∷ stands (charset_place source (Err (NotUtf8 here))) 1 10 ∷
+    stands (read_place source buffer (Ok (ReadText'.Borrowed 1 2))) 1 11 ∷ stands (read_place source buffer (Ok (ReadText'.Written 2))) 2 20 ∷
+    stands (read_place source buffer (Err (ReadRefusal'.At 1))) 1 10 ∷ stands (read_place source buffer (Err (ReadRefusal'.NoRoom 4))) 1 10 ∷ []
 
 pub facts_hold : T (all_hold cutting && all_hold places && all_hold blanks && all_hold arguments && all_hold kinds && all_hold numbers && all_hold views
     && all_hold standing)

@@ -1,15 +1,11 @@
 -- [01 Numbers an answer can carry] The number and the values that each case of each answer stands for; what is shown of a text; and
 -- what every contract says. Assumes nothing.
-use Rattle.std.specs.Prelude.{true, false, ◌&&◌, ◌≡◌, List, [], ◌∷◌, ◌++◌, map, ℕ, ◌+◌, leb, length, drop, ℤ, pos}
+use Rattle.std.specs.Prelude.{true, false, ◌&&◌, ◌≡◌, List, [], ◌∷◌, ◌++◌, map, ℕ, ◌+◌, leb, length, drop, ℤ, pos, Result, Ok, Err}
 use Rattle.std.specs.Borrow.{Bor}
 use Rattle.meaning.specs.declared.TimeZone.{TimeZone}
 use Rattle.meaning.specs.declared.TimeZone.TheVariants as Zone
 use Rattle.meaning.specs.declared.IntervalFields.{IntervalFields}
 use Rattle.meaning.specs.declared.IntervalFields.TheVariants as Field
-use Rattle.meaning.specs.declared.Fields.{Fields}
-use Rattle.meaning.specs.declared.Fields.TheVariants as Fields'
-use Rattle.meaning.specs.declared.Precision.{Precision}
-use Rattle.meaning.specs.declared.Precision.TheVariants as Precision'
 use Rattle.meaning.specs.declared.BitStringRadix.TheVariants.{Binary, Hex}
 use Rattle.meaning.specs.declared.LiteralKind.{LiteralKind}
 use Rattle.meaning.specs.declared.LiteralKind.TheVariants as Kind
@@ -21,31 +17,19 @@ use Rattle.meaning.specs.declared.Refusal.TheVariants.{WrongKind, MissingSource,
 use Rattle.meaning.specs.declared.Refusal.TheVariants.{InvalidBitString, InvalidMoney, NoRoom, InvalidDate}
 use Rattle.meaning.specs.declared.Text.{Text}
 use Rattle.meaning.specs.declared.Text.TheVariants as Text'
-use Rattle.meaning.specs.declared.Range.{Range}
-use Rattle.meaning.specs.declared.Range.TheVariants as Range'
-use Rattle.meaning.specs.declared.Charset.{Charset}
-use Rattle.meaning.specs.declared.Charset.TheVariants as Charset'
-use Rattle.meaning.specs.declared.Integer.{Integer}
-use Rattle.meaning.specs.declared.Integer.TheVariants as Integer'
-use Rattle.meaning.specs.declared.Truth.{Truth}
-use Rattle.meaning.specs.declared.Truth.TheVariants as Truth'
-use Rattle.meaning.specs.declared.Nullness.{Nullness}
-use Rattle.meaning.specs.declared.Nullness.TheVariants as Nullness'
-use Rattle.meaning.specs.declared.Identifier.{Identifier}
-use Rattle.meaning.specs.declared.Identifier.TheVariants as Identifier'
-use Rattle.meaning.specs.declared.Writing.{Writing}
-use Rattle.meaning.specs.declared.Writing.TheVariants as Writing'
+use Rattle.meaning.specs.declared.WritingError.{WritingError}
+use Rattle.meaning.specs.declared.WritingError.TheVariants as WritingError'
 use Rattle.meaning.specs.declared.CalendarDay.{CalendarDay}
-use Rattle.meaning.specs.declared.Day.{Day}
-use Rattle.meaning.specs.declared.Day.TheVariants as Day'
-use Rattle.meaning.specs.declared.Dated.{Dated}
-use Rattle.meaning.specs.declared.Dated.TheVariants as Dated'
-use Rattle.meaning.specs.declared.PackedBits.{PackedBits}
-use Rattle.meaning.specs.declared.PackedBits.TheVariants as Packed'
-use Rattle.meaning.specs.declared.BitWriting.{BitWriting}
-use Rattle.meaning.specs.declared.BitWriting.TheVariants as BitWriting'
+use Rattle.meaning.specs.declared.BitWritingError.{BitWritingError}
+use Rattle.meaning.specs.declared.BitWritingError.TheVariants as BitWritingError'
 use Rattle.meaning.specs.Bytes.{part}
 use Rattle.std.specs.Prelude.{if◌then◌else◌}
+use Rattle.std.specs.Prelude.{Bool}
+use Rattle.meaning.specs.declared.Part.{Part}
+use Rattle.std.specs.Prelude.{Option, Some, None}
+use Rattle.meaning.specs.declared.IdentifierError.{IdentifierError}
+use Rattle.meaning.specs.declared.IdentifierError.TheVariants as IdentifierError'
+use Rattle.meaning.specs.declared.PackedBits.{PackedBits}
 
 -- VALUES. A literal's kind by the record program's code, and what it holds besides
 abbrev pub kind_code : LiteralKind → ℕ
@@ -108,14 +92,14 @@ field_code Field.HourToMicrosecond = 22
 field_code Field.MinuteToMicrosecond = 23
 field_code Field.SecondToMicrosecond = 24
 
-abbrev pub fields_code : Fields → ℕ
-fields_code Fields'.Absent = 0
-fields_code (Fields'.Given f) = field_code f
+abbrev pub fields_code : Option IntervalFields → ℕ
+fields_code None = 0
+fields_code (Some f) = field_code f
 
 -- none, or one number
-abbrev pub precision_values : Precision → List ℕ
-precision_values Precision'.Absent = []
-precision_values (Precision'.Given n) = n ∷ []
+abbrev pub precision_values : Option ℕ → List ℕ
+precision_values None = []
+precision_values (Some n) = n ∷ []
 
 abbrev pub payload : LiteralKind → List ℕ
 payload Kind.Integer = []
@@ -159,169 +143,176 @@ refusal_values (InvalidMoney s) = span_values s
 refusal_values (NoRoom n) = n ∷ []
 refusal_values (InvalidDate s) = span_values s
 
+-- a part of the source from a place up to another, and packed bytes of so many bits
+abbrev pub part_at : ℕ → ℕ → Part
+part_at f u = record { start = f; end = u }
+
+abbrev pub packed_at : ℕ → ℕ → PackedBits
+packed_at n b = record { len = n; bits = b }
+
 -- EVERY ANSWER's number, and its values
-abbrev pub text_number : Text → ℕ
-text_number (Text'.Borrowed f u) = 0
-text_number (Text'.Written n) = 0
-text_number (Text'.Refused r) = refusal_number r
+abbrev pub text_number : Result Text Refusal → ℕ
+text_number (Ok (Text'.Borrowed f u)) = 0
+text_number (Ok (Text'.Written n)) = 0
+text_number (Err r) = refusal_number r
 
-abbrev pub text_values : Text → List ℕ
-text_values (Text'.Borrowed f u) = f ∷ u ∷ []
-text_values (Text'.Written n) = n ∷ []
-text_values (Text'.Refused r) = refusal_values r
+abbrev pub text_values : Result Text Refusal → List ℕ
+text_values (Ok (Text'.Borrowed f u)) = f ∷ u ∷ []
+text_values (Ok (Text'.Written n)) = n ∷ []
+text_values (Err r) = refusal_values r
 
-abbrev pub range_number : Range → ℕ
-range_number (Range'.Found f u) = 0
-range_number (Range'.Refused r) = refusal_number r
+abbrev pub range_number : Result Part Refusal → ℕ
+range_number (Ok π) = 0
+range_number (Err r) = refusal_number r
 
-abbrev pub range_values : Range → List ℕ
-range_values (Range'.Found f u) = f ∷ u ∷ []
-range_values (Range'.Refused r) = refusal_values r
+abbrev pub range_values : Result Part Refusal → List ℕ
+range_values (Ok π) = π.start ∷ π.end ∷ []
+range_values (Err r) = refusal_values r
 
-abbrev pub charset_number : Charset → ℕ
-charset_number (Charset'.Named f u) = 0
-charset_number Charset'.Unnamed = 0
-charset_number (Charset'.Refused r) = refusal_number r
+abbrev pub charset_number : Result (Option Part) Refusal → ℕ
+charset_number (Ok (Some π)) = 0
+charset_number (Ok None) = 0
+charset_number (Err r) = refusal_number r
 
 -- without a name there is no value: a case of its own, since a name is never empty
-abbrev pub charset_values : Charset → List ℕ
-charset_values (Charset'.Named f u) = f ∷ u ∷ []
-charset_values Charset'.Unnamed = []
-charset_values (Charset'.Refused r) = refusal_values r
+abbrev pub charset_values : Result (Option Part) Refusal → List ℕ
+charset_values (Ok (Some π)) = π.start ∷ π.end ∷ []
+charset_values (Ok None) = []
+charset_values (Err r) = refusal_values r
 
-abbrev pub integer_number : Integer → ℕ
-integer_number (Integer'.Value z) = 0
-integer_number (Integer'.Refused r) = refusal_number r
+abbrev pub integer_number : Result ℤ Refusal → ℕ
+integer_number (Ok z) = 0
+integer_number (Err r) = refusal_number r
 
 -- the integer; and a refusal's values, none of which is below 0
-abbrev pub integer_values : Integer → List ℤ
-integer_values (Integer'.Value z) = z ∷ []
-integer_values (Integer'.Refused r) = map pos (refusal_values r)
+abbrev pub integer_values : Result ℤ Refusal → List ℤ
+integer_values (Ok z) = z ∷ []
+integer_values (Err r) = map pos (refusal_values r)
 
-abbrev pub truth_number : Truth → ℕ
-truth_number (Truth'.Value b) = 0
-truth_number (Truth'.Refused r) = refusal_number r
+abbrev pub truth_number : Result Bool Refusal → ℕ
+truth_number (Ok b) = 0
+truth_number (Err r) = refusal_number r
 
 -- 1 for true, 0 for false
-abbrev pub truth_values : Truth → List ℕ
-truth_values (Truth'.Value true) = 1 ∷ []
-truth_values (Truth'.Value false) = 0 ∷ []
-truth_values (Truth'.Refused r) = refusal_values r
+abbrev pub truth_values : Result Bool Refusal → List ℕ
+truth_values (Ok true) = 1 ∷ []
+truth_values (Ok false) = 0 ∷ []
+truth_values (Err r) = refusal_values r
 
-abbrev pub nullness_number : Nullness → ℕ
-nullness_number Nullness'.IsNull = 0
-nullness_number (Nullness'.Refused r) = refusal_number r
+abbrev pub nullness_number : Result (Unit {0}) Refusal → ℕ
+nullness_number (Ok tt) = 0
+nullness_number (Err r) = refusal_number r
 
-abbrev pub nullness_values : Nullness → List ℕ
-nullness_values Nullness'.IsNull = []
-nullness_values (Nullness'.Refused r) = refusal_values r
+abbrev pub nullness_values : Result (Unit {0}) Refusal → List ℕ
+nullness_values (Ok tt) = []
+nullness_values (Err r) = refusal_values r
 
 -- "Where a call has no literal .., 4 and 6 return the number alone"
-abbrev pub identifier_number : Identifier → ℕ
-identifier_number (Identifier'.Borrowed f u) = 0
-identifier_number (Identifier'.Written n) = 0
-identifier_number Identifier'.NotUtf8 = 4
-identifier_number Identifier'.InvalidString = 6
-identifier_number (Identifier'.NoRoom n) = 9
+abbrev pub identifier_number : Result Text IdentifierError → ℕ
+identifier_number (Ok (Text'.Borrowed f u)) = 0
+identifier_number (Ok (Text'.Written n)) = 0
+identifier_number (Err IdentifierError'.NotUtf8) = 4
+identifier_number (Err IdentifierError'.InvalidString) = 6
+identifier_number (Err (IdentifierError'.NoRoom n)) = 9
 
-abbrev pub identifier_values : Identifier → List ℕ
-identifier_values (Identifier'.Borrowed f u) = f ∷ u ∷ []
-identifier_values (Identifier'.Written n) = n ∷ []
-identifier_values Identifier'.NotUtf8 = []
-identifier_values Identifier'.InvalidString = []
-identifier_values (Identifier'.NoRoom n) = n ∷ []
+abbrev pub identifier_values : Result Text IdentifierError → List ℕ
+identifier_values (Ok (Text'.Borrowed f u)) = f ∷ u ∷ []
+identifier_values (Ok (Text'.Written n)) = n ∷ []
+identifier_values (Err IdentifierError'.NotUtf8) = []
+identifier_values (Err IdentifierError'.InvalidString) = []
+identifier_values (Err (IdentifierError'.NoRoom n)) = n ∷ []
 
-abbrev pub writing_number : Writing → ℕ
-writing_number (Writing'.Written n) = 0
-writing_number Writing'.OverLimit = 12
-writing_number Writing'.NotUtf8 = 4
-writing_number Writing'.HoldsNul = 11
-writing_number (Writing'.NoRoom n) = 9
+abbrev pub writing_number : Result ℕ WritingError → ℕ
+writing_number (Ok n) = 0
+writing_number (Err WritingError'.OverLimit) = 12
+writing_number (Err WritingError'.NotUtf8) = 4
+writing_number (Err WritingError'.HoldsNul) = 11
+writing_number (Err (WritingError'.NoRoom n)) = 9
 
-abbrev pub writing_values : Writing → List ℕ
-writing_values (Writing'.Written n) = n ∷ []
-writing_values Writing'.OverLimit = []
-writing_values Writing'.NotUtf8 = []
-writing_values Writing'.HoldsNul = []
-writing_values (Writing'.NoRoom n) = n ∷ []
+abbrev pub writing_values : Result ℕ WritingError → List ℕ
+writing_values (Ok n) = n ∷ []
+writing_values (Err WritingError'.OverLimit) = []
+writing_values (Err WritingError'.NotUtf8) = []
+writing_values (Err WritingError'.HoldsNul) = []
+writing_values (Err (WritingError'.NoRoom n)) = n ∷ []
 
 -- [02 T-05] "year, month, day and a day number"; without a literal 14 returns the number alone
 abbrev pub day_values : CalendarDay → List ℕ
 day_values d = d.year ∷ d.month ∷ d.day ∷ d.number ∷ []
 
-abbrev pub found_number : Day → ℕ
-found_number (Day'.On d) = 0
-found_number Day'.InvalidDate = 14
+abbrev pub found_number : Option CalendarDay → ℕ
+found_number (Some d) = 0
+found_number None = 14
 
-abbrev pub found_values : Day → List ℕ
-found_values (Day'.On d) = day_values d
-found_values Day'.InvalidDate = []
+abbrev pub found_values : Option CalendarDay → List ℕ
+found_values (Some d) = day_values d
+found_values None = []
 
-abbrev pub dated_number : Dated → ℕ
-dated_number (Dated'.On d) = 0
-dated_number (Dated'.Refused r) = refusal_number r
+abbrev pub dated_number : Result CalendarDay Refusal → ℕ
+dated_number (Ok d) = 0
+dated_number (Err r) = refusal_number r
 
-abbrev pub dated_values : Dated → List ℕ
-dated_values (Dated'.On d) = day_values d
-dated_values (Dated'.Refused r) = refusal_values r
+abbrev pub dated_values : Result CalendarDay Refusal → List ℕ
+dated_values (Ok d) = day_values d
+dated_values (Err r) = refusal_values r
 
 -- [02 T-07] "packed bytes and bit count"; on 9 there is no bit count. The reverse has no literal: 12 and 16 return the number alone
-abbrev pub packed_number : PackedBits → ℕ
-packed_number (Packed'.Written n b) = 0
-packed_number (Packed'.Refused r) = refusal_number r
+abbrev pub packed_number : Result PackedBits Refusal → ℕ
+packed_number (Ok π) = 0
+packed_number (Err r) = refusal_number r
 
-abbrev pub packed_values : PackedBits → List ℕ
-packed_values (Packed'.Written n b) = n ∷ b ∷ []
-packed_values (Packed'.Refused r) = refusal_values r
+abbrev pub packed_values : Result PackedBits Refusal → List ℕ
+packed_values (Ok π) = π.len ∷ π.bits ∷ []
+packed_values (Err r) = refusal_values r
 
-abbrev pub bit_writing_number : BitWriting → ℕ
-bit_writing_number (BitWriting'.Written n) = 0
-bit_writing_number BitWriting'.OverLimit = 12
-bit_writing_number BitWriting'.BadBits = 16
-bit_writing_number (BitWriting'.NoRoom n) = 9
+abbrev pub bit_writing_number : Result ℕ BitWritingError → ℕ
+bit_writing_number (Ok n) = 0
+bit_writing_number (Err BitWritingError'.OverLimit) = 12
+bit_writing_number (Err BitWritingError'.BadBits) = 16
+bit_writing_number (Err (BitWritingError'.NoRoom n)) = 9
 
-abbrev pub bit_writing_values : BitWriting → List ℕ
-bit_writing_values (BitWriting'.Written n) = n ∷ []
-bit_writing_values BitWriting'.OverLimit = []
-bit_writing_values BitWriting'.BadBits = []
-bit_writing_values (BitWriting'.NoRoom n) = n ∷ []
+abbrev pub bit_writing_values : Result ℕ BitWritingError → List ℕ
+bit_writing_values (Ok n) = n ∷ []
+bit_writing_values (Err BitWritingError'.OverLimit) = []
+bit_writing_values (Err BitWritingError'.BadBits) = []
+bit_writing_values (Err (BitWritingError'.NoRoom n)) = n ∷ []
 
 -- THE VIEW. "a range that doesn't fit its slice, or a refusal, shows an empty part"
 unfoldable pub part_shown : ℕ → ℕ → List ℕ → List ℕ
 part_shown f u t = if leb f u && leb u (length t) then part f u t else []
 
-abbrev pub shown : List ℕ → List ℕ → Text → List ℕ
-shown source out (Text'.Borrowed f u) = part_shown f u source
-shown source out (Text'.Written n) = part_shown 0 n out
-shown source out (Text'.Refused r) = []
+abbrev pub shown : List ℕ → List ℕ → Result Text Refusal → List ℕ
+shown source out (Ok (Text'.Borrowed f u)) = part_shown f u source
+shown source out (Ok (Text'.Written n)) = part_shown 0 n out
+shown source out (Err r) = []
 
-abbrev pub range_shown : List ℕ → Range → List ℕ
-range_shown source (Range'.Found f u) = part_shown f u source
-range_shown source (Range'.Refused r) = []
+abbrev pub range_shown : List ℕ → Result Part Refusal → List ℕ
+range_shown source (Ok π) = part_shown π.start π.end source
+range_shown source (Err r) = []
 
-abbrev pub charset_shown : List ℕ → Charset → List ℕ
-charset_shown source (Charset'.Named f u) = part_shown f u source
-charset_shown source Charset'.Unnamed = []
-charset_shown source (Charset'.Refused r) = []
+abbrev pub charset_shown : List ℕ → Result (Option Part) Refusal → List ℕ
+charset_shown source (Ok (Some π)) = part_shown π.start π.end source
+charset_shown source (Ok None) = []
+charset_shown source (Err r) = []
 
 -- WHERE IT STANDS. "returned as slices of the lent source, proved to be that range": in the memory of a lent slice, as many bytes behind its start as the
 -- range's; a range that doesn't fit its slice shows an empty part at the slice's start, and a refusal one at the source's
 abbrev pub part_place : ℕ → ℕ → Bor (List ℕ) → ℕ × ℕ
 part_place f u lent = (lent.ref_ptr.0, lent.ref_ptr.1 + (if leb f u && leb u (length lent.now) then f else 0))
 
-abbrev pub shown_place : Bor (List ℕ) → Bor (List ℕ) → Text → ℕ × ℕ
-shown_place source out (Text'.Borrowed f u) = part_place f u source
-shown_place source out (Text'.Written n) = part_place 0 n out
-shown_place source out (Text'.Refused r) = source.ref_ptr
+abbrev pub shown_place : Bor (List ℕ) → Bor (List ℕ) → Result Text Refusal → ℕ × ℕ
+shown_place source out (Ok (Text'.Borrowed f u)) = part_place f u source
+shown_place source out (Ok (Text'.Written n)) = part_place 0 n out
+shown_place source out (Err r) = source.ref_ptr
 
-abbrev pub range_place : Bor (List ℕ) → Range → ℕ × ℕ
-range_place source (Range'.Found f u) = part_place f u source
-range_place source (Range'.Refused r) = source.ref_ptr
+abbrev pub range_place : Bor (List ℕ) → Result Part Refusal → ℕ × ℕ
+range_place source (Ok π) = part_place π.start π.end source
+range_place source (Err r) = source.ref_ptr
 
-abbrev pub charset_place : Bor (List ℕ) → Charset → ℕ × ℕ
-charset_place source (Charset'.Named f u) = part_place f u source
-charset_place source Charset'.Unnamed = source.ref_ptr
-charset_place source (Charset'.Refused r) = source.ref_ptr
+abbrev pub charset_place : Bor (List ℕ) → Result (Option Part) Refusal → ℕ × ℕ
+charset_place source (Ok (Some π)) = part_place π.start π.end source
+charset_place source (Ok None) = source.ref_ptr
+charset_place source (Err r) = source.ref_ptr
 
 -- what a contract says of a returned slice: its bytes, and where it stands
 pub record IsPart (v : List ℕ) (at : ℕ × ℕ) (r : Bor (List ℕ)) : Type 0 where

@@ -11,6 +11,7 @@ use Rattle.std.specs.Prelude.{if◌then◌else◌}
 use Rattle.meaning.specs.Answers.{Outcome}
 use Rattle.meaning.specs.Questions.{string_question}
 use Rattle.meaning.specs.Codes.{is_known, literal_of, settings_of}
+use Rattle.std.specs.Prelude.{Result, Ok, Err}
 
 -- "four per item: kind code, setting, start, end". (A call that is answered has them in fours)
 abbrev pub items_of : List ℕ → List Item
@@ -43,16 +44,16 @@ refused_four (NoRoom n) = four 9 0 0 n
 refused_four (InvalidDate s) = four 14 0 0 0
 
 -- "A borrowed start is in the source, a written one in the buffer", of which `used` bytes are taken
-abbrev pub four_of : ℕ → Text → Four
-four_of used (Text'.Borrowed f u) = four 0 1 f (u - f)
-four_of used (Text'.Written n) = four 0 2 used n
-four_of used (Text'.Refused r) = refused_four r
+abbrev pub four_of : ℕ → Result Text Refusal → Four
+four_of used (Ok (Text'.Borrowed f u)) = four 0 1 f (u - f)
+four_of used (Ok (Text'.Written n)) = four 0 2 used n
+four_of used (Err r) = refused_four r
 
 -- "a refused item takes no room", and a borrowed one none
-abbrev pub takes : Text → ℕ
-takes (Text'.Borrowed f u) = 0
-takes (Text'.Written n) = n
-takes (Text'.Refused r) = 0
+abbrev pub takes : Result Text Refusal → ℕ
+takes (Ok (Text'.Borrowed f u)) = 0
+takes (Ok (Text'.Written n)) = n
+takes (Err r) = 0
 
 -- ONE ITEM: what is told of it, how many bytes it takes, and the room then
 pub record Asked : Type 0 where
@@ -61,10 +62,10 @@ pub record Asked : Type 0 where
   pub room : List ℕ
 
 -- the single call, "never synthetic"
-abbrev pub item_question : List ℕ → List ℕ → Item → Outcome Text
+abbrev pub item_question : List ℕ → List ℕ → Item → Outcome (Result Text Refusal)
 item_question source room i = string_question (literal_of i.kind 0 i.start i.end) source (settings_of i.setting) room
 
-abbrev pub asked_as : ℕ → Outcome Text → Asked
+abbrev pub asked_as : ℕ → Outcome (Result Text Refusal) → Asked
 asked_as used o = record { told = four_of used o.answer; took = takes o.answer; room = o.buffer }
 
 -- "10 for an unknown kind code or a setting other than 0 or 1, ahead of 1"

@@ -3,12 +3,11 @@
 use Rattle.std.specs.Prelude.{Bool, true, false, ◌&&◌, List, [], ◌∷◌, ℕ, zero, suc, ◌-◌, eqb, leb}
 use Rattle.meaning.specs.declared.Settings.{Settings}
 use Rattle.meaning.specs.declared.TimeZone.TheVariants as Zone
-use Rattle.meaning.specs.declared.Fields.TheVariants as Fields'
-use Rattle.meaning.specs.declared.Precision.TheVariants as Precision'
 use Rattle.meaning.specs.declared.BitStringRadix.TheVariants.{Binary, Hex}
 use Rattle.meaning.specs.declared.LiteralKind.{LiteralKind}
 use Rattle.meaning.specs.declared.LiteralKind.TheVariants as Kind
 use Rattle.meaning.specs.declared.Literal.{Literal}
+use Rattle.std.specs.Prelude.{None}
 
 -- KINDS by code, time zones unspecified, interval data absent; codes outside 1 to 14 are no kind, and no question is asked of what the list gives there
 abbrev pub kind_by : List LiteralKind → ℕ → LiteralKind
@@ -19,7 +18,7 @@ kind_by (k ∷ ks) (suc c) = kind_by ks c
 abbrev pub kinds : List LiteralKind
 kinds =
     Kind.Integer ∷ Kind.Float ∷ Kind.Decimal ∷ Kind.String ∷ Kind.Boolean true ∷ Kind.Boolean false ∷ Kind.Null ∷ Kind.Date ∷
-    Kind.Time Zone.Unspecified ∷ Kind.Timestamp Zone.Unspecified ∷ Kind.Interval Fields'.Absent Precision'.Absent ∷
+    Kind.Time Zone.Unspecified ∷ Kind.Timestamp Zone.Unspecified ∷ Kind.Interval None None ∷
     Kind.BitString Binary ∷ Kind.BitString Hex ∷ Kind.Money ∷ []
 
 abbrev pub kind_of : ℕ → LiteralKind

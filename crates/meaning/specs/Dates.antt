@@ -1,5 +1,5 @@
 -- [02 T-05] Dates as year, month, day and day number: the calendar, the ten bytes of a day, and the question. Assumes nothing.
-use Rattle.std.specs.Prelude.{Bool, true, false, ◌&&◌, ◌||◌, not, List, [], ◌∷◌, ◌++◌, ℕ, zero, suc, ◌+◌, ◌-◌, ◌%◌, eqb, leb, length}
+use Rattle.std.specs.Prelude.{Bool, true, false, ◌&&◌, ◌||◌, not, List, [], ◌∷◌, ◌++◌, ℕ, zero, suc, ◌+◌, ◌-◌, ◌%◌, eqb, leb, length, Result, Ok, Err}
 use Prim.Native.Char.{code}
 use Rattle.meaning.specs.declared.LiteralKind.{LiteralKind}
 use Rattle.meaning.specs.declared.LiteralExpected.TheVariants as Expected
@@ -7,10 +7,6 @@ use Rattle.meaning.specs.declared.Span.{Span}
 use Rattle.meaning.specs.declared.Literal.{Literal}
 use Rattle.meaning.specs.declared.Refusal.TheVariants.{InvalidString, InvalidDate}
 use Rattle.meaning.specs.declared.CalendarDay.{CalendarDay}
-use Rattle.meaning.specs.declared.Day.{Day}
-use Rattle.meaning.specs.declared.Day.TheVariants as Day'
-use Rattle.meaning.specs.declared.Dated.{Dated}
-use Rattle.meaning.specs.declared.Dated.TheVariants as Dated'
 use Rattle.meaning.specs.Bytes.{◌!◌, part, has, within, number, all_digits}
 use Rattle.std.specs.Prelude.{if◌then◌else◌}
 use Rattle.meaning.specs.Cutting.{off}
@@ -19,6 +15,8 @@ use Rattle.meaning.specs.Kinds.{temporal}
 use Rattle.meaning.specs.Answers.{kind_code}
 use Rattle.meaning.specs.Questions.{Tested, passes, barred, tested}
 use Rattle.meaning.specs.Forms.{figures}
+use Rattle.meaning.specs.declared.Refusal.{Refusal}
+use Rattle.std.specs.Prelude.{Option, Some, None}
 
 -- THE CALENDAR. "Gregorian calendar throughout as in ISO 8601"
 unfoldable pub is_leap : ℕ → Bool
@@ -38,7 +36,7 @@ abbrev pub before : (ℕ → ℕ) → ℕ → ℕ
 before f zero = 0
 before f (suc n) = before f n + f (suc n)
 
--- "Day 1 is 0001-01-01": the days of all earlier years, of the year's earlier months, and the day
+-- "Option CalendarDay 1 is 0001-01-01": the days of all earlier years, of the year's earlier months, and the day
 unfoldable pub day_number : ℕ → ℕ → ℕ → ℕ
 day_number y m d = before year_length (y - 1) + before (month_length y) (m - 1) + d
 
@@ -73,8 +71,8 @@ abbrev pub last_day : ℕ
 last_day = 3652059
 
 -- a number that is no day's is refused by 14, with nothing: there is no literal
-unfoldable pub day_question : ℕ → Day
-day_question n = if within 1 last_day n then Day'.On (date_of n) else Day'.InvalidDate
+unfoldable pub day_question : ℕ → Option CalendarDay
+day_question n = if within 1 last_day n then Some (date_of n) else None
 
 -- THE VALUE. "exactly ten bytes, yyyy-mm-dd": decimal digits, and what they make from a place up to another
 abbrev pub digits_in : ℕ → ℕ → List ℕ → ℕ
@@ -92,26 +90,26 @@ is_date v = is_ten_bytes v && is_day (digits_in 0 4 v) (digits_in 5 7 v) (digits
 unfoldable pub spelled_day : ℕ → ℕ → ℕ → List ℕ
 spelled_day y m d = figures 10 4 y ++ (code "-" ∷ figures 10 2 m ++ (code "-" ∷ figures 10 2 d))
 
-unfoldable pub day_in : List ℕ → Day
-day_in v = if is_date v then Day'.On (calendar_day (digits_in 0 4 v) (digits_in 5 7 v) (digits_in 8 10 v)) else Day'.InvalidDate
+unfoldable pub day_in : List ℕ → Option CalendarDay
+day_in v = if is_date v then Some (calendar_day (digits_in 0 4 v) (digits_in 5 7 v) (digits_in 8 10 v)) else None
 
 -- THE QUESTION. "For Date literals": time, timestamp and interval are refused
 abbrev pub is_date_kind : LiteralKind → Bool
 is_date_kind k = eqb (kind_code k) 8
 
 -- "then 14 for a value that is no such date": with the literal's span
-abbrev pub dated_on : Span → Day → Dated
-dated_on s (Day'.On d) = Dated'.On d
-dated_on s Day'.InvalidDate = Dated'.Refused (InvalidDate s)
+abbrev pub dated_on : Span → Option CalendarDay → Result CalendarDay Refusal
+dated_on s (Some d) = Ok d
+dated_on s None = Err (InvalidDate s)
 
 -- "from the decoded value", which is the temporal question's: what it refuses by 6 is refused so, at the same place
-abbrev pub dated_as : Span → Value → Dated
+abbrev pub dated_as : Span → Value → Result CalendarDay Refusal
 dated_as s (means v) = dated_on s (day_in v)
-dated_as s (fails p) = Dated'.Refused (InvalidString s p)
+dated_as s (fails p) = Err (InvalidString s p)
 
-abbrev pub dated_by : Span → Tested → Dated
+abbrev pub dated_by : Span → Tested → Result CalendarDay Refusal
 dated_by s (passes t) = dated_as s (value_of t (temporal off t))
-dated_by s (barred r) = Dated'.Refused r
+dated_by s (barred r) = Err r
 
-unfoldable pub date_question : Literal → List ℕ → Dated
+unfoldable pub date_question : Literal → List ℕ → Result CalendarDay Refusal
 date_question l source = dated_by l.span (tested (is_date_kind l.kind) Expected.Date l source)

@@ -5,8 +5,8 @@ use Prim.Native.Char.{code}
 use Rattle.meaning.specs.declared.Form.{Form}
 use Rattle.meaning.specs.declared.Form.TheVariants.{Escape, Unicode}
 use Rattle.meaning.specs.declared.PartSize.TheVariants.{Whole}
-use Rattle.meaning.specs.declared.Writing.{Writing}
-use Rattle.meaning.specs.declared.Writing.TheVariants.{OverLimit, NotUtf8, HoldsNul}
+use Rattle.meaning.specs.declared.WritingError.{WritingError}
+use Rattle.meaning.specs.declared.WritingError.TheVariants.{OverLimit, NotUtf8, HoldsNul}
 use Rattle.meaning.specs.Bytes.{ascii, has, within, quote, backslash}
 use Rattle.std.specs.Prelude.{if◌then◌else◌}
 use Rattle.meaning.specs.Chars.{Due, due, broken, lead, base, gather, utf8}
@@ -14,6 +14,7 @@ use Rattle.meaning.specs.Walk.{Step, keep, give, stop, walk, value}
 use Rattle.meaning.specs.Steps.{escape_table}
 use Rattle.meaning.specs.Answers.{Outcome}
 use Rattle.meaning.specs.Writer.{over_limit, writes}
+use Rattle.std.specs.Prelude.{Result, Err}
 
 -- a digit below 16, in upper case; and a number by w digits of base β, the high ones first
 unfoldable pub figure : ℕ → ℕ
@@ -67,9 +68,9 @@ unfoldable pub form_text : Form → List ℕ → List ℕ
 form_text f v = form_opening f ++ (value (walk (form_step f) 0 v) ++ (quote ∷ []))
 
 -- "Their length limit is the plain writer's."
-unfoldable pub form_question : Form → List ℕ → List ℕ → Outcome Writing
+unfoldable pub form_question : Form → List ℕ → List ℕ → Outcome (Result ℕ WritingError)
 form_question f v out =
-    if over_limit Whole v then record { answer = OverLimit; buffer = out }
-    else if not (utf8 v) then record { answer = NotUtf8; buffer = out }
-    else if has 0 v then record { answer = HoldsNul; buffer = out }
+    if over_limit Whole v then record { answer = Err OverLimit; buffer = out }
+    else if not (utf8 v) then record { answer = Err NotUtf8; buffer = out }
+    else if has 0 v then record { answer = Err HoldsNul; buffer = out }
     else writes (form_text f v) out

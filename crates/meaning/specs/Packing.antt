@@ -8,10 +8,8 @@ use Rattle.meaning.specs.declared.LiteralExpected.TheVariants as Expected
 use Rattle.meaning.specs.declared.Span.{Span}
 use Rattle.meaning.specs.declared.Literal.{Literal}
 use Rattle.meaning.specs.declared.Refusal.TheVariants as Refusal'
-use Rattle.meaning.specs.declared.PackedBits.{PackedBits}
-use Rattle.meaning.specs.declared.PackedBits.TheVariants as Packed
-use Rattle.meaning.specs.declared.BitWriting.{BitWriting}
-use Rattle.meaning.specs.declared.BitWriting.TheVariants.{Written, OverLimit, BadBits, NoRoom}
+use Rattle.meaning.specs.declared.BitWritingError.{BitWritingError}
+use Rattle.meaning.specs.declared.BitWritingError.TheVariants.{OverLimit, BadBits, NoRoom}
 use Rattle.meaning.specs.Bytes.{quote, digit, all_zero}
 use Rattle.std.specs.Prelude.{if◌then◌else◌}
 use Rattle.meaning.specs.Cutting.{off}
@@ -21,6 +19,10 @@ use Rattle.meaning.specs.Answers.{Outcome, by_room, filled}
 use Rattle.meaning.specs.Questions.{Tested, passes, barred, tested, bit_base}
 use Rattle.meaning.specs.Writer.{over_limit}
 use Rattle.meaning.specs.Forms.{figure}
+use Rattle.std.specs.Prelude.{Result, Ok, Err}
+use Rattle.meaning.specs.declared.Refusal.{Refusal}
+use Rattle.meaning.specs.declared.PackedBits.{PackedBits}
+use Rattle.meaning.specs.Answers.{packed_at}
 
 -- BITS. The w bits of a number, the high one first; and those of one number after the other
 abbrev pub bits_of_number : ℕ → ℕ → List ℕ
@@ -52,19 +54,19 @@ pack_bits t = gather 8 t
 
 -- THE QUESTION. "Refusals: packing as for bits, the needed length in 9 counting packed bytes": the digits are the bits question's. A packed answer is always
 -- written
-abbrev pub packs_as : Span → ℕ → List ℕ → Value → Outcome PackedBits
+abbrev pub packs_as : Span → ℕ → List ℕ → Value → Outcome (Result PackedBits Refusal)
 packs_as s k out (means v) =
     record {
-      answer = by_room (λ n. Packed.Written n (length (bits_in k v))) (λ n. Packed.Refused (Refusal'.NoRoom n)) (length (pack_bits (bits_in k v))) (length out);
+      answer = by_room (λ n. Ok (packed_at n (length (bits_in k v)))) (λ n. Err (Refusal'.NoRoom n)) (length (pack_bits (bits_in k v))) (length out);
       buffer = filled (pack_bits (bits_in k v)) out;
     }
-packs_as s k out (fails p) = record { answer = Packed.Refused (Refusal'.InvalidBitString s); buffer = out }
+packs_as s k out (fails p) = record { answer = Err (Refusal'.InvalidBitString s); buffer = out }
 
-abbrev pub packed_by : Span → ℕ → List ℕ → Tested → Outcome PackedBits
+abbrev pub packed_by : Span → ℕ → List ℕ → Tested → Outcome (Result PackedBits Refusal)
 packed_by s β out (passes t) = packs_as s (bits_per β) out (value_of t (bits off β t))
-packed_by s β out (barred r) = record { answer = Packed.Refused r; buffer = out }
+packed_by s β out (barred r) = record { answer = Err r; buffer = out }
 
-unfoldable pub packed_question : Literal → List ℕ → List ℕ → Outcome PackedBits
+unfoldable pub packed_question : Literal → List ℕ → List ℕ → Outcome (Result PackedBits Refusal)
 packed_question l source out =
     packed_by l.span (bit_base l.kind) out (tested (ltb 0 (bit_base l.kind)) Expected.BitString l source)
 
@@ -93,12 +95,12 @@ unfoldable pub bad_bits : BitStringRadix → List ℕ → ℕ → Bool
 bad_bits r bytes n =
     not (eqb (length bytes) (packed_length n)) || (not (eqb (n % radix_bits r) 0) || not (all_zero (drop n (spread 8 bytes))))
 
-abbrev pub bit_writes : List ℕ → List ℕ → Outcome BitWriting
-bit_writes t out = record { answer = by_room Written NoRoom (length t) (length out); buffer = filled t out }
+abbrev pub bit_writes : List ℕ → List ℕ → Outcome (Result ℕ BitWritingError)
+bit_writes t out = record { answer = by_room Ok (λ n. Err (NoRoom n)) (length t) (length out); buffer = filled t out }
 
 -- "The reverse's limit is the writer's, in packed bytes": of the bytes given. "reverse 12, then 16 [..] then 9"
-unfoldable pub bit_write_question : BitStringRadix → List ℕ → ℕ → List ℕ → Outcome BitWriting
+unfoldable pub bit_write_question : BitStringRadix → List ℕ → ℕ → List ℕ → Outcome (Result ℕ BitWritingError)
 bit_write_question r bytes n out =
-    if over_limit Whole bytes then record { answer = OverLimit; buffer = out }
-    else if bad_bits r bytes n then record { answer = BadBits; buffer = out }
+    if over_limit Whole bytes then record { answer = Err OverLimit; buffer = out }
+    else if bad_bits r bytes n then record { answer = Err BadBits; buffer = out }
     else bit_writes (bit_literal r bytes n) out

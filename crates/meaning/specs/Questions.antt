@@ -1,6 +1,6 @@
 -- [01 Numbers an answer can carry] Every question as one function from literal, source, setting and buffer to answer and final buffer.
 -- "Reading tests 1, 2, 3, 4, then 5 to 8, then 9." Assumes nothing.
-use Rattle.std.specs.Prelude.{Bool, true, false, ◌&&◌, ◌||◌, List, ℕ, zero, suc, ◌+◌, eqb, leb, ltb, length}
+use Rattle.std.specs.Prelude.{Bool, true, false, ◌&&◌, ◌||◌, List, ℕ, zero, suc, ◌+◌, eqb, leb, ltb, length, Result, Ok, Err}
 use Rattle.meaning.specs.declared.Settings.{Settings}
 use Rattle.meaning.specs.declared.LiteralKind.{LiteralKind}
 use Rattle.meaning.specs.declared.LiteralExpected.{LiteralExpected}
@@ -12,18 +12,6 @@ use Rattle.meaning.specs.declared.Refusal.TheVariants.{WrongKind, MissingSource,
 use Rattle.meaning.specs.declared.Refusal.TheVariants.{InvalidBitString, InvalidMoney, NoRoom}
 use Rattle.meaning.specs.declared.Text.{Text}
 use Rattle.meaning.specs.declared.Text.TheVariants as Text'
-use Rattle.meaning.specs.declared.Range.{Range}
-use Rattle.meaning.specs.declared.Range.TheVariants as Range'
-use Rattle.meaning.specs.declared.Charset.{Charset}
-use Rattle.meaning.specs.declared.Charset.TheVariants as Charset'
-use Rattle.meaning.specs.declared.Integer.{Integer}
-use Rattle.meaning.specs.declared.Integer.TheVariants as Integer'
-use Rattle.meaning.specs.declared.Truth.{Truth}
-use Rattle.meaning.specs.declared.Truth.TheVariants as Truth'
-use Rattle.meaning.specs.declared.Nullness.{Nullness}
-use Rattle.meaning.specs.declared.Nullness.TheVariants as Nullness'
-use Rattle.meaning.specs.declared.Identifier.{Identifier}
-use Rattle.meaning.specs.declared.Identifier.TheVariants as Identifier'
 use Rattle.meaning.specs.Bytes.{◌!◌, part, within}
 use Rattle.std.specs.Prelude.{if◌then◌else◌}
 use Rattle.meaning.specs.Chars.{utf8}
@@ -34,6 +22,12 @@ use Rattle.meaning.specs.Kinds.{bits, money, temporal, charset_end}
 use Rattle.meaning.specs.Helpers.{ident}
 use Rattle.meaning.specs.Answers.{Outcome, kind_code}
 use Rattle.meaning.specs.Reads.{outcome_by}
+use Rattle.std.specs.Prelude.{ℤ}
+use Rattle.meaning.specs.declared.Part.{Part}
+use Rattle.meaning.specs.Answers.{part_at}
+use Rattle.std.specs.Prelude.{Option, Some, None}
+use Rattle.meaning.specs.declared.IdentifierError.{IdentifierError}
+use Rattle.meaning.specs.declared.IdentifierError.TheVariants as IdentifierError'
 
 -- SPANS. "A place cuts a character when it is below the source length and its byte is 80 to BF hex"
 unfoldable pub cuts_character : ℕ → List ℕ → Bool
@@ -83,85 +77,85 @@ bit_base k = if eqb (kind_code k) 12 then 2 else if eqb (kind_code k) 13 then 16
 
 -- TEXTS. A reading of the text in a span that begins at s, for a buffer: `bad` is why one that is refused at a place is refused. [02 T-04] "Refusal 6 from
 -- reading a string shall carry a place, counted from the text's start": so from the span's start, and not from the source's
-abbrev pub told_as : (ℕ → Refusal) → ℕ → List ℕ → Answer → Outcome Text
-told_as bad s out a = outcome_by (λ f u. Text'.Borrowed (s + f) (s + u)) Text'.Written (λ n. Text'.Refused (NoRoom n)) (λ p. Text'.Refused (bad p)) out a
+abbrev pub told_as : (ℕ → Refusal) → ℕ → List ℕ → Answer → Outcome (Result Text Refusal)
+told_as bad s out a = outcome_by (λ f u. Ok (Text'.Borrowed (s + f) (s + u))) (λ n. Ok (Text'.Written n)) (λ n. Err (NoRoom n)) (λ p. Err (bad p)) out a
 
-abbrev pub told : (List ℕ → Answer) → (Span → ℕ → Refusal) → Literal → List ℕ → Tested → Outcome Text
+abbrev pub told : (List ℕ → Answer) → (Span → ℕ → Refusal) → Literal → List ℕ → Tested → Outcome (Result Text Refusal)
 told f bad l out (passes t) = told_as (bad l.span) l.span.start out (f t)
-told f bad l out (barred r) = record { answer = Text'.Refused r; buffer = out }
+told f bad l out (barred r) = record { answer = Err r; buffer = out }
 
-unfoldable pub string_question : Literal → List ℕ → Settings → List ℕ → Outcome Text
+unfoldable pub string_question : Literal → List ℕ → Settings → List ℕ → Outcome (Result Text Refusal)
 string_question l source σ out = told (read σ) InvalidString l out (tested (is_string l.kind) Expected.String l source)
 
 -- `as_str`: with the setting off
-abbrev pub plain_question : Literal → List ℕ → List ℕ → Outcome Text
+abbrev pub plain_question : Literal → List ℕ → List ℕ → Outcome (Result Text Refusal)
 plain_question l source out = string_question l source off out
 
 -- 5 and 7 carry no place
-unfoldable pub decimal_question : Literal → List ℕ → List ℕ → Outcome Text
+unfoldable pub decimal_question : Literal → List ℕ → List ℕ → Outcome (Result Text Refusal)
 decimal_question l source out = told decimal_of (λ s p. InvalidInteger s) l out (tested (is_number l.kind) Expected.DecimalText l source)
 
 -- bits and temporal texts are read with the setting off
-unfoldable pub bits_question : Literal → List ℕ → List ℕ → Outcome Text
+unfoldable pub bits_question : Literal → List ℕ → List ℕ → Outcome (Result Text Refusal)
 bits_question l source out =
     told (bits off (bit_base l.kind)) (λ s p. InvalidBitString s) l out (tested (ltb 0 (bit_base l.kind)) Expected.BitString l source)
 
-unfoldable pub temporal_question : Literal → List ℕ → List ℕ → Outcome Text
+unfoldable pub temporal_question : Literal → List ℕ → List ℕ → Outcome (Result Text Refusal)
 temporal_question l source out = told (temporal off) InvalidString l out (tested (is_temporal l.kind) Expected.Temporal l source)
 
 -- PARTS of the source: neither question writes. `source_text` tests no kind, and is refused by the tests alone
-abbrev pub range_as : Refusal → ℕ → Answer → Range
-range_as bad s (borrowed f u) = Range'.Found (s + f) (s + u)
-range_as bad s (written v) = Range'.Refused bad
-range_as bad s (refused p) = Range'.Refused bad
+abbrev pub range_as : Refusal → ℕ → Answer → Result Part Refusal
+range_as bad s (borrowed f u) = Ok (part_at (s + f) (s + u))
+range_as bad s (written v) = Err bad
+range_as bad s (refused p) = Err bad
 
-abbrev pub ranged : (List ℕ → Answer) → (Span → Refusal) → Literal → Tested → Range
+abbrev pub ranged : (List ℕ → Answer) → (Span → Refusal) → Literal → Tested → Result Part Refusal
 ranged f bad l (passes t) = range_as (bad l.span) l.span.start (f t)
-ranged f bad l (barred r) = Range'.Refused r
+ranged f bad l (barred r) = Err r
 
-unfoldable pub source_question : Literal → List ℕ → Range
+unfoldable pub source_question : Literal → List ℕ → Result Part Refusal
 source_question l source = ranged (λ t. borrowed 0 (length t)) NotUtf8 l (source_text l source)
 
-unfoldable pub money_question : Literal → List ℕ → Range
+unfoldable pub money_question : Literal → List ℕ → Result Part Refusal
 money_question l source = ranged money InvalidMoney l (tested (is_money l.kind) Expected.Money l source)
 
 -- the name between the first _ and the place n
-abbrev pub named_as : ℕ → ℕ → Charset
-named_as s zero = Charset'.Unnamed
-named_as s (suc n) = Charset'.Named (s + 1) (s + suc n)
+abbrev pub named_as : ℕ → ℕ → Result (Option Part) Refusal
+named_as s zero = Ok None
+named_as s (suc n) = Ok (Some (part_at (s + 1) (s + suc n)))
 
-abbrev pub charset_by : Literal → Tested → Charset
+abbrev pub charset_by : Literal → Tested → Result (Option Part) Refusal
 charset_by l (passes t) = named_as l.span.start (charset_end t)
-charset_by l (barred r) = Charset'.Refused r
+charset_by l (barred r) = Err r
 
-unfoldable pub charset_question : Literal → List ℕ → Charset
+unfoldable pub charset_question : Literal → List ℕ → Result (Option Part) Refusal
 charset_question l source = charset_by l (tested (is_string l.kind) Expected.String l source)
 
 -- NUMBERS
-abbrev pub integer_as : Refusal → Parsed → Integer
-integer_as bad none = Integer'.Refused bad
-integer_as bad (int z) = Integer'.Value z
+abbrev pub integer_as : Refusal → Parsed → Result ℤ Refusal
+integer_as bad none = Err bad
+integer_as bad (int z) = Ok z
 
-abbrev pub integer_by : Literal → Tested → Integer
+abbrev pub integer_by : Literal → Tested → Result ℤ Refusal
 integer_by l (passes t) = integer_as (InvalidInteger l.span) (i64_of t)
-integer_by l (barred r) = Integer'.Refused r
+integer_by l (barred r) = Err r
 
-unfoldable pub i64_question : Literal → List ℕ → Integer
+unfoldable pub i64_question : Literal → List ℕ → Result ℤ Refusal
 i64_question l source = integer_by l (tested (is_integer l.kind) Expected.Integer l source)
 
 -- "`as_bool` and `as_null` read no source and give only 0 or 1"
-abbrev pub bool_question : LiteralKind → Truth
+abbrev pub bool_question : LiteralKind → Result Bool Refusal
 bool_question k =
-    if eqb (kind_code k) 5 then Truth'.Value true
-    else if eqb (kind_code k) 6 then Truth'.Value false
-    else Truth'.Refused (WrongKind Expected.Boolean k)
+    if eqb (kind_code k) 5 then Ok true
+    else if eqb (kind_code k) 6 then Ok false
+    else Err (WrongKind Expected.Boolean k)
 
-abbrev pub null_question : LiteralKind → Nullness
-null_question k = if is_null k then Nullness'.IsNull else Nullness'.Refused (WrongKind Expected.Null k)
+abbrev pub null_question : LiteralKind → Result (Unit {0}) Refusal
+null_question k = if is_null k then Ok tt else Err (WrongKind Expected.Null k)
 
 -- IDENTIFIERS, on bare text: 4, then 6, then 9
-abbrev pub identifier_as : List ℕ → Answer → Outcome Identifier
-identifier_as out a = outcome_by Identifier'.Borrowed Identifier'.Written Identifier'.NoRoom (λ p. Identifier'.InvalidString) out a
+abbrev pub identifier_as : List ℕ → Answer → Outcome (Result Text IdentifierError)
+identifier_as out a = outcome_by (λ f u. Ok (Text'.Borrowed f u)) (λ n. Ok (Text'.Written n)) (λ n. Err (IdentifierError'.NoRoom n)) (λ p. Err IdentifierError'.InvalidString) out a
 
-unfoldable pub identifier_question : List ℕ → List ℕ → Outcome Identifier
-identifier_question t out = if utf8 t then identifier_as out (ident t) else record { answer = Identifier'.NotUtf8; buffer = out }
+unfoldable pub identifier_question : List ℕ → List ℕ → Outcome (Result Text IdentifierError)
+identifier_question t out = if utf8 t then identifier_as out (ident t) else record { answer = Err IdentifierError'.NotUtf8; buffer = out }

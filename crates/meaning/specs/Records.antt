@@ -1,16 +1,10 @@
 -- [01 Record program litrec] A record's line, and all that the program prints. Assumes nothing.
-use Rattle.std.specs.Prelude.{Bool, true, false, ◌&&◌, List, [], ◌∷◌, ◌++◌, ℕ, ◌+◌, ◌/◌, ◌%◌, eqb, leb, ltb, length, drop, replicate}
+use Rattle.std.specs.Prelude.{Bool, true, false, ◌&&◌, List, [], ◌∷◌, ◌++◌, ℕ, ◌+◌, ◌/◌, ◌%◌, eqb, leb, ltb, length, drop, replicate, Result, Ok, Err}
 use Prim.Native.Char.{code}
 use Rattle.meaning.specs.declared.Settings.{Settings}
 use Rattle.meaning.specs.declared.Literal.{Literal}
 use Rattle.meaning.specs.declared.Text.{Text}
 use Rattle.meaning.specs.declared.Text.TheVariants as Text'
-use Rattle.meaning.specs.declared.Range.{Range}
-use Rattle.meaning.specs.declared.Range.TheVariants as Range'
-use Rattle.meaning.specs.declared.Charset.{Charset}
-use Rattle.meaning.specs.declared.Charset.TheVariants as Charset'
-use Rattle.meaning.specs.declared.Integer.{Integer}
-use Rattle.meaning.specs.declared.Integer.TheVariants as Integer'
 use Rattle.meaning.specs.Bytes.{◌!◌, part, ascii, within, all_zero}
 use Rattle.std.specs.Prelude.{if◌then◌else◌}
 use Rattle.meaning.specs.Walk.{Step, give, walk, value}
@@ -18,6 +12,10 @@ use Rattle.meaning.specs.Numbers.{digits_of, printed}
 use Rattle.meaning.specs.Answers.{Outcome, refusal_number, shown, range_shown, charset_shown}
 use Rattle.meaning.specs.Questions.{string_question, i64_question, decimal_question, bits_question, money_question, temporal_question, charset_question}
 use Rattle.meaning.specs.Codes.{kind_of, settings_of}
+use Rattle.meaning.specs.declared.Refusal.{Refusal}
+use Rattle.std.specs.Prelude.{ℤ}
+use Rattle.meaning.specs.declared.Part.{Part}
+use Rattle.std.specs.Prelude.{Option, Some, None}
 
 -- THE LINE: "number; b, w, i, n or -; length ..; upper-case hex of the text, - if empty or none"
 abbrev pub hex_digit : ℕ → ℕ
@@ -40,26 +38,26 @@ refused_line n = line n (code "-") (ascii "0") []
 abbrev pub shown_line : ℕ → List ℕ → List ℕ
 shown_line how t = line 0 how (digits_of (length t)) t
 
-abbrev pub text_line_as : List ℕ → List ℕ → Text → List ℕ
-text_line_as source out (Text'.Borrowed f u) = shown_line (code "b") (shown source out (Text'.Borrowed f u))
-text_line_as source out (Text'.Written n) = shown_line (code "w") (shown source out (Text'.Written n))
-text_line_as source out (Text'.Refused r) = refused_line (refusal_number r)
+abbrev pub text_line_as : List ℕ → List ℕ → Result Text Refusal → List ℕ
+text_line_as source out (Ok (Text'.Borrowed f u)) = shown_line (code "b") (shown source out (Ok (Text'.Borrowed f u)))
+text_line_as source out (Ok (Text'.Written n)) = shown_line (code "w") (shown source out (Ok (Text'.Written n)))
+text_line_as source out (Err r) = refused_line (refusal_number r)
 
-abbrev pub text_line : List ℕ → Outcome Text → List ℕ
+abbrev pub text_line : List ℕ → Outcome (Result Text Refusal) → List ℕ
 text_line source o = text_line_as source o.buffer o.answer
 
-abbrev pub range_line : List ℕ → Range → List ℕ
-range_line source (Range'.Found f u) = shown_line (code "b") (range_shown source (Range'.Found f u))
-range_line source (Range'.Refused r) = refused_line (refusal_number r)
+abbrev pub range_line : List ℕ → Result Part Refusal → List ℕ
+range_line source (Ok π) = shown_line (code "b") (range_shown source (Ok π))
+range_line source (Err r) = refused_line (refusal_number r)
 
-abbrev pub charset_line : List ℕ → Charset → List ℕ
-charset_line source (Charset'.Named f u) = shown_line (code "b") (charset_shown source (Charset'.Named f u))
-charset_line source Charset'.Unnamed = line 0 (code "n") (ascii "0") []
-charset_line source (Charset'.Refused r) = refused_line (refusal_number r)
+abbrev pub charset_line : List ℕ → Result (Option Part) Refusal → List ℕ
+charset_line source (Ok (Some π)) = shown_line (code "b") (charset_shown source (Ok (Some π)))
+charset_line source (Ok None) = line 0 (code "n") (ascii "0") []
+charset_line source (Err r) = refused_line (refusal_number r)
 
-abbrev pub integer_line : Integer → List ℕ
-integer_line (Integer'.Value z) = line 0 (code "i") (printed z) []
-integer_line (Integer'.Refused r) = refused_line (refusal_number r)
+abbrev pub integer_line : Result ℤ Refusal → List ℕ
+integer_line (Ok z) = line 0 (code "i") (printed z) []
+integer_line (Err r) = refused_line (refusal_number r)
 
 -- THE QUESTION, by its byte, on a text that is the source; "the buffer has 64 bytes"
 abbrev pub whole_literal : ℕ → List ℕ → Literal

@@ -4,12 +4,13 @@ use Prim.Native.Char.{code}
 use Rattle.meaning.specs.declared.Settings.{Settings}
 use Rattle.meaning.specs.declared.PartSize.{PartSize}
 use Rattle.meaning.specs.declared.PartSize.TheVariants.{Whole, AtMost}
-use Rattle.meaning.specs.declared.Writing.{Writing}
-use Rattle.meaning.specs.declared.Writing.TheVariants.{Written, OverLimit, NotUtf8, HoldsNul, NoRoom}
+use Rattle.meaning.specs.declared.WritingError.{WritingError}
+use Rattle.meaning.specs.declared.WritingError.TheVariants.{OverLimit, NotUtf8, HoldsNul, NoRoom}
 use Rattle.meaning.specs.Bytes.{has, quote, backslash}
 use Rattle.std.specs.Prelude.{if◌then◌else◌}
 use Rattle.meaning.specs.Chars.{utf8, width}
 use Rattle.meaning.specs.Answers.{Outcome, by_room, filled}
+use Rattle.std.specs.Prelude.{Result, Ok, Err}
 
 -- "Doubles '. Setting on: doubles backslash, NUL becomes \0." How one byte of the value is spelled
 unfoldable pub spell : Bool → ℕ → List ℕ
@@ -65,12 +66,12 @@ over_limit size v = ltb 268435456 (length v) || part_too_small size
 unfoldable pub unwritable_nul : Settings → List ℕ → Bool
 unwritable_nul σ v = not σ.backslash && has 0 v
 
-abbrev pub writes : List ℕ → List ℕ → Outcome Writing
-writes t out = record { answer = by_room Written NoRoom (length t) (length out); buffer = filled t out }
+abbrev pub writes : List ℕ → List ℕ → Outcome (Result ℕ WritingError)
+writes t out = record { answer = by_room Ok (λ n. Err (NoRoom n)) (length t) (length out); buffer = filled t out }
 
-unfoldable pub write_question : Settings → PartSize → List ℕ → List ℕ → Outcome Writing
+unfoldable pub write_question : Settings → PartSize → List ℕ → List ℕ → Outcome (Result ℕ WritingError)
 write_question σ size v out =
-    if over_limit size v then record { answer = OverLimit; buffer = out }
-    else if not (utf8 v) then record { answer = NotUtf8; buffer = out }
-    else if unwritable_nul σ v then record { answer = HoldsNul; buffer = out }
+    if over_limit size v then record { answer = Err OverLimit; buffer = out }
+    else if not (utf8 v) then record { answer = Err NotUtf8; buffer = out }
+    else if unwritable_nul σ v then record { answer = Err HoldsNul; buffer = out }
     else writes (written_text σ size v) out

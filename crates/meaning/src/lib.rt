@@ -45,20 +45,6 @@ pub enum IntervalFields {
     SecondToMicrosecond,
 }
 
-// An INTERVAL's qualifier, which may be absent.
-#[derive(Clone, Copy)]
-pub enum Fields {
-    Absent,
-    Given(IntervalFields),
-}
-
-// An INTERVAL's precision, which may be absent.
-#[derive(Clone, Copy)]
-pub enum Precision {
-    Absent,
-    Given(u32),
-}
-
 // The base of a bit string's digits.
 #[derive(Clone, Copy)]
 pub enum BitStringRadix {
@@ -78,7 +64,8 @@ pub enum LiteralKind {
     Date,
     Time(TimeZone),
     Timestamp(TimeZone),
-    Interval(Fields, Precision),
+    // the qualifier and the precision, where they stand
+    Interval(Option<IntervalFields>, Option<u32>),
     BitString(BitStringRadix),
     Money,
 }
@@ -128,13 +115,17 @@ pub enum Refusal {
     InvalidDate(Span),
 }
 
-// A text that was read, before any span or kind is known: a part of it, the first bytes of the buffer, the place where reading stops, or the
-// length for which there is no room.
+// A text that was read, before any span or kind is known: a part of it, or the first bytes of the buffer.
 #[derive(Clone, Copy)]
-pub enum Read {
+pub enum ReadText {
     Borrowed { from: usize, until: usize },
     Written { len: usize },
-    Refused { place: usize },
+}
+
+// Why a text is not read: the place where reading stops, or the length for which there is no room.
+#[derive(Clone, Copy)]
+pub enum ReadRefusal {
+    At { place: usize },
     NoRoom { needed: usize },
 }
 
@@ -143,56 +134,27 @@ pub enum Read {
 pub enum Text {
     Borrowed { start: usize, end: usize },
     Written { len: usize },
-    Refused(Refusal),
 }
 
-// A part of the source.
+// From a place of the source up to another, in bytes.
+// Stays: `Span` holds the 32-bit places that C gives; public functions and definitions of specs/ name both types.
 #[derive(Clone, Copy)]
-pub enum Range {
-    Found { start: usize, end: usize },
-    Refused(Refusal),
+pub struct Part {
+    pub start: usize,
+    pub end: usize,
 }
 
-// A character set's name, a part of the source; or that there is none.
+// Why an identifier's text is refused: it is asked of a bare text, no literal, so there is no span to give back.
 #[derive(Clone, Copy)]
-pub enum Charset {
-    Named { start: usize, end: usize },
-    Unnamed,
-    Refused(Refusal),
-}
-
-#[derive(Clone, Copy)]
-pub enum Integer {
-    Value(i64),
-    Refused(Refusal),
-}
-
-#[derive(Clone, Copy)]
-pub enum Truth {
-    Value(bool),
-    Refused(Refusal),
-}
-
-#[derive(Clone, Copy)]
-pub enum Nullness {
-    IsNull,
-    Refused(Refusal),
-}
-
-// An identifier's text, of a bare text: no literal, so no span to give back.
-#[derive(Clone, Copy)]
-pub enum Identifier {
-    Borrowed { start: usize, end: usize },
-    Written { len: usize },
+pub enum IdentifierError {
     NotUtf8,
     InvalidString,
     NoRoom { needed: usize },
 }
 
-// What the writer did.
+// Why a value is not written: 12, 4, 11 and 9.
 #[derive(Clone, Copy)]
-pub enum Writing {
-    Written { len: usize },
+pub enum WritingError {
     OverLimit,
     NotUtf8,
     HoldsNul,
@@ -207,6 +169,7 @@ pub enum Form {
 }
 
 // How many value bytes a written part may hold.
+// Stays: `Whole` and `AtMost` say what None and Some would not.
 #[derive(Clone, Copy)]
 pub enum PartSize {
     Whole,
@@ -221,6 +184,7 @@ pub struct RadixPrefix {
 }
 
 // [02 T-03] One item of a block: a string literal that stands in the source, and its setting, by their numbers.
+// Stays: the C interface lays an item out as four numbers of 32 bits.
 #[derive(Clone, Copy)]
 pub struct Item {
     pub kind: u32,
@@ -231,6 +195,7 @@ pub struct Item {
 
 // What is told of an item: 0 or the refusal's number; how its text is answered (0 not, 1 borrowed, 2 written); where the text begins, in the source or in the
 // buffer, or the place of a 6, in the text; and how long it is.
+// Stays: the C interface lays an item's answer out as four numbers of 32 bits.
 #[derive(Clone, Copy)]
 pub struct Four {
     pub number: u32,
@@ -248,31 +213,16 @@ pub struct CalendarDay {
     pub number: u32,
 }
 
-// The day that a value or a number stands for; or that it is none.
-#[derive(Clone, Copy)]
-pub enum Day {
-    On(CalendarDay),
-    InvalidDate,
-}
-
-// The day of a date literal.
-#[derive(Clone, Copy)]
-pub enum Dated {
-    On(CalendarDay),
-    Refused(Refusal),
-}
-
 // [02 T-07] A bit string as packed bytes at the buffer's start, the first bit the top one of the first byte, and how many bits they hold.
 #[derive(Clone, Copy)]
-pub enum PackedBits {
-    Written { len: usize, bits: u64 },
-    Refused(Refusal),
+pub struct PackedBits {
+    pub len: usize,
+    pub bits: u64,
 }
 
-// What the writing of a bit string did: 12, 16 and 9 are what refuses it.
+// Why a bit string is not written: 12, 16 and 9.
 #[derive(Clone, Copy)]
-pub enum BitWriting {
-    Written { len: usize },
+pub enum BitWritingError {
     OverLimit,
     BadBits,
     NoRoom { needed: usize },

@@ -5,21 +5,24 @@ use mathlib.Core.Bool.{Bool, true, false}
 use mathlib.Core.List.{List}
 use Prim.Native.Nat.{ℕ, ◌+◌, ◌-◌, ◌*◌, ◌/◌, ◌%◌, ◌^◌, ◌≤◌, ◌<◌}
 use native.Mathlib.Nat.{div-lt_iff_lt-mul, div-add-mod', div-eq_of_lt, mod-lt, add-mul, mul_assoc}
+use native.Mathlib.Nat.{pow-le-pow_right, one-mul, mod-eq_of_lt}
 use native.Mathlib.Nat.{mul_comm, mul-le-mul_right, mul-div_cancel, mul-mod_left, add-zero, le-add_right, lt_of_le_of_lt}
 use native.Mathlib.Omega.{arith}
 use borrow.Author.Tests.{lt-ltb, le-ltb, ltb-true, ltb-false}
 use mir.Syntax.{w64}
 use mir.Val.{Fits}
 use lib.Arith.{digits_lt, digits_div, digits_mod, mod-mul}
-use lib.Dec.{ltb}
+use lib.Dec.{ltb, lit≤}
 use lib.Pow.{pow-add, pow_pos}
 use lib.ListN.{length, get_or}
 use Rattle.meaning.specs.Bytes.{digit}
 use Rattle.meaning.specs.Halves.{joined_halves}
 use Rattle.laws.proofs.basics.Halves.{joined_halves_lt}
 use Rattle.numbers.specs.Values.{Spelt, misspelt, spelt, digits_from, wide_of}
-use Rattle.numbers.specs.declared.radix.Halves.TheVariants as H
 use Rattle.numbers.proofs.Spelled.{Above, Reading, reading_start, too_great, digit_on, ends_spelt}
+use Rattle.std.specs.Prelude.{Option, Some, None}
+use Rattle.numbers.specs.Values.{in_halves}
+use Rattle.numbers.specs.declared.radix.Halves.{Halves}
 
 module _ (m R C hi lo d : ℕ) (e : R * C ≡ m) (p : 0 < R) (q : 0 < C) where
   swapped : C * R ≡ m
@@ -59,14 +62,25 @@ module _ (m R C hi lo d : ℕ) (e : R * C ≡ m) (p : 0 < R) (q : 0 < C) where
       let c : (hi * m + lo) * R ≡ hi * m * R + lo * R = add-mul (hi * m) lo R in
       omega arith
 
+-- the base whose digits have b bits
+pub base_by_bits : (b : ℕ) → b ≤ 4 → 1 * 2 ^ b % 2 ^ 64 ≡ 2 ^ b
+base_by_bits b h =
+    let o : 0 < 2 = omega arith in
+    let l : 2 ^ b < 2 ^ 64 = lt_of_le_of_lt (pow-le-pow_right o h) (lit≤ tt) in
+    ap (λ (x : ℕ). x % 2 ^ 64) (one-mul (2 ^ b)) ∙ mod-eq_of_lt l
+
+pub in_base : (b : ℕ) → b ≤ 4 → (t : List ℕ) (r : Option Halves) → r ≡ wide_of (digits_from (1 * 2 ^ b % 2 ^ 64) 0 false t)
+    → r ≡ wide_of (digits_from (2 ^ b) 0 false t)
+in_base b h t r e = rw (base_by_bits b h) at e
+
 -- a half of 64 bits, less b of them
 halves_of_lem : (b : ℕ) → b ≤ 4 → 2 ^ b * 2 ^ (64 - b) ≡ 2 ^ 64
 halves_of_lem b h = sym (pow-add 2 b (64 - b)) ∙ ap (λ (n : ℕ). 2 ^ n) (let z : b + (64 - b) ≡ 64 = omega arith in z)
 
-pub wide_as : {s : Spelt} → misspelt ≡ s → H.Refused ≡ wide_of s
+pub wide_as : {s : Spelt} → misspelt ≡ s → None ≡ wide_of s
 wide_as e = ap wide_of e
 
-wide_above : (s : Spelt) → Above (2 ^ 128) s → H.Refused ≡ wide_of s
+wide_above : (s : Spelt) → Above (2 ^ 128) s → None ≡ wide_of s
 wide_above misspelt h = refl
 wide_above (spelt n) h = rw (le-ltb n (2 ^ 128) (h n refl))
 
@@ -79,11 +93,11 @@ pub record Carrying (β : ℕ) (t : List ℕ) (hi lo : ℕ) (behind : Bool) (i :
 pub carry_start : (β : ℕ) (t : List ℕ) → Carrying β t 0 0 false 0
 carry_start β t = record { reading = reading_start β t; high = omega arith; low = omega arith }
 
-pub halves_value : (hi lo : ℕ) → lo < 2 ^ 64 → H.Value hi lo ≡ H.Value (joined_halves hi lo / 2 ^ 64) (joined_halves hi lo % 2 ^ 64)
+pub halves_value : (hi lo : ℕ) → lo < 2 ^ 64 → Some (in_halves hi lo) ≡ Some (in_halves (joined_halves hi lo / 2 ^ 64) (joined_halves hi lo % 2 ^ 64))
 halves_value hi lo h = rw (digits_div hi {m = 2 ^ 64} h, digits_mod hi {m = 2 ^ 64} h)
 
 module _ {β : ℕ} {t : List ℕ} {hi lo : ℕ} {a : Bool} {i : ℕ} (r : Carrying β t hi lo a i) where
-  pub carry_end : length t ≤ i → a ≡ true → H.Value hi lo ≡ wide_of (digits_from β 0 false t)
+  pub carry_end : length t ≤ i → a ≡ true → Some (in_halves hi lo) ≡ wide_of (digits_from β 0 false t)
   carry_end h k =
       rw (← (ends_spelt r.reading h k), lt-ltb (joined_halves hi lo) (2 ^ 128) (joined_halves_lt hi lo r.high r.low))
       (halves_value hi lo r.low)
@@ -103,7 +117,7 @@ module _ {β : ℕ} {t : List ℕ} {hi lo : ℕ} {a : Bool} {i : ℕ} (r : Carry
         go true k = absurd (n (div-eq_of_lt (ltb-true hi (2 ^ (64 - b)) k)))
         go false k = ltb-false hi (2 ^ (64 - b)) k
 
-    pub carried_over : (hi / 2 ^ (64 - b) ≡ 0 → ⊥) → H.Refused ≡ wide_of (digits_from β 0 false t)
+    pub carried_over : (hi / 2 ^ (64 - b) ≡ 0 → ⊥) → None ≡ wide_of (digits_from β 0 false t)
     carried_over n =
         wide_above (digits_from β 0 false t)
         (too_great r.reading at e h (2 ^ 128) (carry_over (2 ^ 64) β (2 ^ (64 - b)) hi lo d split (omega arith) (pow_pos (64 - b)) (full n)))

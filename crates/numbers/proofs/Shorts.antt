@@ -19,13 +19,13 @@ use Rattle.meaning.specs.Numbers.{sign_length, is_minus, base_by, radix_prefix}
 use Rattle.laws.proofs.basics.Tests.{within_bounds, if_same}
 use Rattle.laws.proofs.basics.Digits.{DigitsTo, all_digits_of, all_digits_at, number_suc, number_lt}
 use Rattle.numbers.specs.Values.{spelt, digits_from, short_of}
-use Rattle.numbers.specs.declared.digits.Magnitude.TheVariants as M
+use Rattle.std.specs.Prelude.{Some, None}
 
 -- THE LOOP of `read_short`. Too short or too long a text
 abbrev is_unfit : List ℕ → Bool
 is_unfit t = eqb (length t) 0 || ltb 19 (length t)
 
-pub short_not : (t : List ℕ) → is_unfit t ≡ true → M.Refused ≡ short_of t
+pub short_not : (t : List ℕ) → is_unfit t ≡ true → None ≡ short_of t
 unfolding short_of
 short_not t e = rw e
 
@@ -48,18 +48,18 @@ pub run_start : (t : List ℕ) → is_unfit t ≡ false → Running t 0 0
 run_start t e = record { fit = e; inside = omega arith; all = λ j h. absurd (omega arith); value = refl }
 
 module _ {t : List ℕ} {v i : ℕ} (r : Running t v i) where
-  pub run_end : length t ≤ i → M.Value v ≡ short_of t
+  pub run_end : length t ≤ i → Some v ≡ short_of t
   unfolding short_of
   run_end h =
       let e : i ≡ length t = omega (arith, r.inside) in
-      rw (r.fit, all_digits_of 10 t (rw e at r.all)) (ap M.Value (rw e at r.value))
+      rw (r.fit, all_digits_of 10 t (rw e at r.all)) (ap Some (rw e at r.value))
 
   module _ {d : ℕ} (at : i < length t) (e : d ≡ digit (get_or t i 0)) where
-    pub run_stop : 10 ≤ d → M.Refused ≡ short_of t
+    pub run_stop : 10 ≤ d → None ≡ short_of t
     unfolding short_of
     run_stop h = rw r.fit (go (all_digits 10 t) refl)
       where
-        go : (x : Bool) → all_digits 10 t ≡ x → M.Refused ≡ (if x then M.Value (number 10 (length t) 0 t) else M.Refused)
+        go : (x : Bool) → all_digits 10 t ≡ x → None ≡ (if x then Some (number 10 (length t) 0 t) else None)
         go true k = absurd (let z = all_digits_at 10 t k i at in let y : ⊥ = omega arith in y)
         go false k = refl
 
@@ -145,12 +145,12 @@ short_spelt [] p all = absurd (let n : ⊥ = omega arith in n)
 short_spelt (b ∷ t) p all = rw (lt-ltb (digit b) 10 (all 0 p)) (digits_on (0 * 10 + digit b) t (λ i h. all (suc i) (omega arith)))
 
 -- what a number from `read_short` says
-pub short_value : (t : List ℕ) (m : ℕ) → short_of t ≡ M.Value m → (0 < length t) × (all_digits 10 t ≡ true) × (number 10 (length t) 0 t ≡ m)
+pub short_value : (t : List ℕ) (m : ℕ) → short_of t ≡ Some m → (0 < length t) × (all_digits 10 t ≡ true) × (number 10 (length t) 0 t ≡ m)
 unfolding short_of
 short_value t m e = go (is_unfit t) (all_digits 10 t) refl refl e
   where
     go : (x y : Bool) → is_unfit t ≡ x → all_digits 10 t ≡ y
-        → (if x then M.Refused else if y then M.Value (number 10 (length t) 0 t) else M.Refused) ≡ M.Value m
+        → (if x then None else if y then Some (number 10 (length t) 0 t) else None) ≡ Some m
         → (0 < length t) × (all_digits 10 t ≡ true) × (number 10 (length t) 0 t ≡ m)
     go true y ex ey e = absurd (let z : ◌≡◌ {A = ℕ} 0 1 = cc in let n : ⊥ = omega arith in n)
     go false true ex ey e = (some (length t) ex, ey, cc)

@@ -13,10 +13,9 @@ use mir.Val.{SFits, to_z, of_z}
 use mir.Facts.{to_z_pos, to_z-of_z}
 use Rattle.meaning.specs.Numbers.{int, fits, signed, within_bits}
 use Rattle.numbers.specs.Values.{int64_of}
-use Rattle.numbers.specs.declared.int64.Int64.{Int64}
-use Rattle.numbers.specs.declared.int64.Int64.TheVariants as I
+use Rattle.std.specs.Prelude.{Option, Some, None}
 
-abbrev pub fitted_of : ℤ → Int64
+abbrev pub fitted_of : ℤ → Option ℤ
 fitted_of z = int64_of (within_bits 63 (int z))
 
 -- `with_sign`: -1 - k, as the machine has it
@@ -33,25 +32,25 @@ less_fits k h = rw (less k h) (record { sfits = h })
 pub less_back : (k : ℕ) → k < 2 ^ 63 → to_z w64 (of_z w64 (negsuc 0 -ℤ to_z w64 k)) ≡ negsuc k
 less_back k h = to_z-of_z {w = w64} (less_fits k h) ∙ less k h
 
-pub minus_value : (m : ℕ) → (m ≡ 0 → ⊥) → m ≤ 2 ^ 63 → I.Value (negsuc (m - 1)) ≡ fitted_of (signed true m)
+pub minus_value : (m : ℕ) → (m ≡ 0 → ⊥) → m ≤ 2 ^ 63 → Some (negsuc (m - 1)) ≡ fitted_of (signed true m)
 minus_value zero ne h = absurd (ne refl)
 minus_value (suc k) ne h = rw (sub-one (suc k), lt-ltb k (2 ^ 63) h)
 
-pub minus_great : (m : ℕ) → 2 ^ 63 < m → I.Refused ≡ fitted_of (signed true m)
+pub minus_great : (m : ℕ) → 2 ^ 63 < m → None ≡ fitted_of (signed true m)
 minus_great zero h = absurd (let z : ⊥ = omega arith in z)
 minus_great (suc k) h = rw (le-ltb k (2 ^ 63) (omega arith))
 
-pub plus_value : (m : ℕ) → m < 2 ^ 63 → I.Value (to_z w64 m) ≡ fitted_of (signed false m)
+pub plus_value : (m : ℕ) → m < 2 ^ 63 → Some (to_z w64 m) ≡ fitted_of (signed false m)
 plus_value m h = rw (lt-ltb m (2 ^ 63) h)
 
-pub plus_great : (m : ℕ) → 2 ^ 63 ≤ m → I.Refused ≡ fitted_of (signed false m)
+pub plus_great : (m : ℕ) → 2 ^ 63 ≤ m → None ≡ fitted_of (signed false m)
 plus_great m h = rw (le-ltb m (2 ^ 63) h)
 
 -- `negated`
 least : (z : ℤ) → SFits w64 z → of_z w64 z ≡ 2 ^ 63 → z ≡ negsuc (2 ^ 63 - 1)
 least z f e = sym (to_z-of_z {w = w64} f) ∙ ap (to_z w64) e
 
-pub least_refused : (z : ℤ) → SFits w64 z → of_z w64 z ≡ 2 ^ 63 → I.Refused ≡ fitted_of (neg_ℤ z)
+pub least_refused : (z : ℤ) → SFits w64 z → of_z w64 z ≡ 2 ^ 63 → None ≡ fitted_of (neg_ℤ z)
 least_refused z f e = rw (least z f e)
 
 negated_size : (z : ℤ) → SFits w64 z → (of_z w64 z ≡ 2 ^ 63 → ⊥) → mag (neg_ℤ z) < 2 ^ 63
@@ -71,5 +70,5 @@ module _ (z : ℤ) (f : SFits w64 z) (n : of_z w64 z ≡ 2 ^ 63 → ⊥) where
   pub negated_fits : SFits w64 (pos 0 -ℤ to_z w64 (of_z w64 z))
   negated_fits = rw sub_is (record { sfits = negated_size z f n })
 
-  pub negated_value : I.Value (to_z w64 (of_z w64 (pos 0 -ℤ to_z w64 (of_z w64 z)))) ≡ fitted_of (neg_ℤ z)
+  pub negated_value : Some (to_z w64 (of_z w64 (pos 0 -ℤ to_z w64 (of_z w64 z)))) ≡ fitted_of (neg_ℤ z)
   negated_value = rw (to_z-of_z {w = w64} negated_fits, sub_is, fits_size (neg_ℤ z) (negated_size z f n))

@@ -1,14 +1,14 @@
 -- Digits of a base with `_` between two of them: what they are to the definitions, and what a loop over them keeps. One argument for every
 -- base up to 16, and for every way to hold the number. Assumes nothing.
 use mathlib.Core.Path.{◌≡◌, refl, sym, ◌∙◌}
-use mathlib.Core.Bool.{Bool, true, false, ◌&&◌, and-false}
+use mathlib.Core.Bool.{Bool, true, false, ◌&&◌}
 use mathlib.Core.List.{List, [], ◌∷◌}
 use Prim.Native.Nat.{ℕ, ◌+◌, ◌*◌, ◌≤◌, ◌<◌}
 use Prim.Native.Char.{code}
 use native.Mathlib.Nat.{le_trans, mul-le-mul_left, mul-one, le-add_right}
 use native.Mathlib.Numerals.{add-one}
 use native.Mathlib.Omega.{arith}
-use borrow.Author.Tests.{lt-ltb, le-ltb, eq-eqb, ne_eqb}
+use borrow.Author.Tests.{lt-ltb, le-ltb}
 use lib.Dec.{eqb, ltb}
 use lib.ListN.{length, drop, get_or, drop_of_length-le}
 use lib.Seq.{drop-cons}
@@ -67,17 +67,11 @@ module _ {β : ℕ} {t : List ℕ} {v : ℕ} {a : Bool} {i : ℕ} (r : Reading �
   module _ (at : i < length t) where
     -- a byte that is no digit
     module _ (h : β ≤ digit (get_or t i 0)) where
-      pub no_digit : (get_or t i 0 ≡ 95 → ⊥) → misspelt ≡ digits_from β 0 false t
-      no_digit n = sym (from_other β v a i t at h ∙ rw (ne_eqb (t ! i) 95 n)) ∙ r.same
+      pub not_apart : (eqb (get_or t i 0) 95 && a) ≡ false → misspelt ≡ digits_from β 0 false t
+      not_apart k = sym (from_other β v a i t at h ∙ rw k) ∙ r.same
 
-      pub no_place : a ≡ false → misspelt ≡ digits_from β 0 false t
-      no_place k = sym (from_other β v a i t at h ∙ rw (k, and-false (eqb (t ! i) 95))) ∙ r.same
-
-      pub apart_on : get_or t i 0 ≡ 95 → a ≡ true → Reading β t v false (i + 1)
-      apart_on u k = record {
-        inside = omega arith;
-        same = sym (from_other β v a i t at h ∙ rw (eq-eqb (t ! i) 95 u, k)) ∙ r.same;
-      }
+      pub apart_on : (eqb (get_or t i 0) 95 && a) ≡ true → Reading β t v false (i + 1)
+      apart_on k = record { inside = omega arith; same = sym (from_other β v a i t at h ∙ rw k) ∙ r.same }
 
     -- a digit
     module _ {d : ℕ} (e : d ≡ digit (get_or t i 0)) (h : d < β) where

@@ -4,16 +4,12 @@ use Prim.Native.Char.{code}
 use Rattle.meaning.specs.Bytes.{digit, number, all_digits}
 use Rattle.std.specs.Prelude.{if◌then◌else◌}
 use Rattle.meaning.specs.Numbers.{Parsed, none, int, placed, strip, parsed}
-use Rattle.numbers.specs.declared.digits.Magnitude.{Magnitude}
-use Rattle.numbers.specs.declared.digits.Magnitude.TheVariants as M
 use Rattle.numbers.specs.declared.radix.Halves.{Halves}
-use Rattle.numbers.specs.declared.radix.Halves.TheVariants as H
-use Rattle.numbers.specs.declared.int64.Int64.{Int64}
-use Rattle.numbers.specs.declared.int64.Int64.TheVariants as I
+use Rattle.std.specs.Prelude.{Option, Some, None, ℤ}
 
-abbrev pub int64_of : Parsed → Int64
-int64_of none = I.Refused
-int64_of (int z) = I.Value z
+abbrev pub int64_of : Parsed → Option ℤ
+int64_of none = None
+int64_of (int z) = Some z
 
 -- `parsed` of a text whose separators are placed
 unfoldable pub parsed_apart : ℕ → ℕ → List ℕ → Parsed
@@ -32,24 +28,27 @@ digits_from β v behind (b ∷ t) =
     else if eqb b (code "_") && behind then digits_from β v false t else misspelt
 
 -- a number below l
-abbrev pub magnitude_of : ℕ → Spelt → Magnitude
-magnitude_of l misspelt = M.Refused
-magnitude_of l (spelt n) = if ltb n l then M.Value n else M.Refused
+abbrev pub magnitude_of : ℕ → Spelt → Option ℕ
+magnitude_of l misspelt = None
+magnitude_of l (spelt n) = if ltb n l then Some n else None
 
 -- 1 to 19 digits of base ten and nothing else
-unfoldable pub short_of : List ℕ → Magnitude
+unfoldable pub short_of : List ℕ → Option ℕ
 short_of t =
-    if eqb (length t) 0 || ltb 19 (length t) then M.Refused
-    else if all_digits 10 t then M.Value (number 10 (length t) 0 t) else M.Refused
+    if eqb (length t) 0 || ltb 19 (length t) then None
+    else if all_digits 10 t then Some (number 10 (length t) 0 t) else None
 
 -- A RADIX: the base, with 2 for any other
 unfoldable pub radix_by : ℕ → ℕ
 radix_by β = if eqb β 16 then 16 else if eqb β 8 then 8 else 2
 
 -- IN TWO HALVES: 128 bits, and a number below 2^128
-abbrev pub halves_by : ℕ → Halves
-halves_by n = H.Value (n / 2 ^ 64) (n % 2 ^ 64)
+abbrev pub in_halves : ℕ → ℕ → Halves
+in_halves hi lo = record { hi = hi; lo = lo }
 
-abbrev pub wide_of : Spelt → Halves
-wide_of misspelt = H.Refused
-wide_of (spelt n) = if ltb n (2 ^ 128) then halves_by n else H.Refused
+abbrev pub halves_by : ℕ → Halves
+halves_by n = in_halves (n / 2 ^ 64) (n % 2 ^ 64)
+
+abbrev pub wide_of : Spelt → Option Halves
+wide_of misspelt = None
+wide_of (spelt n) = if ltb n (2 ^ 128) then Some (halves_by n) else None

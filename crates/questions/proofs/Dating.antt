@@ -1,4 +1,5 @@
 -- [02 T-05] The date question: what was read into ten bytes, and the day of its value, are the definition's answer. Assumes nothing.
+use Rattle.meaning.specs.Dates.{is_date_kind}
 use mathlib.Core.Path.{◌≡◌, refl, sym, ap, ◌∙◌}
 use mathlib.Core.Bool.{Bool, true, false, false≢true}
 use mathlib.Core.List.{List, []}
@@ -10,15 +11,13 @@ use borrow.Author.Tests.{leb-true, leb-false}
 use Rattle.meaning.specs.declared.Literal.{Literal}
 use Rattle.meaning.specs.declared.LiteralExpected.TheVariants as Expected
 use Rattle.meaning.specs.declared.Span.{Span}
-use Rattle.meaning.specs.declared.Read.{Read}
-use Rattle.meaning.specs.declared.Read.TheVariants as Read'
+use Rattle.meaning.specs.declared.ReadText.{ReadText}
+use Rattle.meaning.specs.declared.ReadRefusal.{ReadRefusal}
+use Rattle.meaning.specs.declared.ReadText.TheVariants as ReadText'
+use Rattle.meaning.specs.declared.ReadRefusal.TheVariants as ReadRefusal'
 use Rattle.meaning.specs.declared.Refusal.{Refusal}
 use Rattle.meaning.specs.declared.Refusal.TheVariants.{InvalidString, InvalidDate}
 use Rattle.meaning.specs.declared.CalendarDay.{CalendarDay}
-use Rattle.meaning.specs.declared.Day.{Day}
-use Rattle.meaning.specs.declared.Day.TheVariants as Day'
-use Rattle.meaning.specs.declared.Dated.{Dated}
-use Rattle.meaning.specs.declared.Dated.TheVariants as Dated'
 use Rattle.meaning.specs.Bytes.{part}
 use Rattle.std.specs.Prelude.{if◌then◌else◌}
 use Rattle.meaning.specs.Cutting.{off}
@@ -30,33 +29,33 @@ use Rattle.meaning.specs.Questions.{tested}
 use Rattle.meaning.specs.Dates.{day_in, dated_on, dated_as, date_question}
 use Rattle.laws.proofs.dates.Spelt.{other_length}
 use Rattle.laws.proofs.questions.Ranges.{AnswerIn, temporal_inside, part_shown_range, filled_shows}
-use Rattle.admitting.specs.declared.tests.Tested.{Tested}
-use Rattle.admitting.specs.declared.tests.Tested.TheVariants.{Passes, Barred}
+use Rattle.std.specs.Prelude.{Result, Ok, Err}
+use Rattle.meaning.specs.declared.Part.{Part}
 use Rattle.admitting.specs.Tests.{Tests}
-use Rattle.questions.specs.Told.{place_of, is_refused}
 use Rattle.questions.proofs.Spanned.{span_barred, span_passes}
+use Rattle.std.specs.Prelude.{Option, Some, None}
 
 -- A DAY, or none
-module _ (sp : Span) (x : Day) where
-  pub dated_day : (d : CalendarDay) → x ≡ Day'.On d → Dated'.On d ≡ dated_on sp x
+module _ (sp : Span) (x : Option CalendarDay) where
+  pub dated_day : (d : CalendarDay) → x ≡ Some d → Ok d ≡ dated_on sp x
   dated_day d e = ap (dated_on sp) (sym e)
 
-  pub dated_none : x ≡ Day'.InvalidDate → Dated'.Refused (InvalidDate sp) ≡ dated_on sp x
+  pub dated_none : x ≡ None → Err (InvalidDate sp) ≡ dated_on sp x
   dated_none e = ap (dated_on sp) (sym e)
 
 -- A READING into ten bytes
 abbrev ten : List ℕ
 ten = replicate 10 0
 
--- that is refused
-stopped_by : (a : Answer) → is_refused (read_of 10 a) ≡ true → a ≡ refused (place_of (read_of 10 a))
-stopped_by (borrowed f u) h = absurd (false≢true h)
-stopped_by (written v) h = absurd (go (leb (length v) 10) h)
+-- that stops
+stopped_by : (a : Answer) (p : ℕ) → read_of 10 a ≡ Err (ReadRefusal'.At p) → a ≡ refused p
+stopped_by (borrowed f u) p h = absurd (let z : ◌≡◌ {A = ℕ} 0 1 = cc in omega arith)
+stopped_by (written v) p h = absurd (go (leb (length v) 10) h)
   where
-    go : (x : Bool) → is_refused (if x then Read'.Written (length v) else Read'.NoRoom (length v)) ≡ true → ⊥
-    go true e = false≢true e
-    go false e = false≢true e
-stopped_by (refused p) h = refl
+    go : (x : Bool) → (if x then Ok (ReadText'.Written (length v)) else Err (ReadRefusal'.NoRoom (length v))) ≡ Err (ReadRefusal'.At p) → ⊥
+    go true e = let z : ◌≡◌ {A = ℕ} 0 1 = cc in omega arith
+    go false e = let z : ◌≡◌ {A = ℕ} 0 1 = cc in omega arith
+stopped_by (refused q) p h = let z : q ≡ p = cc in ap refused z
 
 -- and one that is not: what is shown of it has the value's day. A value that has no room is shown empty, and neither is a date
 module _ (t : List ℕ) (sp : Span) where
@@ -64,41 +63,57 @@ module _ (t : List ℕ) (sp : Span) where
   written_day v = go (leb (length v) 10) refl
     where
       go : (x : Bool) → leb (length v) 10 ≡ x
-          → day_in (read_shown t (filled v ten) (if x then Read'.Written (length v) else Read'.NoRoom (length v))) ≡ day_in v
+          → day_in (read_shown t (filled v ten) (if x then Ok (ReadText'.Written (length v)) else Err (ReadRefusal'.NoRoom (length v)))) ≡ day_in v
       go true h = ap day_in (filled_shows v ten (leb-true (length v) 10 h))
       go false h = other_length [] (λ q. omega (arith, q)) ∙ sym (other_length v (λ q. omega (arith, q, leb-false (length v) 10 h)))
 
-  shown_by : (a : Answer) → AnswerIn (length t) a → is_refused (read_of 10 a) ≡ false
+  -- no reading that goes through stops
+  at_none : (r : ReadText) (n : ℕ) → ◌≡◌ {A = Result ReadText ReadRefusal} (Ok r) (Err (ReadRefusal'.At n)) → ⊥
+  at_none r n e = let z : ◌≡◌ {A = ℕ} 0 1 = cc in omega arith
+
+  long_by : (a : Answer) (n : ℕ) → read_of 10 a ≡ Err (ReadRefusal'.NoRoom n) → Err (InvalidDate sp) ≡ dated_as sp (value_of t a)
+  long_by (borrowed f u) n h = absurd (let z : ◌≡◌ {A = ℕ} 0 1 = cc in omega arith)
+  long_by (written v) n h = go (leb (length v) 10) refl h
+    where
+      go : (x : Bool) → leb (length v) 10 ≡ x → (if x then Ok (ReadText'.Written (length v)) else Err (ReadRefusal'.NoRoom (length v))) ≡ Err (ReadRefusal'.NoRoom n)
+          → Err (InvalidDate sp) ≡ dated_on sp (day_in v)
+      go true e h = absurd (let z : ◌≡◌ {A = ℕ} 0 1 = cc in omega arith)
+      go false e h = ap (dated_on sp) (sym (other_length v (λ q. omega (arith, q, leb-false (length v) 10 e))))
+  long_by (refused p) n h = absurd (let z : ◌≡◌ {A = ℕ} 0 1 = cc in omega arith)
+
+  shown_by : (a : Answer) → AnswerIn (length t) a → ((p : ℕ) → read_of 10 a ≡ Err (ReadRefusal'.At p) → ⊥)
       → dated_on sp (day_in (read_shown t (buffer_of ten a) (read_of 10 a))) ≡ dated_as sp (value_of t a)
   shown_by (borrowed f u) i h = ap (λ (v : List ℕ). dated_on sp (day_in v)) (part_shown_range f u t i)
   shown_by (written v) i h = ap (dated_on sp) (written_day v)
-  shown_by (refused p) i h = absurd (false≢true (sym h))
+  shown_by (refused p) i h = absurd (h p refl)
 
   -- as the code was told of it
-  module _ (after : List ℕ) (d : Read) (k : Reads (temporal off t) ten d after) where
-    abbrev its : Dated
+  module _ (after : List ℕ) (d : Result ReadText ReadRefusal) (k : Reads (temporal off t) ten d after) where
+    abbrev its : Result CalendarDay Refusal
     its = dated_as sp (value_of t (temporal off t))
 
-    pub date_stopped : (b : Bool) → b ≡ is_refused d → b ≡ true → (p : ℕ) → p ≡ place_of d → Dated'.Refused (InvalidString sp p) ≡ its
-    date_stopped b z h p e =
-        ap (λ (n : ℕ). Dated'.Refused (InvalidString sp n)) (e ∙ ap place_of k.answer)
-        ∙ sym (ap (λ (a : Answer). dated_as sp (value_of t a)) (stopped_by (temporal off t) (sym (z ∙ ap is_refused k.answer) ∙ h)))
+    pub date_stopped : (p : ℕ) → d ≡ Err (ReadRefusal'.At p) → Err (InvalidString sp p) ≡ its
+    date_stopped p e = sym (ap (λ (a : Answer). dated_as sp (value_of t a)) (stopped_by (temporal off t) p (sym k.answer ∙ e)))
 
-    pub date_shown : (b : Bool) → b ≡ is_refused d → b ≡ false → (v : List ℕ) → v ≡ read_shown t after d → (x : Day) → x ≡ day_in v → (a : Dated)
-        → a ≡ dated_on sp x → a ≡ its
-    date_shown b z h v s x p a q =
+    pub date_shown : (r : ReadText) → d ≡ Ok r → (v : List ℕ) → v ≡ read_shown t after d → (x : Option CalendarDay) → x ≡ day_in v
+        → (a : Result CalendarDay Refusal) → a ≡ dated_on sp x → a ≡ its
+    date_shown r h v s x p a q =
         let e : v ≡ read_shown t (buffer_of ten (temporal off t)) (read_of 10 (temporal off t)) =
         s ∙ ap (λ (b : List ℕ). read_shown t b d) k.buffer ∙ ap (read_shown t (buffer_of ten (temporal off t))) k.answer in
         q ∙ ap (dated_on sp) (p ∙ ap day_in e)
-        ∙ shown_by (temporal off t) (temporal_inside off t) (sym (z ∙ ap is_refused k.answer) ∙ h)
+        ∙ shown_by (temporal off t) (temporal_inside off t) (λ n e. at_none r n (sym h ∙ k.answer ∙ e))
+
+    -- a value of more than ten bytes is no date
+    pub date_long : (n : ℕ) → d ≡ Err (ReadRefusal'.NoRoom n) → (a : Result CalendarDay Refusal) → a ≡ dated_on sp None → a ≡ its
+    date_long n h a q = q ∙ long_by (temporal off t) n (sym k.answer ∙ h)
 
 -- THE LITERAL
-module _ {l : Literal} {S : List ℕ} {r : Tested} {code : ℕ} (c : code ≡ kind_code l.kind) (v : Tests l S r (tested (eqb code 8) Expected.Date l S)) where
-  pub date_barred : (w : Refusal) → r ≡ Barred w → Dated'.Refused w ≡ date_question l S
+module _ {l : Literal} {S : List ℕ} {r : Result Part Refusal} {right : Bool} (c : right ≡ is_date_kind l.kind) (v : Tests l S r (tested right Expected.Date l S)) where
+  pub date_barred : (w : Refusal) → r ≡ Err w → Err w ≡ date_question l S
   unfolding date_question
   date_barred w q = rw (← c, span_barred v w q)
 
-  pub date_answered : (s e : ℕ) → r ≡ Passes s e → (a : Dated) → a ≡ dated_as l.span (value_of (part s e S) (temporal off (part s e S)))
+  pub date_answered : (π : Part) → r ≡ Ok π → (a : Result CalendarDay Refusal) → a ≡ dated_as l.span (value_of (part π.start π.end S) (temporal off (part π.start π.end S)))
       → a ≡ date_question l S
   unfolding date_question
-  date_answered s e q a p = rw (← c, span_passes v s e q) p
+  date_answered π q a p = rw (← c, span_passes v π q) p

@@ -11,12 +11,8 @@ use lib.ListN.{length, take}
 use lib.Seq.{length-take-le}
 use Rattle.meaning.specs.declared.CalendarDay.{CalendarDay}
 use Rattle.meaning.specs.declared.Span.{Span}
-use Rattle.meaning.specs.declared.Day.{Day}
-use Rattle.meaning.specs.declared.Day.TheVariants as Day'
-use Rattle.meaning.specs.declared.Dated.{Dated}
-use Rattle.meaning.specs.declared.Dated.TheVariants as Dated'
 use Rattle.meaning.specs.Bytes.{◌!◌, part, has, ascii, in_tag, quote}
-use Rattle.std.specs.Prelude.{if◌then◌else◌}
+use Rattle.std.specs.Prelude.{if◌then◌else◌, Ok}
 use Rattle.meaning.specs.Cutting.{off}
 use Rattle.meaning.specs.Reading.{means, value_of}
 use Rattle.meaning.specs.Kinds.{temporal}
@@ -26,6 +22,7 @@ use Rattle.laws.proofs.dates.Spelt.{date_spelled, spelled_free}
 use Rattle.laws.proofs.dates.Joined.{ends_in_e, Words, quoted, quoted_value, quoted_end}
 use Rattle.kinds.specs.Tokens.{first_mark}
 use Rattle.questions.specs.Quick.{Quick}
+use Rattle.std.specs.Prelude.{Option, Some, None}
 
 -- E or e
 abbrev is_e : ℕ → Bool
@@ -78,10 +75,10 @@ pub words_cut : (t : List ℕ) → length t - 12 ≡ length (take (length t - 12
 words_cut t = sym (length-take-le (length t - 12) t (omega arith))
 
 -- NO DAY, nothing told
-pub quick_none : (t : List ℕ) → Quick t Day'.InvalidDate
+pub quick_none : (t : List ℕ) → Quick t None
 quick_none t = record { tells = λ c e. let z : ◌≡◌ {A = ℕ} 0 1 = cc in absurd (omega arith) }
 
-module _ (t : List ℕ) (r : Day) where
+module _ (t : List ℕ) (r : Option CalendarDay) where
   abbrev at : ℕ
   at = length t - 12
 
@@ -109,10 +106,10 @@ module _ (t : List ℕ) (r : Day) where
       is_words : Words words
       is_words = record { no_quote = free.0; no_dollar = free.1; no_e = e (or_left x (not (eqb m at)) h) }
 
-      told : (c : CalendarDay) → r ≡ Day'.On c → (v : List ℕ) × (value_of t (temporal off t) ≡ means v) × (day_in v ≡ Day'.On c)
+      told : (c : CalendarDay) → r ≡ Some c → (v : List ℕ) × (value_of t (temporal off t) ≡ means v) × (day_in v ≡ Some c)
       told c o =
           let z : at + 1 ≡ suc at = omega arith in
-          let w : day_in v ≡ Day'.On c = sym (d ∙ ap (λ (k : ℕ). day_in (part k (length t - 1) t)) z) ∙ o in
+          let w : day_in v ≡ Some c = sym (d ∙ ap (λ (k : ℕ). day_in (part k (length t - 1) t)) z) ∙ o in
           let s = date_spelled v c w in
           let nq : has quote v ≡ false = rw s.1 (spelled_free quote c.year c.month c.day (omega arith)) in
           let nz : has 0 v ≡ false = rw s.1 (spelled_free 0 c.year c.month c.day (omega arith)) in
@@ -121,8 +118,8 @@ module _ (t : List ℕ) (r : Day) where
           (v, subst (λ (k : List ℕ). value_of k (temporal off k) ≡ means v) (sym u) its, w)
 
 -- WHAT IS TOLD is the text's day
-module _ (t : List ℕ) (sp : Span) (r : Day) (q : Quick t r) where
-  pub quick_told : (c : CalendarDay) → r ≡ Day'.On c → Dated'.On c ≡ dated_as sp (value_of t (temporal off t))
+module _ (t : List ℕ) (sp : Span) (r : Option CalendarDay) (q : Quick t r) where
+  pub quick_told : (c : CalendarDay) → r ≡ Some c → Ok c ≡ dated_as sp (value_of t (temporal off t))
   quick_told c e =
       let w = q.tells c e in
       sym (ap (dated_as sp) w.1 ∙ ap (dated_on sp) w.2)

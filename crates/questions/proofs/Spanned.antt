@@ -9,32 +9,32 @@ use Rattle.meaning.specs.declared.Refusal.{Refusal}
 use Rattle.meaning.specs.Bytes.{part}
 use Rattle.meaning.specs.Questions.{passes, barred}
 use Rattle.meaning.specs.Questions as Definition
-use Rattle.admitting.specs.declared.tests.Tested.{Tested}
-use Rattle.admitting.specs.declared.tests.Tested.TheVariants.{Passes, Barred}
+use Rattle.std.specs.Prelude.{Result, Ok, Err}
+use Rattle.meaning.specs.declared.Part.{Part}
 use Rattle.admitting.specs.Tests.{Tests, SpanInside, tested_of}
 
-module _ {l : Literal} {S : List ℕ} {r : Tested} {x : Definition.Tested} (v : Tests l S r x) where
-  pub span_barred : (w : Refusal) → r ≡ Barred w → x ≡ barred w
+module _ {l : Literal} {S : List ℕ} {r : Result Part Refusal} {x : Definition.Tested} (v : Tests l S r x) where
+  pub span_barred : (w : Refusal) → r ≡ Err w → x ≡ barred w
   span_barred w q = sym v.means ∙ ap (tested_of S) q
 
-  module _ (s e : ℕ) (q : r ≡ Passes s e) where
-    range : SpanInside l (length S) (Passes s e)
+  module _ (π : Part) (q : r ≡ Ok π) where
+    range : SpanInside l (length S) (Ok π)
     range = subst (SpanInside l (length S)) q v.inside
 
-    pub span_passes : x ≡ passes (part s e S)
+    pub span_passes : x ≡ passes (part π.start π.end S)
     span_passes = sym v.means ∙ ap (tested_of S) q
 
-    pub span_start : s ≡ l.span.start
+    pub span_start : π.start ≡ l.span.start
     span_start = range.0
 
-    pub span_end : e ≡ l.span.end
+    pub span_end : π.end ≡ l.span.end
     span_end = range.1
 
-    pub span_ordered : s ≤ e
+    pub span_ordered : π.start ≤ π.end
     span_ordered = range.2
 
-    pub span_inside : e ≤ length S
+    pub span_inside : π.end ≤ length S
     span_inside = range.3
 
-    pub span_length : s + length (part s e S) ≡ e
-    span_length = omega (arith, length-take (e - s) (drop s S), length-drop s S, range.2, range.3)
+    pub span_length : π.start + length (part π.start π.end S) ≡ π.end
+    span_length = omega (arith, length-take (π.end - π.start) (drop π.start S), length-drop π.start S, range.2, range.3)

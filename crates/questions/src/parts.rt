@@ -6,22 +6,19 @@ ghost use Rattle.meaning.specs.Answers.{IsPart, range_shown, range_place, charse
 ghost use Rattle.questions.specs.Told.{InText, range_by};
 
 use crate::shown::{charset_shown, range_shown};
-use admitting::kinds::kind_code;
-use admitting::tests::{Tested, test, test_source};
+use admitting::kinds::{is_money, is_string};
+use admitting::tests::{test, test_source};
 use cutting::openings::opening_len;
 use kinds::money::read_money;
 use leaves::bytes::byte_at;
-use meaning::{Charset, Literal, LiteralExpected, Range, Read, Refusal};
+use meaning::{Literal, LiteralExpected, Part, ReadRefusal, ReadText, Refusal};
 
 // Where a literal's text stands; no kind is asked.
 // Rules out: a part from the source's start; an empty part (must-fail: another_part, some_left_out).
-pub fn source_range(literal: Literal, source: &[u8]) -> Range
+pub fn source_range(literal: Literal, source: &[u8]) -> Result<Part, Refusal>
     ensures { result ≡ source_question literal source.now }
 {
-    match test_source(literal, source) {
-        Tested::Passes { start, end } => Range::Found { start, end },
-        Tested::Barred(refusal) => Range::Refused(refusal),
-    }
+    test_source(literal, source)
 }
 
 // A literal's text, a part of the source; empty on a refusal.
@@ -35,36 +32,35 @@ pub fn source_text(literal: Literal, source: &[u8]) -> &[u8]
 }
 
 // A reading of the text at a place of the source, as a part of the source; `bad` is why anything but a part of the text is refused.
-fn range_of(read: Read, start: usize, bad: Refusal) -> Range
+fn range_of(
+    read: Result<ReadText, ReadRefusal>,
+    start: usize,
+    bad: Refusal,
+) -> Result<Part, Refusal>
     requires { InText start read }
     ensures { result ≡ range_by bad start read }
 {
     match read {
-        Read::Borrowed { from, until } => Range::Found {
+        Ok(ReadText::Borrowed { from, until }) => Ok(Part {
             start: start + from,
             end: start + until,
-        },
-        Read::Written { len: _ } => Range::Refused(bad),
-        Read::Refused { place: _ } => Range::Refused(bad),
-        Read::NoRoom { needed: _ } => Range::Refused(bad),
+        }),
+        Ok(ReadText::Written { len: _ }) => Err(bad),
+        Err(ReadRefusal::At { place: _ }) => Err(bad),
+        Err(ReadRefusal::NoRoom { needed: _ }) => Err(bad),
     }
 }
 
 // Where a money literal's text behind its $ stands.
 // Rules out: 5 for 8; bit strings asked (must-fail: one_for_another, another_kind_asked).
-pub fn money_range(literal: Literal, source: &[u8]) -> Range
+pub fn money_range(literal: Literal, source: &[u8]) -> Result<Part, Refusal>
     ensures { result ≡ money_question literal source.now }
 {
-    let kind = literal.kind;
     let span = literal.span;
-    let right = kind_code(kind) == 14;
-    match test(right, LiteralExpected::Money, literal, source) {
-        Tested::Passes { start, end } => {
-            let read = read_money(&source[start..end]);
-            range_of(read, start, Refusal::InvalidMoney(span))
-        }
-        Tested::Barred(refusal) => Range::Refused(refusal),
-    }
+    let right = is_money(literal.kind);
+    let part = test(right, LiteralExpected::Money, literal, source)?;
+    let read = read_money(&source[part.start..part.end]);
+    range_of(read, part.start, Refusal::InvalidMoney(span))
 }
 
 // A money literal's text behind its $, a part of the source; empty on a refusal.
@@ -93,24 +89,19 @@ fn charset_end(text: &[u8]) -> usize
 
 // Where the name of a string literal's charset stands, if it names one.
 // Rules out: a name told where none ends; decimals asked (must-fail: off_by_one, another_kind_asked).
-pub fn charset_range(literal: Literal, source: &[u8]) -> Charset
+pub fn charset_range(literal: Literal, source: &[u8]) -> Result<Option<Part>, Refusal>
     ensures { result ≡ charset_question literal source.now }
 {
-    let kind = literal.kind;
-    let right = kind_code(kind) == 4;
-    match test(right, LiteralExpected::String, literal, source) {
-        Tested::Passes { start, end } => {
-            let n = charset_end(&source[start..end]);
-            if n == 0 {
-                return Charset::Unnamed;
-            }
-            Charset::Named {
-                start: start + 1,
-                end: start + n,
-            }
-        }
-        Tested::Barred(refusal) => Charset::Refused(refusal),
+    let right = is_string(literal.kind);
+    let part = test(right, LiteralExpected::String, literal, source)?;
+    let n = charset_end(&source[part.start..part.end]);
+    if n == 0 {
+        return Ok(None);
     }
+    Ok(Some(Part {
+        start: part.start + 1,
+        end: part.start + n,
+    }))
 }
 
 // The name of a string literal's charset, a part of the source; empty on a refusal and without a name.

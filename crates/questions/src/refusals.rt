@@ -5,6 +5,7 @@ ghost use Rattle.meaning.specs.Answers.{refusal_number};
 use meaning::Refusal;
 
 // 1 to 9, and 14.
+// Stays: a public function keeps its name and its answer, `refusal_number` of specs/Answers; a From would only call it.
 // Rules out: 6 for 7; 3 for 4 (must-fail: one_for_another, another_reason_told).
 pub fn refusal_number(refusal: Refusal) -> u32
     ensures { result ≡ refusal_number refusal }

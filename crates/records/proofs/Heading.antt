@@ -1,62 +1,40 @@
 -- A line, piece by piece. Assumes nothing.
-use mathlib.Core.Path.{◌≡◌, ap, sym, ◌∙◌, subst}
+use mathlib.Core.Path.{◌≡◌, ap, ◌∙◌}
 use mathlib.Core.List.{List, [], ◌∷◌, ◌++◌, append_assoc}
-use Prim.Native.Nat.{ℕ, ◌+◌, ◌-◌, ◌≤◌, ◌<◌}
-use native.Mathlib.Omega.{arith}
-use lib.ListN.{length, take, drop, length-drop}
-use lib.Seq.{take_all}
+use Prim.Native.Nat.{ℕ}
 use lib.IntN.{ℤ}
 use mir.Syntax.{w64}
 use mir.Val.{SFits, to_z, of_z}
 use mir.Facts.{to_z-of_z}
 use Rattle.meaning.specs.Numbers.{digits_of, printed}
 use Rattle.meaning.specs.Records.{line, hex_text}
-use Rattle.records.specs.Adding.{Adds, EndsIn}
-use Rattle.records.specs.Heads.{AddsFew, front_of, head_of}
-use Rattle.records.proofs.Adding.{adds_more}
-use Rattle.records.proofs.Hexing.{hex_text_length}
+use Rattle.records.specs.Adding.{pushed}
+use Rattle.records.specs.Heads.{front_of, back_of}
+use Rattle.records.proofs.Adding.{pushed_more}
 
--- what stands at the end of 21 bytes
-module _ {v d : List ℕ} {low r : ℕ} (p : EndsIn v low r d) where
-  pub ends_part : take (21 - r) (drop r d) ≡ v
-  ends_part = take_all (21 - r) (drop r d) (omega (arith, length-drop r d, p.long)) ∙ p.bytes
+module _ (b : List ℕ) where
+  -- what is put in two pieces, and in three
+  two : (v w m r : List ℕ) → m ≡ pushed b v → r ≡ pushed m w → r ≡ pushed b (v ++ w)
+  two v w m r em er = er ∙ ap (λ (z : List ℕ). pushed z w) em ∙ pushed_more b v w
 
-  pub ends_length : length v ≤ 21 - low
-  ends_length = let e = ap length (sym p.bytes) ∙ length-drop r d in omega (arith, e, p.long, p.above)
+  three : (u v w m p r : List ℕ) → m ≡ pushed b u → p ≡ pushed m v → r ≡ pushed p w → r ≡ pushed b ((u ++ v) ++ w)
+  three u v w m p r em ep er = two (u ++ v) w p r (two u v m p em ep) er
 
-  -- counts it
-  pub counted : (n how : ℕ) (t before after : List ℕ) (s : ℕ) → Adds (line n how (take (21 - r) (drop r d)) t) before 0 after s
-      → Adds (line n how v t) before 0 after s
-  counted n how t before after s = subst (λ (c : List ℕ). Adds (line n how c t) before 0 after s) ends_part
+  pub front_pushed : (n how : ℕ) (m r : List ℕ) → m ≡ pushed b (digits_of n) → r ≡ pushed m (32 ∷ how ∷ 32 ∷ []) → r ≡ pushed b (front_of n how)
+  front_pushed n how m r em er = two (digits_of n) (32 ∷ how ∷ 32 ∷ []) m r em er
 
--- an integer that the machine gives back
-pub counted_value : (z : ℤ) → SFits w64 z → {d : List ℕ} {r : ℕ} → EndsIn (printed (to_z w64 (of_z w64 z))) 0 r d
-    → (how : ℕ) (t before after : List ℕ) (s : ℕ) → Adds (line 0 how (take (21 - r) (drop r d)) t) before 0 after s
-    → Adds (line 0 how (printed z) t) before 0 after s
-counted_value z f {d} {r} p how t before after s =
-    counted (subst (λ (y : ℤ). EndsIn (printed y) 0 r d) (to_z-of_z {w = w64} f) p) 0 how t before after s
+  pub back_pushed : (t m p r : List ℕ) → m ≡ pushed b (32 ∷ []) → p ≡ pushed m (hex_text t) → r ≡ pushed p (10 ∷ []) → r ≡ pushed b (back_of t)
+  back_pushed t m p r em ep er = three (32 ∷ []) (hex_text t) (10 ∷ []) m p r em ep er
 
-module _ (n how : ℕ) (before : List ℕ) where
-  pub adds_front : {d : List ℕ} {from : ℕ} → EndsIn (digits_of n) 1 from d → (m after : List ℕ) (r s : ℕ)
-      → Adds (take (21 - from) (drop from d)) before 0 m r → Adds (32 ∷ how ∷ 32 ∷ []) m r after s → AddsFew (front_of n how) before after s 24
-  adds_front {d} {from} e m after r s a b =
-      let c : Adds (digits_of n) before 0 m r = subst (λ (v : List ℕ). Adds v before 0 m r) (ends_part e) a in
-      record { adds = adds_more c b; few = let l = ends_length e in omega (arith, l, c.count, b.count) }
-
-  pub adds_head : (count m p after : List ℕ) (r s t : ℕ) → length count ≤ 21 → AddsFew (front_of n how) before m r 24 → Adds count m r p s
-      → Adds (32 ∷ []) p s after t → AddsFew (head_of n how count) before after t 46
-  adds_head count m p after r s t h a b c =
-      record { adds = adds_more (adds_more a.adds b) c; few = omega (arith, h, a.few, b.count, c.count) }
-
-line_is : (d c h : List ℕ) (how : ℕ)
-    → ((((d ++ (32 ∷ how ∷ 32 ∷ [])) ++ c) ++ (32 ∷ [])) ++ h) ++ (10 ∷ []) ≡ d ++ (32 ∷ how ∷ 32 ∷ c ++ (32 ∷ h ++ (10 ∷ [])))
-line_is d c h how = simp append_assoc
-
-module _ (n how : ℕ) (count text before m p : List ℕ) (r s : ℕ) (a : AddsFew (head_of n how count) before m r 46) (b : Adds (hex_text text) m r p s) where
-  pub line_room : length text ≤ 64 → length before ≡ 192 → s < length p
-  line_room h l = omega (arith, hex_text_length text, a.few, a.adds.same, b.count, b.same)
-
-  pub adds_line : (after : List ℕ) (t : ℕ) → Adds (10 ∷ []) p s after t → Adds (line n how count text) before 0 after t
+  pub line_pushed : (n how : ℕ) (count t m p r : List ℕ) → m ≡ pushed b (front_of n how) → p ≡ pushed m count → r ≡ pushed p (back_of t)
+      → r ≡ pushed b (line n how count t)
   unfolding line
-  adds_line after t c =
-      subst (λ (v : List ℕ). Adds v before 0 after t) (line_is (digits_of n) count (hex_text text) how) (adds_more (adds_more a.adds b) c)
+  line_pushed n how count t m p r em ep er =
+      three (front_of n how) count (back_of t) m p r em ep er ∙ ap (pushed b)
+      (append_assoc (front_of n how) count (back_of t) ∙ append_assoc (digits_of n) (32 ∷ how ∷ 32 ∷ []) (count ++ back_of t))
+
+  -- an integer that the machine gives back
+  pub value_pushed : (z : ℤ) → SFits w64 z → (how : ℕ) (t m p r : List ℕ) → m ≡ pushed b (front_of 0 how)
+      → p ≡ pushed m (printed (to_z w64 (of_z w64 z))) → r ≡ pushed p (back_of t) → r ≡ pushed b (line 0 how (printed z) t)
+  value_pushed z f how t m p r em ep =
+      line_pushed 0 how (printed z) t m p r em (ep ∙ ap (λ (y : ℤ). pushed m (printed y)) (to_z-of_z {w = w64} f))

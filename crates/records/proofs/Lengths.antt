@@ -1,14 +1,14 @@
 -- A record's line has at most 192 bytes, whatever the record. Assumes nothing.
-use mathlib.Core.Path.{◌≡◌, refl, ap}
+use mathlib.Core.Path.{◌≡◌, refl, ap, ◌∙◌, subst}
 use mathlib.Core.Bool.{Bool, true, false, ◌&&◌, not}
 use mathlib.Core.List.{List, [], ◌∷◌, ◌++◌}
-use Prim.Native.Nat.{ℕ, ◌^◌, ◌≤◌, ◌<◌}
+use Prim.Native.Nat.{ℕ, ◌^◌, ◌-◌, ◌≤◌, ◌<◌}
 use native.Mathlib.Nat.{lt_of_lt_of_le}
 use native.Mathlib.Omega.{arith}
 use borrow.Author.Tests.{ltb-true, lt-ltb}
-use lib.Dec.{eqb, ltb, lit≤}
+use lib.Dec.{eqb, ltb, leb, lit≤}
 use lib.IntN.{ℤ, pos, negsuc}
-use lib.ListN.{length, drop, length-append, length-drop}
+use lib.ListN.{length, drop, length-take, length-append, length-drop}
 use Rattle.meaning.specs.declared.Settings.{Settings}
 use Rattle.meaning.specs.declared.Literal.{Literal}
 use Rattle.meaning.specs.declared.LiteralExpected.TheVariants as Expected
@@ -17,11 +17,7 @@ use Rattle.meaning.specs.declared.Refusal.TheVariants.{WrongKind, MissingSource,
 use Rattle.meaning.specs.declared.Refusal.TheVariants.{InvalidBitString, InvalidMoney, NoRoom, InvalidDate}
 use Rattle.meaning.specs.declared.Text.{Text}
 use Rattle.meaning.specs.declared.Text.TheVariants as Text'
-use Rattle.meaning.specs.declared.Range.{Range}
-use Rattle.meaning.specs.declared.Range.TheVariants as Range'
-use Rattle.meaning.specs.declared.Charset.{Charset}
-use Rattle.meaning.specs.declared.Charset.TheVariants as Charset'
-use Rattle.meaning.specs.Bytes.{◌!◌, number, all_digits}
+use Rattle.meaning.specs.Bytes.{◌!◌, number, all_digits, part}
 use Rattle.std.specs.Prelude.{if◌then◌else◌}
 use Rattle.meaning.specs.Numbers.{sign_length, is_minus, strip, Parsed, none, int, fits, signed, within_bits, parsed, negated_by, base_of, number_body}
 use Rattle.meaning.specs.Numbers.{separated, radix_value, i64_of, digits_of, printed}
@@ -32,9 +28,14 @@ use Rattle.meaning.specs.Records.{line, refused_line, shown_line, text_line, ran
 use Rattle.meaning.specs.Records.{text_in, record_line, hex_text}
 use Rattle.laws.proofs.questions.Buffers.{TextLeaves, string_question_leaves, decimal_question_leaves, bits_question_leaves, temporal_question_leaves}
 use Rattle.laws.proofs.basics.Halves.{digits_of_length, printed_length}
-use Rattle.records.proofs.Answering.{short}
+use lib.Seq.{take_all}
+use Rattle.leaves.specs.Puts.{Puts}
+use Rattle.records.specs.Adding.{pushed}
 use Rattle.records.proofs.Goods.{setting_in, good_facts, text_short}
 use Rattle.records.proofs.Hexing.{hex_text_length}
+use Rattle.std.specs.Prelude.{Result, Ok, Err}
+use Rattle.meaning.specs.declared.Part.{Part}
+use Rattle.std.specs.Prelude.{Option, Some, None}
 
 -- a small number, a count of at most 40 bytes, and a text of at most 64
 line_length : (n how : ℕ) (count t : List ℕ) → n < 100 → length count ≤ 40 → length t ≤ 64 → length (line n how count t) ≤ 192
@@ -64,6 +65,16 @@ refused_length r = line_length (refusal_number r) 45 (48 ∷ []) [] (small r) (o
     small (NoRoom n) = omega arith
     small (InvalidDate s) = omega arith
 
+-- what is shown of a text is no longer than it
+module _ (f u : ℕ) (t x : List ℕ) where
+  shorter : (b : Bool) → length (if b then part f u t else []) ≤ length t
+  shorter true = omega (arith, length-take (u - f) (drop f t), length-drop f t)
+  shorter false = omega arith
+
+  short : x ≡ part_shown f u t → length t ≤ 64 → length x ≤ 64
+  unfolding part_shown
+  short e h = let s = shorter (leb f u && leb u (length t)) in omega (arith, ap length e)
+
 -- a part that is shown
 shown_length : (how f u : ℕ) (t : List ℕ) → length t ≤ 64 → length (shown_line how (part_shown f u t)) ≤ 192
 shown_length how f u t h =
@@ -72,23 +83,23 @@ shown_length how f u t h =
     (let d = digits_of_length 1 (length (part_shown f u t)) (omega arith) in omega arith) s
 
 -- EACH ANSWER'S LINE: a text's, where the buffer is as long as `room`
-text_length : (t : List ℕ) (o : Outcome Text) → length t ≤ 64 → TextLeaves room o.answer o.buffer → length (text_line t o) ≤ 192
+text_length : (t : List ℕ) (o : Outcome (Result Text Refusal)) → length t ≤ 64 → TextLeaves room o.answer o.buffer → length (text_line t o) ≤ 192
 text_length t o h = go o.answer o.buffer
   where
-    go : (a : Text) (d : List ℕ) → TextLeaves room a d → length (text_line t (record { answer = a; buffer = d })) ≤ 192
-    go (Text'.Borrowed f u) d l = shown_length 98 f u t h
-    go (Text'.Written n) d l =
+    go : (a : Result Text Refusal) (d : List ℕ) → TextLeaves room a d → length (text_line t (record { answer = a; buffer = d })) ≤ 192
+    go (Ok (Text'.Borrowed f u)) d l = shown_length 98 f u t h
+    go (Ok (Text'.Written n)) d l =
         shown_length 119 0 n d (omega (arith, ap length l.bytes, length-append l.value (drop n room), l.size, l.room, length-drop n room))
-    go (Text'.Refused r) d l = refused_length r
+    go (Err r) d l = refused_length r
 
-range_length : (t : List ℕ) (a : Range) → length t ≤ 64 → length (range_line t a) ≤ 192
-range_length t (Range'.Found f u) h = shown_length 98 f u t h
-range_length t (Range'.Refused r) h = refused_length r
+range_length : (t : List ℕ) (a : Result Part Refusal) → length t ≤ 64 → length (range_line t a) ≤ 192
+range_length t (Ok π) h = shown_length 98 π.start π.end t h
+range_length t (Err r) h = refused_length r
 
-charset_length : (t : List ℕ) (a : Charset) → length t ≤ 64 → length (charset_line t a) ≤ 192
-charset_length t (Charset'.Named f u) h = shown_length 98 f u t h
-charset_length t Charset'.Unnamed h = line_length 0 110 (48 ∷ []) [] (omega arith) (omega arith) (omega arith)
-charset_length t (Charset'.Refused r) h = refused_length r
+charset_length : (t : List ℕ) (a : Result (Option Part) Refusal) → length t ≤ 64 → length (charset_line t a) ≤ 192
+charset_length t (Ok (Some π)) h = shown_length 98 π.start π.end t h
+charset_length t (Ok None) h = line_length 0 110 (48 ∷ []) [] (omega arith) (omega arith) (omega arith)
+charset_length t (Err r) h = refused_length r
 
 -- an integer's, which is of 64 bits
 abbrev Brief : Parsed → Type 0
@@ -168,3 +179,10 @@ record_line_length r = go (good_record r) refl
         → length (if x then asked (r ! 0) (whole_literal (r ! 1) (text_in r)) (setting_in r) (text_in r) else refused_line 10) ≤ 192
     go true e = asked_length (r ! 0) (whole_literal (r ! 1) (text_in r)) (setting_in r) (text_in r) (text_short r (good_facts r e))
     go false e = line_length 10 45 (48 ∷ []) [] (omega arith) (omega arith) (omega arith)
+
+-- put into a buffer, all of it
+pub puts_line : (r start row text out after : List ℕ) (n : ℕ) → start ≡ [] → row ≡ pushed start (record_line r) → text ≡ row → Puts text out n after
+    → Puts (record_line r) out n after
+puts_line r start row text out after n es er et =
+    subst (λ (x : List ℕ). Puts x out n after)
+    (et ∙ er ∙ ap (λ (z : List ℕ). pushed z (record_line r)) es ∙ take_all 192 (record_line r) (record_line_length r))

@@ -1,29 +1,29 @@
-// Bytes put behind those that a line has already.
-ghost use Rattle.std.specs.Prelude.{◌≡◌, [], ◌∷◌, ◌+◌, ◌*◌, ◌≤◌, ◌<◌, length};
+// A line, as it grows.
+ghost use Rattle.std.specs.Prelude.{◌≡◌, [], ◌∷◌, List, ℕ, ◌≤◌, ◌<◌, take};
+ghost use Rattle.meaning.specs.Numbers.{digits_of, printed};
 ghost use Rattle.meaning.specs.Records.{hex_digit, hex_of, hex_text};
-ghost use Rattle.records.specs.Adding.{Adds};
+ghost use Rattle.records.specs.Adding.{pushed};
 
-use leaves::puts::put_bytes;
+use crate::printing::print_number;
+use std::marker::Model;
 
-// One byte.
-// Rules out: a place one byte too far told (must-fail: off_by_one).
-pub(crate) fn push_byte(byte: u8, line: &mut [u8], at: usize) -> usize
-    requires { at < length line.old }
-    ensures { Adds (byte ∷ []) line.old at line.new result }
-{
-    line[at] = byte;
-    at + 1
+// The bytes that are put into it, one behind the other. It has a place for each byte of any record's line; what finds none is left out.
+#[derive(Drop)]
+pub(crate) struct Line {
+    bytes: [u8; 192],
+    len: usize,
 }
 
-// A run of bytes.
-pub(crate) fn push_bytes(bytes: &[u8], line: &mut [u8], at: usize) -> usize
-    requires { at + length bytes.now ≤ length line.old }
-    ensures { Adds bytes.now line.old at line.new result }
-{
-    at + put_bytes(bytes, &mut line[at..])
+impl Model for Line {
+    ghost Value = { List ℕ };
+
+    ghost view = { λ l. take l.len l.bytes };
+
+    ghost invariant = { λ l. l.len ≤ 192 };
 }
 
 // The upper-case digit of a number below 16.
+// Stays: `char::from_digit` gives lower case, and a char in an Option.
 // Rules out: lower case (must-fail: other_digits).
 fn hex_digit(value: u8) -> u8
     requires { value < 16 }
@@ -35,29 +35,78 @@ fn hex_digit(value: u8) -> u8
     55 + value
 }
 
-// Two digits for each byte.
-fn push_hex(text: &[u8], line: &mut [u8], at: usize) -> usize
-    requires { at + 2 * length text.now ≤ length line.old }
-    ensures { Adds (hex_of text.now) line.old at line.new result }
-{
-    let mut to = at;
-    let mut i: usize = 0;
-    while i < text.len() {
-        let byte = text[i];
-        to = push_byte(hex_digit(byte / 16), line, to);
-        to = push_byte(hex_digit(byte % 16), line, to);
-        i += 1;
+impl Line {
+    pub(crate) fn new() -> Self
+        ensures { result ≡ [] }
+    {
+        Line {
+            bytes: [0; 192],
+            len: 0,
+        }
     }
-    to
-}
 
-// The text in hex, or - for an empty one.
-pub(crate) fn push_hex_text(text: &[u8], line: &mut [u8], at: usize) -> usize
-    requires { at + 2 * length text.now < length line.old }
-    ensures { Adds (hex_text text.now) line.old at line.new result }
-{
-    if text.len() == 0 {
-        return push_byte(45, line, at);
+    pub(crate) fn as_slice(&self) -> &[u8]
+        ensures { result.now ≡ self.now }
+    {
+        &self.bytes[..self.len]
     }
-    push_hex(text, line, at)
+
+    // One byte.
+    // Rules out: a place one byte too far told (must-fail: off_by_one).
+    pub(crate) fn push(&mut self, byte: u8)
+        ensures { self.new ≡ pushed self.old (byte ∷ []) }
+    {
+        if self.len < 192 {
+            self.bytes[self.len] = byte;
+            self.len += 1;
+        }
+    }
+
+    // A run of bytes.
+    pub(crate) fn push_all(&mut self, bytes: &[u8])
+        ensures { self.new ≡ pushed self.old bytes.now }
+    {
+        for byte in bytes {
+            self.push(*byte);
+        }
+    }
+
+    // A number in decimal.
+    pub(crate) fn push_number(&mut self, value: u64)
+        ensures { self.new ≡ pushed self.old (digits_of value) }
+    {
+        let mut digits = [0u8; 21];
+        let from = print_number(value, &mut digits);
+        self.push_all(&digits[from..]);
+    }
+
+    // An integer in decimal, behind a minus if it is below 0.
+    pub(crate) fn push_integer(&mut self, value: i64)
+        ensures { self.new ≡ pushed self.old (printed value) }
+    {
+        if value < 0 {
+            self.push(b'-');
+        }
+        self.push_number(value.unsigned_abs());
+    }
+
+    // Two digits for each byte.
+    fn push_hex(&mut self, text: &[u8])
+        ensures { self.new ≡ pushed self.old (hex_of text.now) }
+    {
+        for byte in text {
+            self.push(hex_digit(*byte / 16));
+            self.push(hex_digit(*byte % 16));
+        }
+    }
+
+    // The text in hex, or - for an empty one.
+    pub(crate) fn push_hex_text(&mut self, text: &[u8])
+        ensures { self.new ≡ pushed self.old (hex_text text.now) }
+    {
+        if text.is_empty() {
+            return self.push(b'-');
+        }
+        self.push_hex(text)
+    }
 }

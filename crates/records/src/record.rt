@@ -1,13 +1,13 @@
 // [01 Record program litrec] A record and its line.
-ghost use Rattle.std.specs.Prelude.{◌≡◌, ◌≤◌, length};
+ghost use Rattle.std.specs.Prelude.{◌≡◌};
 ghost use Rattle.leaves.specs.Puts.{Puts};
-ghost use Rattle.meaning.specs.Questions.{string_question, decimal_question, bits_question, temporal_question};
 ghost use Rattle.meaning.specs.Bytes.{all_zero};
-ghost use Rattle.meaning.specs.Records.{room, text_line, asked, good_record, record_line};
-ghost use Rattle.records.specs.Adding.{Adds};
+ghost use Rattle.meaning.specs.Records.{asked, good_record, record_line};
+ghost use Rattle.records.specs.Adding.{pushed};
 ghost use Rattle.records.specs.Goods.{Good};
 
 use crate::lines::{bare_line, charset_line, integer_line, range_line, text_line};
+use crate::pushing::Line;
 use admitting::kinds::kind_of;
 use leaves::puts::put_bytes;
 use meaning::{Literal, Settings, Span};
@@ -20,17 +20,11 @@ use questions::values::as_i64;
 fn is_all_zero(bytes: &[u8]) -> bool
     ensures { result ≡ all_zero bytes.now }
 {
-    let mut i: usize = 0;
-    while i < bytes.len() {
-        if bytes[i] != 0 {
-            return false;
-        }
-        i += 1;
-    }
-    true
+    bytes.iter().all(|byte| *byte == 0)
 }
 
 // Whether 64 bytes are a question, a kind, a setting, a length, and a text with zeros behind it.
+// Stays: a record is bytes, and `good_record` of specs/Records says by their numbers which is good.
 // Rules out: money's kind refused (must-fail: off_by_one).
 fn is_good_record(bytes: &[u8]) -> bool
     ensures { result ≡ good_record bytes.now }
@@ -51,83 +45,28 @@ fn is_good_record(bytes: &[u8]) -> bool
         & is_all_zero(&bytes[4 + len..])
 }
 
-// A string's line, at the record's setting.
-fn string_line(literal: Literal, text: &[u8], settings: Settings, row: &mut [u8]) -> usize
-    requires { (length text.now ≤ 64) × (length row.old ≡ 192) }
-    ensures { Adds (text_line text.now (string_question literal text.now settings room)) row.old 0 row.new result }
-{
-    let mut out = [0u8; 64];
-    let answer = as_str_in(literal, text, settings, &mut out);
-    text_line(text, &out, answer, row)
-}
-
-// A number's decimal text.
-fn decimal_line(literal: Literal, text: &[u8], row: &mut [u8]) -> usize
-    requires { (length text.now ≤ 64) × (length row.old ≡ 192) }
-    ensures { Adds (text_line text.now (decimal_question literal text.now room)) row.old 0 row.new result }
-{
-    let mut out = [0u8; 64];
-    let answer = as_decimal_text(literal, text, &mut out);
-    text_line(text, &out, answer, row)
-}
-
-// A bit string's digits.
-fn bits_line(literal: Literal, text: &[u8], row: &mut [u8]) -> usize
-    requires { (length text.now ≤ 64) × (length row.old ≡ 192) }
-    ensures { Adds (text_line text.now (bits_question literal text.now room)) row.old 0 row.new result }
-{
-    let mut out = [0u8; 64];
-    let answer = as_bit_text(literal, text, &mut out);
-    text_line(text, &out, answer, row)
-}
-
-// What a temporal literal's token means.
-fn temporal_line(literal: Literal, text: &[u8], row: &mut [u8]) -> usize
-    requires { (length text.now ≤ 64) × (length row.old ≡ 192) }
-    ensures { Adds (text_line text.now (temporal_question literal text.now room)) row.old 0 row.new result }
-{
-    let mut out = [0u8; 64];
-    let answer = as_temporal_text(literal, text, &mut out);
-    text_line(text, &out, answer, row)
-}
-
 // The line of a question by its number, 7 for any that is not below it.
-fn asked_line(
-    question: u8,
-    literal: Literal,
-    text: &[u8],
-    settings: Settings,
-    row: &mut [u8],
-) -> usize
-    requires { (length text.now ≤ 64) × (length row.old ≡ 192) }
-    ensures { Adds (asked question literal settings text.now) row.old 0 row.new result }
+fn asked_line(question: u8, literal: Literal, text: &[u8], settings: Settings, to: &mut Line)
+    ensures { to.new ≡ pushed to.old (asked question literal settings text.now) }
 {
-    if question == 1 {
-        return string_line(literal, text, settings, row);
+    let mut out = [0u8; 64];
+    // Stays: `asked` of specs/Records chooses by the record's number; an enum would be made of it by one more such match.
+    match question {
+        1 => text_line(text, as_str_in(literal, text, settings, &mut out), &out, to),
+        2 => integer_line(as_i64(literal, text), to),
+        3 => text_line(text, as_decimal_text(literal, text, &mut out), &out, to),
+        4 => text_line(text, as_bit_text(literal, text, &mut out), &out, to),
+        5 => range_line(text, money_range(literal, text), to),
+        6 => text_line(text, as_temporal_text(literal, text, &mut out), &out, to),
+        _ => charset_line(text, charset_range(literal, text), to),
     }
-    if question == 2 {
-        return integer_line(as_i64(literal, text), row);
-    }
-    if question == 3 {
-        return decimal_line(literal, text, row);
-    }
-    if question == 4 {
-        return bits_line(literal, text, row);
-    }
-    if question == 5 {
-        return range_line(text, money_range(literal, text), row);
-    }
-    if question == 6 {
-        return temporal_line(literal, text, row);
-    }
-    charset_line(text, charset_range(literal, text), row)
 }
 
 // The line of a record that is good.
 // Rules out: the setting turned (must-fail: setting_turned).
-fn good_line(bytes: &[u8], row: &mut [u8]) -> usize
-    requires { (Good bytes.now) × (length row.old ≡ 192) }
-    ensures { Adds (record_line bytes.now) row.old 0 row.new result }
+fn good_line(bytes: &[u8], to: &mut Line)
+    requires { Good bytes.now }
+    ensures { to.new ≡ pushed to.old (record_line bytes.now) }
 {
     let len = bytes[3] as usize;
     let end = 4 + len;
@@ -142,27 +81,27 @@ fn good_line(bytes: &[u8], row: &mut [u8]) -> usize
     let settings = Settings {
         backslash: bytes[2] == 1,
     };
-    asked_line(bytes[0], literal, &bytes[4..end], settings, row)
+    asked_line(bytes[0], literal, &bytes[4..end], settings, to)
 }
 
 // The line of any record.
 // Rules out: 9 for 10 (must-fail: nine_for_ten).
-fn make_line(bytes: &[u8], row: &mut [u8]) -> usize
-    requires { length row.old ≡ 192 }
-    ensures { Adds (record_line bytes.now) row.old 0 row.new result }
+fn make_line(bytes: &[u8], to: &mut Line)
+    ensures { to.new ≡ pushed to.old (record_line bytes.now) }
 {
     if is_good_record(bytes) {
-        return good_line(bytes, row);
+        return good_line(bytes, to);
     }
-    bare_line(10, 45, row)
+    bare_line(10, b'-', to)
 }
 
 // Puts a record's line at the buffer's start and says how long it is; where there is no room it puts nothing and says 0.
+// Stays: a public function keeps its answer, as `Puts` says it.
 // Rules out: nothing put; the line's first byte put alone (must-fail: first_byte_put, nothing_put).
 pub fn record_line(bytes: &[u8], out: &mut [u8]) -> usize
     ensures { Puts (record_line bytes.now) out.old result out.new }
 {
-    let mut row = [0u8; 192];
-    let n = make_line(bytes, &mut row);
-    put_bytes(&row[..n], out)
+    let mut line = Line::new();
+    make_line(bytes, &mut line);
+    put_bytes(line.as_slice(), out)
 }

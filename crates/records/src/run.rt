@@ -1,7 +1,7 @@
 // [01 Record program litrec] The program: records of 64 bytes from standard input, one line each to standard output; a short last record is refused with 10.
 // It reads blocks of 256 records, and writes the lines of each block at once. Where reading or writing fails it says so on standard error and ends with 2: a
 // list of answers that was cut off must not look whole.
-ghost use Rattle.std.specs.Prelude.{◌≡◌, ◌+◌, ◌*◌, ◌≤◌, ◌<◌, min, length};
+ghost use Rattle.std.specs.Prelude.{◌≡◌, ◌+◌, ◌*◌, ◌≤◌, length, IfOk};
 ghost use Rattle.io.specs.Counts.{IsPrefixLen};
 ghost use Rattle.records.specs.Lines.{Lines};
 ghost use Rattle.words.specs.Ending.{asked_of, Ends};
@@ -14,17 +14,6 @@ const STDOUT_FILENO: i32 = 1;
 
 const STDERR_FILENO: i32 = 2;
 
-// Where the record at a place ends: 64 bytes on, or where the input does.
-fn record_end(input: &[u8], at: usize) -> usize
-    requires { at < length input.now }
-    ensures { result ≡ min (at + 64) (length input.now) }
-{
-    if input.len() - at < 64 {
-        return input.len();
-    }
-    at + 64
-}
-
 // Puts the line of each record at the buffer's start, one behind the other, and says how long they are; a line has at most 192 bytes.
 // Rules out: each line put over the one before; the first record passed over; the records behind the first left out
 // (must-fail: records_over_each_other, record_passed_over, later_records_left_out).
@@ -32,102 +21,65 @@ fn answer_records(input: &[u8], output: &mut [u8]) -> usize
     requires { 3 * length input.now + 192 ≤ length output.old }
     ensures { Lines input.now output.old result output.new }
 {
-    let mut at: usize = 0;
     let mut full: usize = 0;
-    while at < input.len() {
-        let end = record_end(input, at);
-        full += record_line(&input[at..end], &mut output[full..]);
-        at = end;
+    for record in input.chunks(64) {
+        full += record_line(record, &mut output[full..]);
     }
     full
 }
 
-// How many bytes a block has; whether the input has ended, or could not be read on.
+// Why the records are not all answered.
 #[derive(Clone, Copy)]
-struct Filled {
-    pub bytes: usize,
-    pub ended: bool,
-    pub failed: bool,
-}
-
-// Reads until the block is full. `io::read_full` does not tell the end of the input from a failure.
-fn fill(from: &mut Stdin, input: &mut [u8]) -> Filled
-    ensures { IsPrefixLen result.bytes input.new }
-{
-    let mut done: usize = 0;
-    while done < input.len() {
-        match from.read(&mut input[done..]) {
-            Ok(n) => {
-                if n == 0 {
-                    return Filled {
-                        bytes: done,
-                        ended: true,
-                        failed: false,
-                    };
-                }
-                done += n;
-            }
-            Err(_) => {
-                return Filled {
-                    bytes: done,
-                    ended: false,
-                    failed: true,
-                };
-            }
-        }
-    }
-    Filled {
-        bytes: done,
-        ended: false,
-        failed: false,
-    }
-}
-
-// How a block went: there may be more; it was the last; or it could not be read, or its lines not be written.
-#[derive(Clone, Copy)]
-enum Block {
-    Whole,
-    Last,
+enum Unanswered {
     Unread,
     Unwritten,
 }
 
-// Answers a block of records. Of one that is cut off by a failure none is answered: its last record may not be short.
-fn answer_block(from: &mut Stdin, input: &mut [u8], output: &mut [u8]) -> Block
+// Reads until the block is full, or the input ends: tells how many bytes it has. `io::read_full` does not tell the end of the input from a failure.
+fn fill(from: &mut Stdin, input: &mut [u8]) -> Result<usize, Unanswered>
+    ensures { IfOk result (λ n. IsPrefixLen n input.new) }
+{
+    let mut done: usize = 0;
+    while done < input.len() {
+        match from.read(&mut input[done..]) {
+            Ok(0) => return Ok(done),
+            Ok(n) => done += n,
+            Err(_) => return Err(Unanswered::Unread),
+        }
+    }
+    Ok(done)
+}
+
+// Answers a block of records; tells whether it was the last. Of one that is cut off by a failure none is answered: its last record may not be short.
+fn answer_block(from: &mut Stdin, input: &mut [u8], output: &mut [u8]) -> Result<bool, Unanswered>
     requires { 3 * length input.old + 192 ≤ length output.old }
 {
-    let filled = fill(from, input);
-    if filled.failed {
-        return Block::Unread;
-    }
-    let n = filled.bytes;
+    let n = fill(from, input)?;
     let full = answer_records(&input[..n], output);
     if !io::write_all(STDOUT_FILENO, &output[..full]) {
-        return Block::Unwritten;
+        return Err(Unanswered::Unwritten);
     }
-    if filled.ended {
-        return Block::Last;
-    }
-    Block::Whole
+    Ok(n < input.len())
 }
 
 // Every block but the last fills the buffer with 256 whole records, so that the lines of the blocks, one behind the other, are the lines of the whole
 // input (laws: blocks_output). The buffers are made once: to clear them for each block took as long as all else.
-fn answer_input(from: &mut Stdin) -> Block {
+fn answer_input(from: &mut Stdin) -> Result<(), Unanswered> {
     let mut input = [0u8; 16384];
     let mut output = io::large_buffer();
-    let mut blocks: u64 = 0xFFFF_FFFF_FFFF_FFFF;
-    while 0 < blocks {
-        let block = answer_block(from, &mut input, &mut output);
-        match block {
-            Block::Whole => {}
-            Block::Last => return block,
-            Block::Unread => return block,
-            Block::Unwritten => return block,
+    for _ in 0..u64::MAX {
+        if answer_block(from, &mut input, &mut output)? {
+            return Ok(());
         }
-        blocks -= 1;
     }
-    Block::Unread
+    Err(Unanswered::Unread)
+}
+
+// With which status the program ends.
+#[derive(Clone, Copy)]
+enum Status {
+    Done = 0,
+    Failed = 2,
 }
 
 // A line on standard error, and the status that goes with it.
@@ -135,17 +87,22 @@ fn failed(line: &[u8]) -> u32
     ensures { result ≡ 2 }
 {
     io::write_all(STDERR_FILENO, line);
-    2
+    Status::Failed as u32
 }
 
-fn status_of(block: Block) -> u32
+fn unwritten() -> u32
+    ensures { result ≡ 2 }
+{
+    failed(b"litrec: the output cannot be written\n")
+}
+
+fn status_of(answered: Result<(), Unanswered>) -> u32
     ensures { result ≤ 2 }
 {
-    match block {
-        Block::Whole => 0,
-        Block::Last => 0,
-        Block::Unread => failed(b"litrec: the input cannot be read\n"),
-        Block::Unwritten => failed(b"litrec: the output cannot be written\n"),
+    match answered {
+        Ok(()) => Status::Done as u32,
+        Err(Unanswered::Unread) => failed(b"litrec: the input cannot be read\n"),
+        Err(Unanswered::Unwritten) => unwritten(),
     }
 }
 
@@ -170,9 +127,9 @@ error says which.
 ",
     );
     if written {
-        return 0;
+        return Status::Done as u32;
     }
-    failed(b"litrec: the output cannot be written\n")
+    unwritten()
 }
 
 // The program. Its words are those behind its name, each ended by a 0 byte; its result is the status to end with.
@@ -182,8 +139,7 @@ pub extern "C" fn valdrabus_litrec(input: Stdin, words: &[u8]) -> u32
     ensures { Ends 2 (asked_of words.now) result }
 {
     let mut from = input;
-    let what = asked_by(words);
-    match what {
+    match asked_by(words) {
         Asked::Work => status_of(answer_input(&mut from)),
         Asked::Help => help(),
         Asked::Other => failed(

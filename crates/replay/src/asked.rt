@@ -1,8 +1,5 @@
-// The question that a row asks, of a source and with a buffer. The literal's span is moved by so many bytes.
-use crate::rows::{
-    QUESTION, bit_count_of, day_number_of, due_in, form_of, literal_of, radix_of, settings_of,
-    size_of,
-};
+// The question that a row asks, of a source and with a buffer. The row says by how many bytes its literal's span is moved.
+use crate::rows::Row;
 use crate::told::{
     PREFIX, TRUTH, Told, agreed, answered, bit_writing_told, bool_told, charset_told, dated_told,
     found_told, identifier_told, integer_told, null_told, packed_told, range_told, text_told,
@@ -14,9 +11,8 @@ use helpers::{
     is_unicode_ident, materialize_unicode_ident, postgres_escape_string_is_valid,
     uescape_argument_is_legal, unicode_escape_string_is_valid,
 };
-use leaves::bytes::byte_at;
 use leaves::texts::string_literal_embeds_nul;
-use meaning::{Literal, Text};
+use meaning::{Literal, Part, Refusal, Text};
 use numbers::prefix::split_radix_prefix;
 use questions::dates::as_date;
 use questions::packing::as_packed_bits;
@@ -31,9 +27,10 @@ use writer::forms::write_form;
 use writer::literal::write_literal;
 
 // 1 to 5: a text of the source or of the buffer.
-fn ask_text(row: &[u8], literal: Literal, source: &[u8], out: &mut [u8]) -> Text {
-    match byte_at(row, QUESTION) {
-        1 => as_str_in(literal, source, settings_of(row), out),
+fn ask_text(row: Row, literal: Literal, source: &[u8], out: &mut [u8]) -> Result<Text, Refusal> {
+    // Stays: each number is met once; an enum of the questions would be made of it by one more such match.
+    match row.question() {
+        1 => as_str_in(literal, source, row.settings(), out),
         2 => as_str(literal, source, out),
         3 => as_decimal_text(literal, source, out),
         4 => as_bit_text(literal, source, out),
@@ -42,52 +39,41 @@ fn ask_text(row: &[u8], literal: Literal, source: &[u8], out: &mut [u8]) -> Text
 }
 
 // 7: a value's literal.
-fn ask_writer(row: &[u8], source: &[u8], out: &mut [u8]) -> Told {
-    writing_told(write_literal(source, size_of(row), settings_of(row), out))
+fn ask_writer(row: Row, source: &[u8], out: &mut [u8]) -> Told {
+    writing_told(write_literal(source, row.size(), row.settings(), out))
 }
 
 // 8: a value as an E or a U& literal.
-fn ask_form(row: &[u8], source: &[u8], out: &mut [u8]) -> Told {
-    writing_told(write_form(source, form_of(row), out))
+fn ask_form(row: Row, source: &[u8], out: &mut [u8]) -> Told {
+    writing_told(write_form(source, row.form(), out))
 }
 
 // 24: a bit string's packed bytes.
-fn ask_packed(row: &[u8], by: u8, source: &[u8], out: &mut [u8]) -> Told {
-    packed_told(as_packed_bits(literal_of(row, by), source, out))
+fn ask_packed(row: Row, source: &[u8], out: &mut [u8]) -> Told {
+    packed_told(as_packed_bits(row.literal(), source, out))
 }
 
 // 25: bytes and a bit count as a bit literal.
-fn ask_bit_literal(row: &[u8], source: &[u8], out: &mut [u8]) -> Told {
-    bit_writing_told(write_bit_literal(source, bit_count_of(row), radix_of(row), out))
+fn ask_bit_literal(row: Row, source: &[u8], out: &mut [u8]) -> Told {
+    bit_writing_told(write_bit_literal(source, row.bit_count(), row.radix(), out))
 }
 
 // 1 to 8, 24 and 25: the questions that are lent a buffer.
-fn ask_lent(row: &[u8], by: u8, source: &[u8], out: &mut [u8]) -> Told {
-    match byte_at(row, QUESTION) {
+fn ask_lent(row: Row, source: &[u8], out: &mut [u8]) -> Told {
+    // Stays: each number is met once; an enum of the questions would be made of it by one more such match.
+    match row.question() {
         6 => identifier_told(materialize_unicode_ident(source, out)),
         7 => ask_writer(row, source, out),
         8 => ask_form(row, source, out),
-        24 => ask_packed(row, by, source, out),
+        24 => ask_packed(row, source, out),
         25 => ask_bit_literal(row, source, out),
-        _ => text_told(ask_text(row, literal_of(row, by), source, out)),
+        _ => text_told(ask_text(row, row.literal(), source, out)),
     }
 }
 
 // 9 and 10: a part of the source; its range, if the part handed back is just that.
-fn ask_money(literal: Literal, source: &[u8]) -> Told {
-    let range = money_range(literal, source);
-    agreed(
-        range_told(range),
-        same(as_money_text(literal, source), range_shown(source, range)),
-    )
-}
-
-fn ask_source(literal: Literal, source: &[u8]) -> Told {
-    let range = source_range(literal, source);
-    agreed(
-        range_told(range),
-        same(source_text(literal, source), range_shown(source, range)),
-    )
+fn part_told(source: &[u8], range: Result<Part, Refusal>, part: &[u8]) -> Told {
+    agreed(range_told(range), same(part, range_shown(source, range)))
 }
 
 // 11: a name, likewise.
@@ -103,8 +89,8 @@ fn ask_charset(literal: Literal, source: &[u8]) -> Told {
 }
 
 // 12 and 14: a value. What `is_null` says must agree.
-fn ask_i64(row: &[u8], literal: Literal, source: &[u8]) -> Told {
-    let due = due_in(row);
+fn ask_i64(row: Row, literal: Literal, source: &[u8]) -> Told {
+    let due = row.due();
     integer_told(as_i64(literal, source), due.first, due.second)
 }
 
@@ -114,10 +100,19 @@ fn ask_null(literal: Literal) -> Told {
 }
 
 // 9 to 14: the questions on a literal without a buffer.
-fn ask_literal(row: &[u8], literal: Literal, source: &[u8]) -> Told {
-    match byte_at(row, QUESTION) {
-        9 => ask_money(literal, source),
-        10 => ask_source(literal, source),
+fn ask_literal(row: Row, literal: Literal, source: &[u8]) -> Told {
+    // Stays: each number is met once; an enum of the questions would be made of it by one more such match.
+    match row.question() {
+        9 => part_told(
+            source,
+            money_range(literal, source),
+            as_money_text(literal, source),
+        ),
+        10 => part_told(
+            source,
+            source_range(literal, source),
+            source_text(literal, source),
+        ),
         11 => ask_charset(literal, source),
         12 => ask_i64(row, literal, source),
         13 => bool_told(as_bool(literal)),
@@ -127,6 +122,7 @@ fn ask_literal(row: &[u8], literal: Literal, source: &[u8]) -> Told {
 
 // 15 to 19: yes or no of a bare text.
 fn is_so(question: u8, text: &[u8]) -> bool {
+    // Stays: each number is met once; an enum of the questions would be made of it by one more such match.
     match question {
         15 => postgres_escape_string_is_valid(text),
         16 => unicode_escape_string_is_valid(text),
@@ -137,6 +133,7 @@ fn is_so(question: u8, text: &[u8]) -> bool {
 }
 
 // 15 to 20: what is asked of a bare text without a buffer.
+// Stays: the question is the row's byte, and any byte is answered; an enum would be a second list of the numbers.
 fn ask_bare(question: u8, text: &[u8]) -> Told {
     if question == 20 {
         let prefix = split_radix_prefix(text);
@@ -146,29 +143,26 @@ fn ask_bare(question: u8, text: &[u8]) -> Told {
 }
 
 // 22 and 23: the day of a date literal, and of a number.
-fn ask_day(row: &[u8], by: u8, source: &[u8]) -> Told {
-    if byte_at(row, QUESTION) == 23 {
-        return found_told(date_of_day(day_number_of(row)));
+fn ask_day(row: Row, source: &[u8]) -> Told {
+    if row.question() == 23 {
+        return found_told(date_of_day(row.day_number()));
     }
-    dated_told(as_date(literal_of(row, by), source))
+    dated_told(as_date(row.literal(), source))
 }
 
 // The questions from 9 to 23 are lent no buffer.
-pub(crate) fn lends(row: &[u8]) -> bool {
-    let question = byte_at(row, QUESTION);
+// Stays: the question is the row's byte, and any byte is answered; an enum would be a second list of the numbers.
+pub(crate) fn lends(row: Row) -> bool {
+    let question = row.question();
     (question <= 8) | (24 <= question)
 }
 
-pub(crate) fn ask(row: &[u8], by: u8, source: &[u8], out: &mut [u8]) -> Told {
-    if lends(row) {
-        return ask_lent(row, by, source, out);
+pub(crate) fn ask(row: Row, source: &[u8], out: &mut [u8]) -> Told {
+    // Stays: ranges of numbers, and any byte is asked; of an enum each variant would have to be named.
+    match row.question() {
+        _ if lends(row) => ask_lent(row, source, out),
+        22.. => ask_day(row, source),
+        question @ 15.. => ask_bare(question, source),
+        _ => ask_literal(row, row.literal(), source),
     }
-    let question = byte_at(row, QUESTION);
-    if 22 <= question {
-        return ask_day(row, by, source);
-    }
-    if 15 <= question {
-        return ask_bare(question, source);
-    }
-    ask_literal(row, literal_of(row, by), source)
 }

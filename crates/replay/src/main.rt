@@ -11,57 +11,43 @@ mod said;
 mod seen;
 mod told;
 
-ghost use Rattle.std.specs.Prelude.{◌<◌, ◌≤◌, length};
+ghost use Rattle.std.specs.Prelude.{◌<◌, length, IfSome};
 
-use askings::{Tally, after_row, none};
-use rows::row_len;
+use askings::Tally;
+use rows::{Row, row_len};
 
 const STDIN_FILENO: i32 = 0;
 
-// Where the row at a place ends: by its head, or where the block does.
-fn row_end(block: &[u8], at: usize) -> usize
-    requires { at < length block.now }
-    ensures { (at < result) × (result ≤ length block.now) }
+// The first row of a block, by its head, and what stands behind it; a row that is cut short, or has no length, is the last.
+fn split_row(block: &[u8]) -> Option<(&[u8], &[u8])>
+    ensures { IfSome result (λ parts. length parts.1.now < length block.now) }
 {
-    let len = row_len(&block[at..]);
-    if len == 0 {
-        return block.len();
+    if block.is_empty() {
+        return None;
     }
-    if block.len() - at < len {
-        return block.len();
+    match row_len(block) {
+        len if 0 < len && len < block.len() => Some(block.split_at(len)),
+        _ => Some((block, &[])),
     }
-    at + len
 }
 
 // A block holds whole rows.
-fn after_block(block: &[u8], tally: Tally) -> Tally {
-    let mut at: usize = 0;
-    let mut now = tally;
-    while at < block.len() {
-        let end = row_end(block, at);
-        now = after_row(&block[at..end], now);
-        at = end;
+fn after_block(block: &[u8], tally: &mut Tally) {
+    let mut rest = block;
+    while let Some((row, behind)) = split_row(rest) {
+        tally.take(Row::new(row));
+        rest = behind;
     }
-    now
-}
-
-// Replays the next block of the input.
-fn next_block(tally: Tally) -> Tally {
-    let mut block = io::large_buffer();
-    let n = io::read_full(STDIN_FILENO, &mut block);
-    let mut after = after_block(&block[..n], tally);
-    after.last = n < 65536;
-    after
 }
 
 fn main() {
-    let mut tally = none();
-    let mut blocks: u64 = 0xFFFF_FFFF_FFFF_FFFF;
-    while 0 < blocks {
-        tally = next_block(tally);
-        if tally.last {
+    let mut tally = Tally::default();
+    for _ in 0..u64::MAX {
+        let mut block = io::large_buffer();
+        let n = io::read_full(STDIN_FILENO, &mut block);
+        after_block(&block[..n], &mut tally);
+        if n < block.len() {
             return;
         }
-        blocks -= 1;
     }
 }

@@ -2,14 +2,15 @@
 // the year, the month, the day and the number; of packed bits the second is the bit count.
 use admitting::kinds::kind_code;
 use meaning::{
-    BitWriting, CalendarDay, Charset, Dated, Day, Identifier, Integer, LiteralExpected, Nullness,
-    PackedBits, Range, Refusal, Span, Text, Truth, Writing,
+    BitWritingError, CalendarDay, IdentifierError, LiteralExpected, PackedBits, Part, Refusal,
+    Span, Text, WritingError,
 };
 use questions::refusals::refusal_number;
 
-#[derive(Clone, Copy)]
+#[derive(Clone, Copy, PartialEq)]
 pub(crate) struct Told {
     pub number: u32,
+    // Stays: letters and no enum, since what a row says is due is printed as it stands, whatever it is.
     pub letter: u8,
     pub first: usize,
     pub second: usize,
@@ -36,6 +37,7 @@ const REFUSED: u8 = 114;
 
 const CALLED: u8 = 99;
 
+// Stays: the two numbers are fields of `Told`, which this makes; what they are differs by the letter.
 pub(crate) fn answered(letter: u8, first: usize, second: usize) -> Told {
     Told {
         number: 0,
@@ -129,39 +131,39 @@ fn refusal_told(refusal: Refusal) -> Told {
     }
 }
 
-pub(crate) fn text_told(answer: Text) -> Told {
+pub(crate) fn text_told(answer: Result<Text, Refusal>) -> Told {
     match answer {
-        Text::Borrowed { start, end } => answered(BORROWED, start, end),
-        Text::Written { len } => answered(WRITTEN, len, 0),
-        Text::Refused(refusal) => refusal_told(refusal),
+        Ok(Text::Borrowed { start, end }) => answered(BORROWED, start, end),
+        Ok(Text::Written { len }) => answered(WRITTEN, len, 0),
+        Err(refusal) => refusal_told(refusal),
     }
 }
 
 // The text that an answer tells, for the view; anything else shows nothing.
-pub(crate) fn text_of(told: Told) -> Text {
+pub(crate) fn text_of(told: Told) -> Result<Text, Refusal> {
     if told.letter == BORROWED {
-        return Text::Borrowed {
+        return Ok(Text::Borrowed {
             start: told.first,
             end: told.second,
-        };
+        });
     }
-    Text::Written {
+    Ok(Text::Written {
         len: filled_by(told),
+    })
+}
+
+pub(crate) fn range_told(answer: Result<Part, Refusal>) -> Told {
+    match answer {
+        Ok(part) => answered(BORROWED, part.start, part.end),
+        Err(refusal) => refusal_told(refusal),
     }
 }
 
-pub(crate) fn range_told(answer: Range) -> Told {
+pub(crate) fn charset_told(answer: Result<Option<Part>, Refusal>) -> Told {
     match answer {
-        Range::Found { start, end } => answered(BORROWED, start, end),
-        Range::Refused(refusal) => refusal_told(refusal),
-    }
-}
-
-pub(crate) fn charset_told(answer: Charset) -> Told {
-    match answer {
-        Charset::Named { start, end } => answered(BORROWED, start, end),
-        Charset::Unnamed => answered(UNNAMED, 0, 0),
-        Charset::Refused(refusal) => refusal_told(refusal),
+        Ok(Some(part)) => answered(BORROWED, part.start, part.end),
+        Ok(None) => answered(UNNAMED, 0, 0),
+        Err(refusal) => refusal_told(refusal),
     }
 }
 
@@ -177,63 +179,63 @@ fn integer_of(size: usize, below: usize) -> i64 {
 }
 
 // The value is told as the one that is due, if it is that.
-pub(crate) fn integer_told(answer: Integer, size: usize, below: usize) -> Told {
+pub(crate) fn integer_told(answer: Result<i64, Refusal>, size: usize, below: usize) -> Told {
     match answer {
-        Integer::Value(value) => agreed(
+        Ok(value) => agreed(
             answered(INTEGER, size, below),
             value == integer_of(size, below),
         ),
-        Integer::Refused(refusal) => refusal_told(refusal),
+        Err(refusal) => refusal_told(refusal),
     }
 }
 
-pub(crate) fn bool_told(answer: Truth) -> Told {
+pub(crate) fn bool_told(answer: Result<bool, Refusal>) -> Told {
     match answer {
-        Truth::Value(value) => answered(TRUTH, value as usize, 0),
-        Truth::Refused(refusal) => refusal_told(refusal),
+        Ok(value) => answered(TRUTH, value as usize, 0),
+        Err(refusal) => refusal_told(refusal),
     }
 }
 
-pub(crate) fn null_told(answer: Nullness) -> Told {
+pub(crate) fn null_told(answer: Result<(), Refusal>) -> Told {
     match answer {
-        Nullness::IsNull => answered(TRUTH, 1, 0),
-        Nullness::Refused(refusal) => refusal_told(refusal),
+        Ok(()) => answered(TRUTH, 1, 0),
+        Err(refusal) => refusal_told(refusal),
     }
 }
 
-pub(crate) fn identifier_told(answer: Identifier) -> Told {
+pub(crate) fn identifier_told(answer: Result<Text, IdentifierError>) -> Told {
     match answer {
-        Identifier::Borrowed { start, end } => answered(BORROWED, start, end),
-        Identifier::Written { len } => answered(WRITTEN, len, 0),
-        Identifier::NotUtf8 => refused(4, 0, 0),
-        Identifier::InvalidString => refused(6, 0, 0),
-        Identifier::NoRoom { needed } => refused(9, needed, 0),
+        Ok(Text::Borrowed { start, end }) => answered(BORROWED, start, end),
+        Ok(Text::Written { len }) => answered(WRITTEN, len, 0),
+        Err(IdentifierError::NotUtf8) => refused(4, 0, 0),
+        Err(IdentifierError::InvalidString) => refused(6, 0, 0),
+        Err(IdentifierError::NoRoom { needed }) => refused(9, needed, 0),
     }
 }
 
-pub(crate) fn writing_told(answer: Writing) -> Told {
+pub(crate) fn writing_told(answer: Result<usize, WritingError>) -> Told {
     match answer {
-        Writing::Written { len } => answered(WRITTEN, len, 0),
-        Writing::OverLimit => refused(12, 0, 0),
-        Writing::NotUtf8 => refused(4, 0, 0),
-        Writing::HoldsNul => refused(11, 0, 0),
-        Writing::NoRoom { needed } => refused(9, needed, 0),
+        Ok(len) => answered(WRITTEN, len, 0),
+        Err(WritingError::OverLimit) => refused(12, 0, 0),
+        Err(WritingError::NotUtf8) => refused(4, 0, 0),
+        Err(WritingError::HoldsNul) => refused(11, 0, 0),
+        Err(WritingError::NoRoom { needed }) => refused(9, needed, 0),
     }
 }
 
-pub(crate) fn packed_told(answer: PackedBits) -> Told {
+pub(crate) fn packed_told(answer: Result<PackedBits, Refusal>) -> Told {
     match answer {
-        PackedBits::Written { len, bits } => answered(WRITTEN, len, bits as usize),
-        PackedBits::Refused(refusal) => refusal_told(refusal),
+        Ok(PackedBits { len, bits }) => answered(WRITTEN, len, bits as usize),
+        Err(refusal) => refusal_told(refusal),
     }
 }
 
-pub(crate) fn bit_writing_told(answer: BitWriting) -> Told {
+pub(crate) fn bit_writing_told(answer: Result<usize, BitWritingError>) -> Told {
     match answer {
-        BitWriting::Written { len } => answered(WRITTEN, len, 0),
-        BitWriting::OverLimit => refused(12, 0, 0),
-        BitWriting::BadBits => refused(16, 0, 0),
-        BitWriting::NoRoom { needed } => refused(9, needed, 0),
+        Ok(len) => answered(WRITTEN, len, 0),
+        Err(BitWritingError::OverLimit) => refused(12, 0, 0),
+        Err(BitWritingError::BadBits) => refused(16, 0, 0),
+        Err(BitWritingError::NoRoom { needed }) => refused(9, needed, 0),
     }
 }
 
@@ -249,21 +251,22 @@ fn day_told(day: CalendarDay) -> Told {
     }
 }
 
-pub(crate) fn dated_told(answer: Dated) -> Told {
+pub(crate) fn dated_told(answer: Result<CalendarDay, Refusal>) -> Told {
     match answer {
-        Dated::On(day) => day_told(day),
-        Dated::Refused(refusal) => refusal_told(refusal),
+        Ok(day) => day_told(day),
+        Err(refusal) => refusal_told(refusal),
     }
 }
 
-pub(crate) fn found_told(answer: Day) -> Told {
+pub(crate) fn found_told(answer: Option<CalendarDay>) -> Told {
     match answer {
-        Day::On(day) => day_told(day),
-        Day::InvalidDate => refused(14, 0, 0),
+        Some(day) => day_told(day),
+        None => refused(14, 0, 0),
     }
 }
 
 // How many bytes of the buffer an answer fills.
+// Stays: 0 is how many bytes any other answer fills: no value is missing.
 pub(crate) fn filled_by(told: Told) -> usize {
     if told.letter == WRITTEN {
         return told.first;
@@ -271,26 +274,14 @@ pub(crate) fn filled_by(told: Told) -> usize {
     0
 }
 
-pub(crate) fn is_same(told: Told, due: Told) -> bool {
-    (told.number == due.number)
-        & (told.letter == due.letter)
-        & (told.first == due.first)
-        & (told.second == due.second)
-        & (told.third == due.third)
-        & (told.fourth == due.fourth)
-}
-
 // An answer's places in the source moved: a borrowed range, or the span of a refusal. Lengths and kinds stay, and so does the place of a 6, which counts from
 // the text's start.
 pub(crate) fn moved(told: Told, by: u8) -> Told {
     if (told.letter == BORROWED) | ((2 <= told.number) & (told.number <= 8)) | (told.number == 14) {
         return Told {
-            number: told.number,
-            letter: told.letter,
-            first: std::num::wrapping_add_usize(told.first, by as usize),
-            second: std::num::wrapping_add_usize(told.second, by as usize),
-            third: told.third,
-            fourth: told.fourth,
+            first: told.first.wrapping_add(by as usize),
+            second: told.second.wrapping_add(by as usize),
+            ..told
         };
     }
     told

@@ -104,16 +104,9 @@ module _ {text : List ℕ} {at : ℕ} {d : Due} {number i : ℕ} (v : Gathering 
     pub gathering_low : number < 0x8000
     gathering_low = small_low d (sym m ∙ y) number v.small
 
-    pub gathering_short : length text ≤ i → 0 ≡ scalar_of (drop at text)
-    gathering_short h = go d (sym m ∙ y) (rw (drop_of_length-le text h) at v.same)
-      where
-        go : (d : Due) → pending d ≡ true → gather_by d number [] ≡ scalar_of (drop at text) → 0 ≡ scalar_of (drop at text)
-        go broken p e = e
-        go (due zero lo hi) p e = absurd (false≢true p)
-        go (due (suc n) lo hi) p e = e
-
-    pub gathering_on : i < length text → (next : Due) → next ≡ push d (get_or text i 0) → Gathering text at next (number * 64 + get_or text i 0 % 64) (i + 1)
-    gathering_on h next e = record {
+    pub gathering_on : i < length text → (next : Due) → next ≡ push d (get_or text i 0) → (low : ℕ) → low ≡ get_or text i 0 % 64
+        → Gathering text at next (number * 64 + low) (i + 1)
+    gathering_on h next e low el = rw el record {
       inside = omega arith;
       same =
           rw (e, add-one i) (gather_push d (sym m ∙ y) v.good number (get_or text i 0) (drop (suc i) text))
@@ -122,19 +115,29 @@ module _ {text : List ℕ} {at : ℕ} {d : Due} {number i : ℕ} (v : Gathering 
       good = rw e (push_good d (get_or text i 0) v.good);
     }
 
-  module _ (n : more ≡ false) {all : Bool} (w : all ≡ whole d) where
-    pub gathering_whole : all ≡ true → number ≡ scalar_of (drop at text)
-    gathering_whole y = go d (sym w ∙ y) v.same
-      where
-        go : (d : Due) → whole d ≡ true → gather_by d number (drop i text) ≡ scalar_of (drop at text) → number ≡ scalar_of (drop at text)
-        go broken p e = absurd (false≢true p)
-        go (due zero lo hi) p e = e
-        go (due (suc k) lo hi) p e = absurd (false≢true p)
+-- THE END of the loop, told by whether the character is whole
+module _ {text : List ℕ} {at : ℕ} {d : Due} {number i : ℕ} (v : Gathering text at d number i) {all : Bool} (w : all ≡ whole d) where
+  pub gathering_whole : all ≡ true → number ≡ scalar_of (drop at text)
+  gathering_whole y = go d (sym w ∙ y) v.same
+    where
+      go : (d : Due) → whole d ≡ true → gather_by d number (drop i text) ≡ scalar_of (drop at text) → number ≡ scalar_of (drop at text)
+      go broken p e = absurd (false≢true p)
+      go (due zero lo hi) p e = e
+      go (due (suc k) lo hi) p e = absurd (false≢true p)
 
-    pub gathering_broken : all ≡ false → 0 ≡ scalar_of (drop at text)
-    gathering_broken y = go d (sym m ∙ n) (sym w ∙ y) v.same
-      where
-        go : (d : Due) → pending d ≡ false → whole d ≡ false → gather_by d number (drop i text) ≡ scalar_of (drop at text) → 0 ≡ scalar_of (drop at text)
-        go broken p q e = e
-        go (due zero lo hi) p q e = absurd (false≢true (sym q))
-        go (due (suc k) lo hi) p q e = absurd (false≢true (sym p))
+  -- the text is at its end, with a byte due or not
+  pub gathering_short : all ≡ false → length text ≤ i → 0 ≡ scalar_of (drop at text)
+  gathering_short y h = go d (sym w ∙ y) (rw (drop_of_length-le text h) at v.same)
+    where
+      go : (d : Due) → whole d ≡ false → gather_by d number [] ≡ scalar_of (drop at text) → 0 ≡ scalar_of (drop at text)
+      go broken p e = e
+      go (due zero lo hi) p e = absurd (false≢true (sym p))
+      go (due (suc n) lo hi) p e = e
+
+  pub gathering_broken : all ≡ false → {more : Bool} → more ≡ pending d → more ≡ false → 0 ≡ scalar_of (drop at text)
+  gathering_broken y m n = go d (sym m ∙ n) (sym w ∙ y) v.same
+    where
+      go : (d : Due) → pending d ≡ false → whole d ≡ false → gather_by d number (drop i text) ≡ scalar_of (drop at text) → 0 ≡ scalar_of (drop at text)
+      go broken p q e = e
+      go (due zero lo hi) p q e = absurd (false≢true (sym q))
+      go (due (suc k) lo hi) p q e = absurd (false≢true (sym p))

@@ -21,6 +21,7 @@ pub fn utf8_len(scalar: u32) -> usize
 }
 
 // Whether a number is a Unicode scalar value.
+// Stays: a public function, and the two tests of its definition `is_scalar`; `char::from_u32` would make a char that no one takes.
 // Rules out: low surrogates taken for scalars; numbers above 10FFFF taken for scalars (must-fail: range_too_wide, last_mistaken).
 pub fn is_scalar(number: u32) -> bool
     ensures { result ≡ is_scalar number }
@@ -30,6 +31,7 @@ pub fn is_scalar(number: u32) -> bool
 
 // Writes a scalar's encoding at the buffer's start and says how long it is. A number that is no scalar, or a shorter buffer, leaves the
 // buffer as it is, and the answer is 0.
+// Stays: no Option: `Encodes`, the clause of this public function, which could not fail and still can't, says 0 for none.
 // Rules out: room asked for one byte alone; the first byte of another width (must-fail: character_cut_off, another_width).
 pub fn encode_utf8(scalar: u32, out: &mut [u8]) -> usize
     ensures { Encodes scalar out.old result out.new }

@@ -5,6 +5,7 @@ use mathlib.Core.List.{List, [], ◌∷◌}
 use Prim.Native.Nat.{ℕ, zero, suc, ◌+◌, ◌-◌, ◌≤◌, ◌<◌}
 use native.Mathlib.Omega.{arith}
 use native.Mathlib.Decide.{dec_lt}
+use mir.Val.{bool_byte}
 use lib.Dec.{eqb, leb}
 use lib.ListN.{length, drop, get_or, length-drop, drop_of_length-le}
 use lib.Seq.{drop-cons, drop-drop}
@@ -145,6 +146,11 @@ module _ (b : ℕ) where
     solid_none l y =
         let f = sym e ∙ y in
         rw (not_space l (or_left (leb 9 b && leb b 13) (eqb b 32) f) (eqb-false b 32 (or_right (leb 9 b && leb b 13) (eqb b 32) f)))
+
+-- the same as a number
+pub blank_told : (b : ℕ) (x : Bool) → x ≡ is_blank b → b < 0x80 → bool_byte x ≡ (if is_space b then 1 else 0)
+blank_told b true e l = blank_one b true e refl
+blank_told b false e l = solid_none b false e l refl
 
 pub space_ascii : (text : List ℕ) (at : ℕ) → at < length text → get_or text at 0 < 0x80 → (r : ℕ) → r ≡ (if is_space (get_or text at 0) then 1 else 0)
     → r ≡ space (drop at text)

@@ -9,13 +9,18 @@ ghost use Rattle.spaces.specs.Blanks.{is_blank};
 
 use scalars::reading::{scalar_at, utf8_width};
 
-// The low and the high ends of the ranges.
-const LOWS: [u32; 10] = [
-    0x9, 0x20, 0x85, 0xA0, 0x1680, 0x2000, 0x2028, 0x202F, 0x205F, 0x3000,
-];
-
-const HIGHS: [u32; 10] = [
-    0xD, 0x20, 0x85, 0xA0, 0x1680, 0x200A, 0x2029, 0x202F, 0x205F, 0x3000,
+// The low and the high end of each range.
+const SPACES: [(u32, u32); 10] = [
+    (0x9, 0xD),
+    (0x20, 0x20),
+    (0x85, 0x85),
+    (0xA0, 0xA0),
+    (0x1680, 0x1680),
+    (0x2000, 0x200A),
+    (0x2028, 0x2029),
+    (0x202F, 0x202F),
+    (0x205F, 0x205F),
+    (0x3000, 0x3000),
 ];
 
 // Whether a scalar is white space: it lies in one of the ranges.
@@ -23,21 +28,13 @@ const HIGHS: [u32; 10] = [
 fn is_white_space(scalar: u32) -> bool
     ensures { result ≡ is_space scalar }
 {
-    let lows = LOWS;
-    let highs = HIGHS;
-    let mut i: usize = 0;
-    while i < 10 {
-        if lows[i] <= scalar {
-            if scalar <= highs[i] {
-                return true;
-            }
-        }
-        i += 1;
-    }
-    false
+    SPACES
+        .iter()
+        .any(|(low, high)| (*low <= scalar) & (scalar <= *high))
 }
 
 // Whether a byte is one of the blanks of ASCII.
+// Stays: `is_ascii_whitespace` leaves 11 out, the vertical tab, which is white space in document 01.
 fn is_blank(byte: u8) -> bool
     ensures { result ≡ is_blank byte }
 {
@@ -49,13 +46,11 @@ fn ascii_space(byte: u8) -> usize
     requires { byte < 0x80 }
     ensures { result ≡ (if is_space byte then 1 else 0) }
 {
-    if is_blank(byte) {
-        return 1;
-    }
-    0
+    usize::from(is_blank(byte))
 }
 
 // How many bytes the white-space character at a place has; 0 if none stands there. Most gaps are ASCII, and no number is made of that.
+// Stays: no Option: a public function that could not fail still can't, and its definition `space` says 0 for none.
 // Rules out: the character at the start asked, or its width told (must-fail: start_asked, width_of_the_start).
 pub fn space_at(text: &[u8], at: usize) -> usize
     ensures { result ≡ space (drop at text.now) }
@@ -79,6 +74,7 @@ pub fn gap_at(text: &[u8], at: usize) -> usize
     ensures { result ≡ gap (drop at text.now) }
 {
     let mut i = at;
+    // Stays: no `for`: a turn passes one to three bytes.
     while i < text.len() {
         if is_blank(text[i]) {
             i += 1;

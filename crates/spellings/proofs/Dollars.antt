@@ -28,12 +28,6 @@ module _ (l : List ℕ) (at b : ℕ) (eb : b ≡ l ! at) (x : Bool) (ex : x ≡ 
   tag_by : tag_length (drop at l) ≡ (if x then span in_tag (drop at l) else 0)
   tag_by = rw (byte_here l at, ← eb, ← ex)
 
-  pub tag_run : x ≡ true → (n : ℕ) → n ≡ span in_tag (drop at l) → n ≡ tag_length (drop at l)
-  tag_run t n e = e ∙ sym (tag_by ∙ rw t)
-
-  pub tag_none : x ≡ false → 0 ≡ tag_length (drop at l)
-  tag_none t = sym (tag_by ∙ rw t)
-
 tag_length_lem : (u : List ℕ) → tag_length u ≤ length u
 tag_length_lem u = go (starts_tag (u ! 0))
   where
@@ -98,9 +92,6 @@ module _ (t : List ℕ) (n : ℕ) (en : n ≡ delimiter (drop 0 t)) where
   dollar_none z = record { means = rw (← en, z); family = tt }
 
   module _ (z : n ≡ 0 → ⊥) where
-    pub dollar_overlap : length t - n < n → Dollars t Unspelt
-    dollar_overlap h = record { means = rw (← en, dollar_some t n z, lt-leb (n + n) (length t) (omega arith)); family = tt }
-
     module _ (h : n ≤ length t - n) (x : Bool) (ex : x ≡ starts (take n t) (drop (length t - n) t)) where
       dollar_by_lem : dollar_by t (delimiter t) ≡ (if x then dollar n (length t - n) else unspelt)
       dollar_by_lem =

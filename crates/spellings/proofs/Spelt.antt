@@ -31,9 +31,6 @@ module _ (x : Bool) (t : List ℕ) (o : ℕ) (eo : o ≡ opening t) where
     introduced_open n = record { means = rw (← eo, lt-ltb 0 o (omega arith), ← ey, not-true y n); inside = tt; family = tt }
 
     module _ (n : not y ≡ false) where
-      pub introduced_room : 1 ≤ length t
-      introduced_room = let r = enclosed_room t (o - 1) (t ! (o - 1)) y ey n in omega arith
-
       pub introduced_quote : t ! (o - 1) ≡ 39 → (r : Spelled) → r ≡ enclosed_of (Standard Quote x) o (length t - 1) → Spells x t r (introduced_of t)
       unfolding introduced_of
       introduced_quote q r e = rw e (record { means = rw (← eo, lt-ltb 0 o (omega arith), ← ey, not-false y n, q); inside = omega arith; family = refl })

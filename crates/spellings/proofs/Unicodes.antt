@@ -20,24 +20,23 @@ use Rattle.laws.proofs.cutting.Openings.{inside}
 use Rattle.laws.proofs.cutting.Arguments.{argument_inner}
 use Rattle.cutting.specs.declared.marks.Mark.{Mark}
 use Rattle.cutting.specs.declared.marks.Mark.TheVariants.{Quote, DoubleQuote}
-use Rattle.cutting.specs.declared.marks.Closing.{Closing}
-use Rattle.cutting.specs.declared.marks.Closing.TheVariants.{At, Unclosed}
 use Rattle.cutting.specs.Marks.{mark_of, closed_of}
 use Rattle.laws.proofs.basics.Lists.{part_tail}
 use Rattle.cutting.proofs.Cuts.{course_at, course_unclosed}
-use Rattle.uescape.specs.declared.Clause.{Clause}
-use Rattle.uescape.specs.declared.Clause.TheVariants.{Default, Chosen, Bad}
+use Rattle.uescape.specs.declared.EscapeCharacter.{EscapeCharacter}
+use Rattle.uescape.specs.declared.BadClause.{BadClause}
 use Rattle.spellings.specs.declared.spelling.Spelled.{Spelled}
 use Rattle.spellings.specs.declared.spelling.Spelled.TheVariants.{Body, Unspelt}
-use Rattle.uescape.specs.Clauses.{is_keyword, legal_by, argument_of, chosen_at, clause_at, clause_of}
+use Rattle.uescape.specs.Clauses.{bad, is_keyword, legal_by, argument_of, chosen_at, clause_at, clause_of}
 use Rattle.spellings.specs.Spelled.{spelled_of, enclosed_of, EscapeInside, LexemeSpelled, Lexes}
 use Rattle.escapes.specs.declared.units.Family.TheVariants.{Unicode}
+use Rattle.std.specs.Prelude.{Option, Some, None, Result, Ok, Err}
 
 -- THE ESCAPE CHARACTER. What a clause makes of a body from 3 up to u
-abbrev spelled_by : Mark → ℕ → Clause → Spelled
-spelled_by m u Default = enclosed_of (Unicode m) 3 u
-spelled_by m u (Chosen s e) = Body (record { family = Unicode m; from = 3; until = u; escape_from = s; escape_until = e })
-spelled_by m u Bad = Unspelt
+abbrev spelled_by : Mark → ℕ → Result (Option EscapeCharacter) BadClause → Spelled
+spelled_by m u (Ok None) = enclosed_of (Unicode m) 3 u
+spelled_by m u (Ok (Some π)) = Body (record { family = Unicode m; from = 3; until = u; escape_from = π.start; escape_until = π.end })
+spelled_by m u (Err w) = Unspelt
 
 -- which spells U& as it is chosen
 record Chooses (m : Mark) (t : List ℕ) (r : Spelled) (s : Spelling) : Type 0 where
@@ -95,7 +94,7 @@ module _ (m : Mark) (t : List ℕ) (u : ℕ) where
               let k : j + (7 + g) ≡ s = omega arith in
               drop-drop g 7 (b ∷ w) ∙ ap (drop (7 + g)) e ∙ drop-drop (7 + g) j t ∙ ap (λ (n : ℕ). drop n t) k
 
-          word : (x : Bool) → Chooses m t (spelled_by m u (if x then chosen_at t s (argument_of v) else Bad)) (unicode_by (if x then argument v else []) u)
+          word : (x : Bool) → Chooses m t (spelled_by m u (if x then chosen_at t s (argument_of v) else Err bad)) (unicode_by (if x then argument v else []) u)
           word true = argued s v behind
           word false = record { means = refl; inside = tt; family = tt }
 
@@ -123,7 +122,7 @@ module _ (t : List ℕ) (m : Mark) (x : Bool) (ex : x ≡ is_unicode (mark_of m)
         (and_right (has (t ! 0) (ascii "Uu") && eqb (t ! 1) (code "&")) (eqb (t ! 2) (mark_of m)) (sym ex ∙ not-false x n))
 
     -- the search for the closing mark
-    module _ (r : Closing) (er : r ≡ closed_of (walk (closing_step false (mark_of m)) 0 (take (length t - 3) (drop 3 t)))) where
+    module _ (r : Option ℕ) (er : r ≡ closed_of (walk (closing_step false (mark_of m)) 0 (take (length t - 3) (drop 3 t)))) where
       course : Trace
       course = walk (closing_step false (mark_of m)) 0 (drop 3 t)
 
@@ -131,11 +130,11 @@ module _ (t : List ℕ) (m : Mark) (x : Bool) (ex : x ≡ is_unicode (mark_of m)
       unfolding course
       searched = er ∙ ap (λ (l : List ℕ). closed_of (walk (closing_step false (mark_of m)) 0 l)) (part_tail t 3)
 
-      pub unicode_unclosed : r ≡ Unclosed → Lexes m t Unspelt
+      pub unicode_unclosed : r ≡ None → Lexes m t Unspelt
       unfolding unicode_spelling course
       unicode_unclosed e = record { means = rw (← ex, not-false x n, course_unclosed course (sym searched ∙ e)); inside = tt; family = tt }
 
-      module _ (p : ℕ) (ep : r ≡ At p) where
+      module _ (p : ℕ) (ep : r ≡ Some p) where
         pub unicode_inside : 3 + p < length t
         unfolding course
         unicode_inside =
@@ -144,7 +143,7 @@ module _ (t : List ℕ) (m : Mark) (x : Bool) (ex : x ≡ is_unicode (mark_of m)
             omega (arith, length-drop 3 t, c.1)
 
         -- what follows the mark
-        module _ (c : Clause) (ec : c ≡ clause_of t (3 + p + 1)) where
+        module _ (c : Result (Option EscapeCharacter) BadClause) (ec : c ≡ clause_of t (3 + p + 1)) where
           unicode_spells : Chooses m t (spelled_by m (3 + p) c) (unicode_spelling (mark_of m) t)
           unfolding unicode_spelling course
           unicode_spells =
@@ -152,15 +151,15 @@ module _ (t : List ℕ) (m : Mark) (x : Bool) (ex : x ≡ is_unicode (mark_of m)
               let z : 4 + p ≡ 3 + p + 1 = omega arith in
               rw (← ex, not-false x n, k.0, k.1, z, ec) (clause_spells m t (3 + p) (3 + p + 1))
 
-          lexes : (r : Spelled) (k : Clause) → c ≡ k → r ≡ spelled_by m (3 + p) k → Lexes m t r
+          lexes : (r : Spelled) (k : Result (Option EscapeCharacter) BadClause) → c ≡ k → r ≡ spelled_by m (3 + p) k → Lexes m t r
           lexes r k ek er = let s = rw ek at unicode_spells in rw er (record { means = s.means; inside = s.inside; family = s.family })
 
-          pub unicode_default : c ≡ Default → (r : Spelled) → r ≡ enclosed_of (Unicode m) 3 (3 + p) → Lexes m t r
-          unicode_default e r er = lexes r Default e er
+          pub unicode_default : c ≡ Ok None → (r : Spelled) → r ≡ enclosed_of (Unicode m) 3 (3 + p) → Lexes m t r
+          unicode_default e r er = lexes r (Ok None) e er
 
-          pub unicode_chosen : (s e : ℕ) → c ≡ Chosen s e
-              → Lexes m t (Body (record { family = Unicode m; from = 3; until = 3 + p; escape_from = s; escape_until = e }))
-          unicode_chosen s e f = lexes (spelled_by m (3 + p) (Chosen s e)) (Chosen s e) f refl
+          pub unicode_chosen : (π : EscapeCharacter) → c ≡ Ok (Some π)
+              → Lexes m t (Body (record { family = Unicode m; from = 3; until = 3 + p; escape_from = π.start; escape_until = π.end }))
+          unicode_chosen π f = lexes (spelled_by m (3 + p) (Ok (Some π))) (Ok (Some π)) f refl
 
-          pub unicode_bad : c ≡ Bad → Lexes m t Unspelt
-          unicode_bad e = lexes Unspelt Bad e refl
+          pub unicode_bad : (w : BadClause) → c ≡ Err w → Lexes m t Unspelt
+          unicode_bad w e = lexes Unspelt (Err w) e refl

@@ -4,7 +4,7 @@ ghost use Rattle.meaning.specs.Spelling.{is_unicode, tag_length, delimiter, spel
 ghost use Rattle.cutting.specs.Marks.{mark_of};
 ghost use Rattle.spellings.specs.Spelled.{enclosed_of, introduced_of, other_of, Spells, Lexes, Dollars};
 
-use cutting::marks::{Closing, Mark, closing_mark, mark_byte};
+use cutting::marks::{Mark, closing_mark, mark_byte};
 use cutting::openings::opening_len;
 use escapes::units::Family;
 use leaves::bytes::byte_at;
@@ -12,7 +12,7 @@ use leaves::names::is_dollar_tag_start;
 use leaves::runs::{NameClass, run_len};
 use leaves::texts::{is_enclosed, starts_at};
 use meaning::Settings;
-use uescape::{Clause, uescape_clause};
+use uescape::uescape_clause;
 
 // A body in its text: by which family it is read, from where to where it goes, and the part of the text in which its escape character lies; an empty part
 // stands for the backslash.
@@ -67,22 +67,20 @@ pub fn unicode_lexeme(text: &[u8], mark: Mark) -> Spelled
         return Spelled::Unspelt;
     }
     let family = Family::Unicode { mark };
-    match closing_mark(&text[3..], mark, false) {
-        Closing::At(p) => {
-            let until = 3 + p;
-            match uescape_clause(text, until + 1) {
-                Clause::Default => enclosed(family, 3, until),
-                Clause::Chosen { start, end } => Spelled::Body(Body {
-                    family,
-                    from: 3,
-                    until,
-                    escape_from: start,
-                    escape_until: end,
-                }),
-                Clause::Bad => Spelled::Unspelt,
-            }
-        }
-        Closing::Unclosed => Spelled::Unspelt,
+    let Some(place) = closing_mark(&text[3..], mark, false) else {
+        return Spelled::Unspelt;
+    };
+    let until = 3 + place;
+    match uescape_clause(text, until + 1) {
+        Ok(None) => enclosed(family, 3, until),
+        Ok(Some(escape)) => Spelled::Body(Body {
+            family,
+            from: 3,
+            until,
+            escape_from: escape.start,
+            escape_until: escape.end,
+        }),
+        Err(_) => Spelled::Unspelt,
     }
 }
 
@@ -97,6 +95,7 @@ fn tag_len(text: &[u8], at: usize) -> usize
 }
 
 // The bytes of a dollar delimiter at a place; 0 if none stands there.
+// Stays: no Option: a public function that could not fail still can't, and `delimiter` in the rules is a number; no delimiter is empty.
 // Rules out: another byte than $ at its end; the last $ left out (must-fail: last_dollar_left_out, other_byte_ends_tag).
 pub fn dollar_open_delim_len(text: &[u8], at: usize) -> usize
     ensures { result ≡ delimiter (drop at text.now) }

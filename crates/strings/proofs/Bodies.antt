@@ -8,10 +8,12 @@ use lib.Dec.{eqb, leb}
 use lib.ListN.{length, take, drop, length-take}
 use borrow.Author.Tests.{eq-eqb, ne_eqb}
 use Rattle.meaning.specs.declared.Settings.{Settings}
-use Rattle.meaning.specs.declared.Read.{Read}
-use Rattle.meaning.specs.declared.Read.TheVariants as Read'
+use Rattle.meaning.specs.declared.ReadText.{ReadText}
+use Rattle.meaning.specs.declared.ReadRefusal.{ReadRefusal}
+use Rattle.meaning.specs.declared.ReadText.TheVariants as ReadText'
+use Rattle.meaning.specs.declared.ReadRefusal.TheVariants as ReadRefusal'
 use Rattle.meaning.specs.Bytes.{part, has, dquote}
-use Rattle.std.specs.Prelude.{if◌then◌else◌}
+use Rattle.std.specs.Prelude.{if◌then◌else◌, Result, Ok, Err}
 use Rattle.meaning.specs.Walk.{Trace, size, stops, plain, value, walk}
 use Rattle.meaning.specs.Steps.{unicode_step}
 use Rattle.meaning.specs.Spelling.{Spelling, spelling, unicode_spelling}
@@ -34,7 +36,7 @@ use Rattle.spellings.specs.Spelled.{escape_of, spelling_by, spelled_of, EscapeIn
 use Rattle.strings.specs.Answers.{BodyInside, body_of, SpelledInside, spelled_as, SpellsAlone, placed_of, place_of, lexeme_of}
 
 -- A PART's answer on the text that holds it from f to u
-module _ (f u n : ℕ) (c : Trace) (out after : List ℕ) (r : Read) (k : Reads (answer 0 n c) out r after) where
+module _ (f u n : ℕ) (c : Trace) (out after : List ℕ) (r : Result ReadText ReadRefusal) (k : Reads (answer 0 n c) out r after) where
   abbrev read_part : Bool → Bool → Answer
   read_part x y = if x then borrowed 0 n else if y then refused (0 + size c) else written (value c)
 
@@ -42,7 +44,7 @@ module _ (f u n : ℕ) (c : Trace) (out after : List ℕ) (r : Read) (k : Reads 
   unfolding answer
   part_place_lem h = go (plain c) (stops c) k.answer
     where
-      room : (z : Bool) → place_of (if z then Read'.Written (length (value c)) else Read'.NoRoom (length (value c))) ≤ 0
+      room : (z : Bool) → place_of (if z then Ok (ReadText'.Written (length (value c))) else Err (ReadRefusal'.NoRoom (length (value c)))) ≤ 0
       room true = omega arith
       room false = omega arith
 
@@ -55,7 +57,7 @@ module _ (f u n : ℕ) (c : Trace) (out after : List ℕ) (r : Read) (k : Reads 
   unfolding answer
   part_reads = go (plain c) (stops c) k.answer k.buffer
     where
-      room : (z : Bool) → let w = Read'.Written (length (value c)) in let s = Read'.NoRoom (length (value c)) in
+      room : (z : Bool) → let w = Ok (ReadText'.Written (length (value c))) in let s = Err (ReadRefusal'.NoRoom (length (value c))) in
           placed_of f u (if z then w else s) ≡ (if z then w else s)
       room true = refl
       room false = refl
@@ -63,7 +65,7 @@ module _ (f u n : ℕ) (c : Trace) (out after : List ℕ) (r : Read) (k : Reads 
       go : (x y : Bool) → r ≡ read_of (length out) (read_part x y) → after ≡ buffer_of out (read_part x y)
           → Reads (if x then borrowed f u else if y then refused (f + size c) else written (value c)) out (placed_of f u r) after
       go true y e b = record { answer = ap (placed_of f u) e; buffer = b }
-      go false true e b = record { answer = ap (placed_of f u) e ∙ ap Read'.Refused (omega arith); buffer = b }
+      go false true e b = record { answer = ap (placed_of f u) e ∙ ap (λ n. Err (ReadRefusal'.At n)) (omega arith); buffer = b }
       go false false e b = record { answer = ap (placed_of f u) e ∙ room (leb (length (value c)) (length out)); buffer = b }
 
 -- AN ESCAPE CHARACTER: the one that is lent, where its part of the text is empty
@@ -75,7 +77,7 @@ module _ (t own : List ℕ) (a z : ℕ) where
   escape_chosen h = rw (ne_eqb a z h)
 
 -- A BODY, by its escape character
-module _ (t : List ℕ) (b : Body) (i : BodyInside (length t) b) (out after : List ℕ) (r : Read) where
+module _ (t : List ℕ) (b : Body) (i : BodyInside (length t) b) (out after : List ℕ) (r : Result ReadText ReadRefusal) where
   abbrev body : List ℕ
   body = take (b.until - b.from) (drop b.from t)
 
@@ -88,7 +90,7 @@ module _ (t : List ℕ) (b : Body) (i : BodyInside (length t) b) (out after : Li
       let p = part_place_lem b.from b.until (length body) (course_of b.family e body) out after r k s in
       omega (arith, p, length-take (b.until - b.from) (drop b.from t), i.ordered)
 
-  pub body_reads : (e : List ℕ) → e ≡ escape_of t b.escape_from b.escape_until → ReadBy e → (s : Read) → s ≡ placed_of b.from b.until r
+  pub body_reads : (e : List ℕ) → e ≡ escape_of t b.escape_from b.escape_until → ReadBy e → (s : Result ReadText ReadRefusal) → s ≡ placed_of b.from b.until r
       → Reads (body_of t b) out s after
   body_reads e ee k s q =
       rw q (subst (λ (x : List ℕ). Reads (answer b.from b.until (course_of b.family x body)) out (placed_of b.from b.until r) after) ee
@@ -140,7 +142,7 @@ alone_spelled σ t x nul none s k =
       means = rw (sym nul ∙ none) (ap (read_as σ t) (sym k.means) ∙ alone_means σ t s k.family);
     }
 
-pub alone_reads : (σ : Settings) (t : List ℕ) (s : Spelled) → SpellsAlone σ t s → (out : List ℕ) (r : Read) (after : List ℕ)
+pub alone_reads : (σ : Settings) (t : List ℕ) (s : Spelled) → SpellsAlone σ t s → (out : List ℕ) (r : Result ReadText ReadRefusal) (after : List ℕ)
     → Reads (spelled_as t s) out r after → Reads (one σ t) out r after
 alone_reads σ t s k out r after g = rw k.means g
 
@@ -149,14 +151,14 @@ module _ (t : List ℕ) (s : Spelled) where
   pub spelled_inside : SpelledInside (length t) s → (b : Body) → s ≡ Spelled'.Body b → BodyInside (length t) b
   spelled_inside i b q = subst (SpelledInside (length t)) q i
 
-  pub spelled_body : (b : Body) → s ≡ Spelled'.Body b → (out : List ℕ) (r : Read) (after : List ℕ) → Reads (body_of t b) out r after
+  pub spelled_body : (b : Body) → s ≡ Spelled'.Body b → (out : List ℕ) (r : Result ReadText ReadRefusal) (after : List ℕ) → Reads (body_of t b) out r after
       → Reads (spelled_as t s) out r after
   spelled_body b q out r after g = rw q g
 
-  pub spelled_dollar : (f u : ℕ) → s ≡ Spelled'.Dollar f u → (out : List ℕ) → Reads (spelled_as t s) out (Read'.Borrowed f u) out
+  pub spelled_dollar : (f u : ℕ) → s ≡ Spelled'.Dollar f u → (out : List ℕ) → Reads (spelled_as t s) out (Ok (ReadText'.Borrowed f u)) out
   spelled_dollar f u q out = reads_borrowed (spelled_as t s) out f u (ap (spelled_as t) q)
 
-  pub spelled_not : s ≡ Spelled'.Unspelt → (out : List ℕ) → Reads (spelled_as t s) out (Read'.Refused 0) out
+  pub spelled_not : s ≡ Spelled'.Unspelt → (out : List ℕ) → Reads (spelled_as t s) out (Err (ReadRefusal'.At 0)) out
   spelled_not q out = reads_refused (spelled_as t s) out 0 (ap (spelled_as t) q)
 
 -- U& WITH A MARK
@@ -164,7 +166,7 @@ module _ (m : Mark) (t : List ℕ) (s : Spelled) (k : Lexes m t s) where
   pub lexeme_inside : (b : Body) → s ≡ Spelled'.Body b → BodyInside (length t) b
   lexeme_inside b q = let l = rw q at k in inside_by t b (unicode_spelling (mark_of m) t) l.means l.inside (unicode_body (mark_of m) t)
 
-  pub lexeme_body : (b : Body) → s ≡ Spelled'.Body b → (r : Read) (out after : List ℕ) → Reads (body_of t b) out r after
+  pub lexeme_body : (b : Body) → s ≡ Spelled'.Body b → (r : Result ReadText ReadRefusal) (out after : List ℕ) → Reads (body_of t b) out r after
       → Reads (lexeme_of (mark_of m) t) out r after
   unfolding lexeme_of
   lexeme_body b q r out after g =
@@ -181,16 +183,24 @@ module _ (m : Mark) (t : List ℕ) (s : Spelled) (k : Lexes m t s) where
           ≡ answer b.from b.until (course_of f e (part b.from b.until t))
       go f h = rw h
 
-  pub lexeme_dollar : (f u : ℕ) → s ≡ Spelled'.Dollar f u → (out : List ℕ) → Reads (lexeme_of (mark_of m) t) out (Read'.Refused 0) out
+  lexeme_dollar : (f u : ℕ) → s ≡ Spelled'.Dollar f u → (out : List ℕ) → Reads (lexeme_of (mark_of m) t) out (Err (ReadRefusal'.At 0)) out
   lexeme_dollar f u q out = let l = rw q at k in absurd l.family
 
-  pub lexeme_unspelt : s ≡ Spelled'.Unspelt → (out : List ℕ) → Reads (lexeme_of (mark_of m) t) out (Read'.Refused 0) out
+  lexeme_unspelt : s ≡ Spelled'.Unspelt → (out : List ℕ) → Reads (lexeme_of (mark_of m) t) out (Err (ReadRefusal'.At 0)) out
   unfolding lexeme_of
   lexeme_unspelt q out =
       let l = rw q at k in
       reads_refused (lexeme_of (mark_of m) t) out 0
       (ap (if_unicode (λ e f u. answer f u (walk (unicode_step e (mark_of m)) 0 (part f u t))) (refused 0)) (sym l.means))
 
-pub ident_reads : (t out : List ℕ) (r : Read) (after : List ℕ) → Reads (lexeme_of dquote t) out r after → Reads (ident t) out r after
+  pub lexeme_other : ((b : Body) → s ≡ Spelled'.Body b → ⊥) → (out : List ℕ) → Reads (lexeme_of (mark_of m) t) out (Err (ReadRefusal'.At 0)) out
+  lexeme_other h out = go s refl
+    where
+      go : (x : Spelled) → s ≡ x → Reads (lexeme_of (mark_of m) t) out (Err (ReadRefusal'.At 0)) out
+      go (Spelled'.Body b) q = absurd (h b q)
+      go (Spelled'.Dollar f u) q = lexeme_dollar f u q out
+      go Spelled'.Unspelt q = lexeme_unspelt q out
+
+pub ident_reads : (t out : List ℕ) (r : Result ReadText ReadRefusal) (after : List ℕ) → Reads (lexeme_of dquote t) out r after → Reads (ident t) out r after
 unfolding lexeme_of ident
 ident_reads t out r after k = k

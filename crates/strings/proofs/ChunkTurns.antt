@@ -7,7 +7,7 @@ use native.Mathlib.Numerals.{add-one}
 use native.Mathlib.Omega.{arith}
 use lib.Dec.{eqb}
 use lib.ListN.{length, take, drop, length-append, length-take, length-drop}
-use lib.Seq.{take-add, take-append-le}
+use lib.Seq.{take-add, take-append-le, take_all}
 use borrow.Author.Tests.{eqb-true, not-true}
 use Rattle.meaning.specs.Bytes.{◌!◌, quote, backslash}
 use Rattle.meaning.specs.Walk.{Step, keep}
@@ -22,7 +22,6 @@ use Rattle.cutting.specs.Marks.{mark_of}
 use Rattle.escapes.specs.declared.units.Family.{Family}
 use Rattle.escapes.specs.declared.units.Family.TheVariants.{Standard, Escape, Unicode}
 use Rattle.strings.specs.declared.taking.Taken.{Taken}
-use Rattle.strings.specs.declared.chunks.End.{End}
 use Rattle.strings.specs.declared.chunks.End.TheVariants.{More, Closed, Unread}
 use Rattle.strings.specs.declared.chunks.Turn.{Turn}
 use Rattle.leaves.specs.Words.{neither}
@@ -83,7 +82,10 @@ module _ (f : Family) (text : List ℕ) (run : ℕ) (out : List ℕ) (u : Taken)
   unit_there = omega (arith, unit.so_far.inside, length-drop run text)
 
   -- four bytes are put, of which the unit's count
-  module _ (room : run + 4 ≤ length out) (last : List ℕ) (el : last ≡ u.bytes ++ drop 4 (lent run out)) where
+  module _ (room : run + 4 ≤ length out) (last : List ℕ) (put : last ≡ take 4 u.bytes ++ drop 4 (lent run out)) where
+    el : last ≡ u.bytes ++ drop 4 (lent run out)
+    el = put ∙ ap (◌++ drop 4 (lent run out)) (take_all 4 u.bytes (omega (arith, t.four)))
+
     long : length last ≡ length (lent run out)
     long =
         ap length el ∙ length-append u.bytes (drop 4 (lent run out))

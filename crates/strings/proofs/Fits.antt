@@ -1,4 +1,5 @@
 -- How a text may be read, and what is told of it then. Assumes nothing.
+use Rattle.std.specs.Prelude.{Result, Ok, Err}
 use mathlib.Core.Path.{◌≡◌, refl, sym, ◌∙◌, subst}
 use mathlib.Core.Bool.{Bool, true, false, ◌&&◌, not}
 use mathlib.Core.List.{List}
@@ -6,8 +7,10 @@ use Prim.Native.Nat.{ℕ, ◌-◌, ◌≤◌}
 use lib.ListN.{length, take, drop}
 use borrow.Author.Tests.{not-true, not-false}
 use Rattle.meaning.specs.declared.Settings.{Settings}
-use Rattle.meaning.specs.declared.Read.{Read}
-use Rattle.meaning.specs.declared.Read.TheVariants as Read'
+use Rattle.meaning.specs.declared.ReadText.{ReadText}
+use Rattle.meaning.specs.declared.ReadRefusal.{ReadRefusal}
+use Rattle.meaning.specs.declared.ReadText.TheVariants as ReadText'
+use Rattle.meaning.specs.declared.ReadRefusal.TheVariants as ReadRefusal'
 use Rattle.meaning.specs.Bytes.{has}
 use Rattle.meaning.specs.Chars.{utf8}
 use Rattle.meaning.specs.Reading.{read}
@@ -17,22 +20,20 @@ use Rattle.laws.proofs.basics.Tests.{and_left, and_right}
 use Rattle.leaves.specs.Blocks.{passes}
 use Rattle.utf8.specs.Plain.{plain_of}
 use Rattle.utf8.proofs.PlainBytes.{run_clean}
-use Rattle.strings.specs.declared.quick.Quick.{Quick}
-use Rattle.strings.specs.declared.quick.Quick.TheVariants as Quick'
 use Rattle.strings.specs.declared.reading.Fit.{Fit}
 use Rattle.strings.specs.declared.reading.Fit.TheVariants as Fit'
-use Rattle.strings.specs.declared.reading.Checked.TheVariants as Checked'
-use Rattle.strings.specs.declared.reading.Tried.{Tried}
-use Rattle.strings.specs.declared.reading.Tried.TheVariants as Tried'
+use Rattle.strings.specs.declared.reading.NotUtf8.{NotUtf8}
+use Rattle.strings.specs.declared.quick.Untold.{Untold}
+use Rattle.strings.specs.declared.quick.Untold.TheVariants as Untold'
 use Rattle.strings.specs.Plain.{is_plain, is_plain_ascii}
-use Rattle.strings.specs.Driving.{FitBy, FitsAs, QuickReads, Checks, TriesBy, Tries}
+use Rattle.strings.specs.Driving.{FitBy, FitsAs, Checks, TriesBy, Tries}
 use Rattle.strings.proofs.AsciiRows.{ascii_plain, ascii_utf8}
 use Rattle.strings.proofs.Plains.{plain_long, plain_borrowed}
-use Rattle.strings.proofs.QuickAnswers.{borrowed_reads, written_reads, lacking_reads, onward_reads}
+use Rattle.strings.proofs.QuickAnswers.{onward_reads}
 
 module _ (σ : Settings) (t : List ℕ) where
   -- THE TEXT, taken as the part of itself that it is
-  pub whole : (out : List ℕ) (r : Tried) (after : List ℕ)
+  pub whole : (out : List ℕ) (r : Result ReadText Untold) (after : List ℕ)
       → Tries (utf8 (take (length t - 0) (drop 0 t))) (read σ (take (length t - 0) (drop 0 t))) out r after → Tries (utf8 t) (read σ t) out r after
   whole out r after = subst (λ s. Tries (utf8 s) (read σ s) out r after) (part_tail t 0)
 
@@ -62,73 +63,57 @@ module _ (σ : Settings) (t : List ℕ) where
       pub fit_long : 1 ≤ length t
       fit_long = plain_long σ t true (sym plain.0) refl
 
-      pub fit_reads : (out : List ℕ) → Reads (read σ t) out (Read'.Borrowed 1 (length t - 1)) out
+      pub fit_reads : (out : List ℕ) → Reads (read σ t) out (Ok (ReadText'.Borrowed 1 (length t - 1))) out
       fit_reads out = plain_borrowed σ t true (sym plain.0) refl out
 
-      pub fit_tries : (out : List ℕ) → Tries (utf8 t) (read σ t) out (Tried'.Borrowed 1 (length t - 1)) out
-      fit_tries out = record { by = record { by = (plain.1, fit_reads out) } }
+      pub fit_tries : (out : List ℕ) → Tries (utf8 t) (read σ t) out (Ok (ReadText'.Borrowed 1 (length t - 1))) out
+      fit_tries out = record { by = (plain.1, fit_reads out) }
 
     -- A CLEAN ONE is read quickly, or left to be read by units
     module _ (e : f ≡ Fit'.Clean) where
       pub clean : (has 0 t ≡ false) × (utf8 t ≡ true)
       clean = subst (FitBy σ t) e k.by
 
-      module _ (out : List ℕ) (q : Quick) (after : List ℕ) (x : QuickReads (read σ t) out q after) where
-        pub borrowed_tries : (b u : ℕ) → q ≡ Quick'.Borrowed b u → Tries (utf8 t) (read σ t) out (Tried'.Borrowed b u) after
-        borrowed_tries b u z = record { by = record { by = (clean.1, borrowed_reads (read σ t) out q after x b u z) } }
-
-        pub written_tries : (n : ℕ) → q ≡ Quick'.Written n → Tries (utf8 t) (read σ t) out (Tried'.Written n) after
-        written_tries n z = record { by = record { by = (clean.1, written_reads (read σ t) out q after x n z) } }
-
-        pub lacking_tries : (n : ℕ) → q ≡ Quick'.NoRoom n → Tries (utf8 t) (read σ t) out (Tried'.NoRoom n) after
-        lacking_tries n z = record { by = record { by = (clean.1, lacking_reads (read σ t) out q after x n z) } }
-
-        pub unread_tries : q ≡ Quick'.Unread → Tries (utf8 t) (read σ t) out Tried'.Unread after
-        unread_tries z = record { by = (clean.1, subst (λ d. QuickReads (read σ t) out d after) z x) }
+      pub quick_tries : (out : List ℕ) (q : Result ReadText Untold) (after : List ℕ) → Tries true (read σ t) out q after → Tries (utf8 t) (read σ t) out q after
+      quick_tries out q after = subst (λ (u : Bool). Tries u (read σ t) out q after) (sym clean.1)
 
   -- ANY OTHER is tested, and left
   module _ (x : Bool) (e : x ≡ utf8 t) (out : List ℕ) where
-    pub other_unread : x ≡ true → Tries (utf8 t) (read σ t) out Tried'.Unread out
-    other_unread y = record { by = (sym e ∙ y, record { by = (refl, refl) }) }
+    pub other_unread : x ≡ true → Tries (utf8 t) (read σ t) out (Err Untold'.Unread) out
+    other_unread y = record { by = (sym e ∙ y, (refl, refl)) }
 
-    pub other_not : x ≡ false → Tries (utf8 t) (read σ t) out Tried'.NotUtf8 out
-    other_not y = record { by = record { by = (sym e ∙ y, refl) } }
+    pub other_not : x ≡ false → Tries (utf8 t) (read σ t) out (Err Untold'.NotUtf8) out
+    other_not y = record { by = (sym e ∙ y, refl) }
 
   -- WHAT WAS TRIED: told, and what is left is read behind it
-  module _ (out : List ℕ) (q : Tried) (after : List ℕ) (x : Tries (utf8 t) (read σ t) out q after) where
-    tried : (d : Tried) → q ≡ d → TriesBy (utf8 t) (read σ t) out d after
+  module _ (out : List ℕ) (q : Result ReadText Untold) (after : List ℕ) (x : Tries (utf8 t) (read σ t) out q after) where
+    tried : (d : Result ReadText Untold) → q ≡ d → TriesBy (utf8 t) (read σ t) out d after
     tried d z = subst (λ d. TriesBy (utf8 t) (read σ t) out d after) z x.by
 
-    pub borrowed_checks : (b u : ℕ) → q ≡ Tried'.Borrowed b u → Checks (utf8 t) (read σ t) out (Checked'.Text (Read'.Borrowed b u)) after
-    borrowed_checks b u = tried (Tried'.Borrowed b u)
+    pub text_reads : (s : ReadText) → q ≡ Ok s → Reads (read σ t) out (Ok s) after
+    text_reads s z = (tried (Ok s) z).1
 
-    pub written_checks : (n : ℕ) → q ≡ Tried'.Written n → Checks (utf8 t) (read σ t) out (Checked'.Text (Read'.Written n)) after
-    written_checks n = tried (Tried'.Written n)
+    pub lacking_reads : (n : ℕ) → q ≡ Err (Untold'.NoRoom n) → Reads (read σ t) out (Err (ReadRefusal'.NoRoom n)) after
+    lacking_reads n z = (tried (Err (Untold'.NoRoom n)) z).1
 
-    pub lacking_checks : (n : ℕ) → q ≡ Tried'.NoRoom n → Checks (utf8 t) (read σ t) out (Checked'.Text (Read'.NoRoom n)) after
-    lacking_checks n = tried (Tried'.NoRoom n)
+    pub text_checks : (s : ReadText) → q ≡ Ok s → Checks (utf8 t) (read σ t) out (Ok (Ok s)) after
+    text_checks s z = record { by = tried (Ok s) z }
 
-    pub not_checks : q ≡ Tried'.NotUtf8 → Checks (utf8 t) (read σ t) out Checked'.NotUtf8 after
-    not_checks = tried Tried'.NotUtf8
+    pub lacking_checks : (n : ℕ) → q ≡ Err (Untold'.NoRoom n) → Checks (utf8 t) (read σ t) out (Ok (Err (ReadRefusal'.NoRoom n))) after
+    lacking_checks n z = record { by = tried (Err (Untold'.NoRoom n)) z }
 
-    pub tried_borrowed : (b u : ℕ) → q ≡ Tried'.Borrowed b u → Reads (read σ t) out (Read'.Borrowed b u) after
-    tried_borrowed b u z = (borrowed_checks b u z).by.1
+    pub not_checks : q ≡ Err Untold'.NotUtf8 → (n : NotUtf8) → Checks (utf8 t) (read σ t) out (Err n) after
+    not_checks z n = record { by = tried (Err Untold'.NotUtf8) z }
 
-    pub tried_written : (n : ℕ) → q ≡ Tried'.Written n → Reads (read σ t) out (Read'.Written n) after
-    tried_written n z = (written_checks n z).by.1
+    module _ (r : Result ReadText ReadRefusal) (last : List ℕ) (w : Reads (read σ t) after r last) where
+      pub not_reads : q ≡ Err Untold'.NotUtf8 → Reads (read σ t) out r last
+      not_reads z = subst (λ b. Reads (read σ t) b r last) (tried (Err Untold'.NotUtf8) z).1 w
 
-    pub tried_lacking : (n : ℕ) → q ≡ Tried'.NoRoom n → Reads (read σ t) out (Read'.NoRoom n) after
-    tried_lacking n z = (lacking_checks n z).by.1
+      pub unread_reads : q ≡ Err Untold'.Unread → Reads (read σ t) out r last
+      unread_reads z = let k = (tried (Err Untold'.Unread) z).1 in onward_reads (read σ t) out after k.0 k.1 r last w
 
-    module _ (r : Read) (last : List ℕ) (w : Reads (read σ t) after r last) where
-      pub tried_not : q ≡ Tried'.NotUtf8 → Reads (read σ t) out r last
-      tried_not z = subst (λ b. Reads (read σ t) b r last) (not_checks z).by.1 w
-
-      pub tried_unread : q ≡ Tried'.Unread → Reads (read σ t) out r last
-      tried_unread z = onward_reads (read σ t) out Quick'.Unread after (tried Tried'.Unread z).1 refl r last w
-
-      pub unread_checks : q ≡ Tried'.Unread → Checks (utf8 t) (read σ t) out (Checked'.Text r) last
-      unread_checks z = record { by = ((tried Tried'.Unread z).0, tried_unread z) }
+      pub unread_checks : q ≡ Err Untold'.Unread → Checks (utf8 t) (read σ t) out (Ok r) last
+      unread_checks z = record { by = ((tried (Err Untold'.Unread) z).0, unread_reads z) }
 
   -- A PLAIN TEXT IN ASCII, told by its scan
   module _ (x : Bool) (p : x ≡ is_plain_ascii σ t) (e : x ≡ true) where
@@ -138,8 +123,8 @@ module _ (σ : Settings) (t : List ℕ) where
     pub ascii_long : 1 ≤ length t
     ascii_long = plain_long σ t true (sym plain_told) refl
 
-    pub ascii_reads : (out : List ℕ) → Reads (read σ t) out (Read'.Borrowed 1 (length t - 1)) out
+    pub ascii_reads : (out : List ℕ) → Reads (read σ t) out (Ok (ReadText'.Borrowed 1 (length t - 1))) out
     ascii_reads out = plain_borrowed σ t true (sym plain_told) refl out
 
-    pub ascii_checks : (out : List ℕ) → Checks (utf8 t) (read σ t) out (Checked'.Text (Read'.Borrowed 1 (length t - 1))) out
+    pub ascii_checks : (out : List ℕ) → Checks (utf8 t) (read σ t) out (Ok (Ok (ReadText'.Borrowed 1 (length t - 1)))) out
     ascii_checks out = record { by = (ascii_utf8 σ t (sym p ∙ e), ascii_reads out) }

@@ -20,21 +20,21 @@ use Rattle.cutting.proofs.Cursors.{UnitAt, at_end, at_remainder, at_segment}
 use Rattle.cutting.specs.declared.cursor.Cursor.{Cursor}
 use Rattle.cutting.specs.declared.cursor.Next.{Next}
 use Rattle.cutting.specs.declared.cursor.Next.TheVariants as Next'
-use Rattle.strings.specs.declared.joined.Joined.{Joined}
-use Rattle.strings.specs.declared.joined.Joined.TheVariants as Joined'
-use Rattle.strings.specs.Answers.{length_of, PutsValue, PutsAll}
+use Rattle.strings.specs.declared.joined.Stop.{Stop}
+use Rattle.strings.specs.Answers.{stop_at, length_of, PutsValue, PutsAll}
+use Rattle.std.specs.Prelude.{Result, Ok, Err}
 
 -- what a length says of a value
-pub length_means : (x : Value) (m : ℕ) → length_of x ≡ Joined'.Length m → (w : List ℕ) × (x ≡ means w) × (length w ≡ m)
+pub length_means : (x : Value) (m : ℕ) → length_of x ≡ Ok m → (w : List ℕ) × (x ≡ means w) × (length w ≡ m)
 length_means (means w) m e = (w, refl, cc)
 length_means (fails p) m e = let z : ◌≡◌ {A = ℕ} 0 1 = cc in absurd (omega arith)
 
-pub length_fails : (x : Value) (p : ℕ) → length_of x ≡ Joined'.Refused p → x ≡ fails p
+pub length_fails : (x : Value) (p : ℕ) → length_of x ≡ Err (stop_at p) → x ≡ fails p
 length_fails (means w) p e = let z : ◌≡◌ {A = ℕ} 0 1 = cc in absurd (omega arith)
-length_fails (fails q) p e = cc
+length_fails (fails q) p e = let z : stop_at q ≡ stop_at p = cc in ap (λ (s : Stop). fails s.place) z
 
 -- a value that fails owes nothing of the buffer
-puts_failed : (x : Value) (p : ℕ) (d out : List ℕ) → x ≡ fails p → PutsAll x d (Joined'.Refused p) out
+puts_failed : (x : Value) (p : ℕ) (d out : List ℕ) → x ≡ fails p → PutsAll x d (Err (stop_at p)) out
 puts_failed x p d out e = record { answer = rw e; buffer = λ v y l. absurd (fails≢means p v (sym e ∙ y)) }
 
 -- the segments before i mean n bytes, which stand at the start of a buffer that held d, if there is room for them
@@ -51,12 +51,12 @@ joins_start σ t d i e =
     (record { so_far = joins.joined_none (alone σ) (segment_step σ) t; short = omega arith; put = λ h. refl; same = refl })
 
 module _ {σ : Settings} {t d out : List ℕ} {i n : ℕ} (v : JoinsAt σ t d out i n) (r : Next) (e : r ≡ next_of σ t i) where
-  pub joins_end : r ≡ Next'.End → PutsAll (joined σ (cut σ t)) d (Joined'.Length n) out
+  pub joins_end : r ≡ Next'.End → PutsAll (joined σ (cut σ t)) d (Ok n) out
   unfolding cut
   joins_end q =
       let j = joins.joined_end (alone σ) v.so_far (at_end σ t i r e q) in
       record {
-        answer = rw j (ap Joined'.Length (sym v.so_far.count));
+        answer = rw j (ap Ok (sym v.so_far.count));
         buffer = λ w x l.
             let m : means v.so_far.got ≡ means w = sym j ∙ x in
             let z : v.so_far.got ≡ w = cc in
@@ -64,7 +64,7 @@ module _ {σ : Settings} {t d out : List ℕ} {i n : ℕ} (v : JoinsAt σ t d ou
             v.put (omega arith) ∙ ap (◌++ drop n d) z ∙ ap (λ (k : ℕ). w ++ drop k d) c;
       }
 
-  pub joins_remainder : r ≡ Next'.Remainder → PutsAll (joined σ (cut σ t)) d (Joined'.Refused i) out
+  pub joins_remainder : r ≡ Next'.Remainder → PutsAll (joined σ (cut σ t)) d (Err (stop_at i)) out
   unfolding cut
   joins_remainder q =
       let k = at_remainder σ t i r e q in
@@ -98,17 +98,17 @@ module _ {σ : Settings} {t d out : List ℕ} {i n : ℕ} (v : JoinsAt σ t d ou
         let b : Bound (means w) (length text) = subst (λ (y : Value). Bound y (length text)) x (alone_bound σ text) in
         omega (arith, b, text_length, unit.start, unit.some, unit.ends)
 
-    module _ (from : ℕ) (lo : Least n (length out) from) (k : Joined) (last : List ℕ)
+    module _ (from : ℕ) (lo : Least n (length out) from) (k : Result ℕ Stop) (last : List ℕ)
         (p : PutsValue (alone σ text) (take (length out - from) (drop from out)) k last) where
       abbrev after : List ℕ
       after = take from out ++ (last ++ drop (length out - from) (drop from out))
 
-      pub joins_fits : (m : ℕ) → k ≡ Joined'.Length m → n + m ≤ length t
+      pub joins_fits : (m : ℕ) → k ≡ Ok m → n + m ≤ length t
       joins_fits m h =
           let x = length_means (alone σ text) m (sym p.answer ∙ h) in
           omega (arith, brief x.0 x.1, v.short, x.2, unit.inside)
 
-      pub joins_turn : (m : ℕ) → k ≡ Joined'.Length m → length after ≡ length out → JoinsAt σ t d after c.at (n + m)
+      pub joins_turn : (m : ℕ) → k ≡ Ok m → length after ≡ length out → JoinsAt σ t d after c.at (n + m)
       unfolding joins.joined_more
       joins_turn m h l =
           let x = length_means (alone σ text) m (sym p.answer ∙ h) in
@@ -124,15 +124,17 @@ module _ {σ : Settings} {t d out : List ℕ} {i n : ℕ} (v : JoinsAt σ t d ou
             same = l ∙ v.same;
           })
 
-      pub refused_fits : (m : ℕ) → k ≡ Joined'.Refused m → s + m ≤ length t
-      refused_fits m h =
+      pub refused_fits : (e : Stop) → k ≡ Err e → s + e.place ≤ length t
+      refused_fits e h =
+          let m = e.place in
           let b : Bound (fails m) (length text) =
           subst (λ (y : Value). Bound y (length text)) (length_fails (alone σ text) m (sym p.answer ∙ h)) (alone_bound σ text) in
           omega (arith, b, text_length, unit.some, unit.ends, unit.inside)
 
-      pub joins_refused : (m : ℕ) → k ≡ Joined'.Refused m → PutsAll (joined σ (cut σ t)) d (Joined'.Refused (s + m)) after
+      pub joins_refused : (e : Stop) → k ≡ Err e → PutsAll (joined σ (cut σ t)) d (Err (stop_at (s + e.place))) after
       unfolding cut
-      joins_refused m h =
+      joins_refused e h =
+          let m = e.place in
           puts_failed (joined σ (cut σ t)) (s + m) d after
           (joins.joined_refused (alone σ) v.so_far unit.more text m room unit.step (length_fails (alone σ text) m (sym p.answer ∙ h))
           ∙ ap (λ (y : ℕ). fails (y + m)) (sym unit.start))

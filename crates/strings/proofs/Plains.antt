@@ -9,9 +9,9 @@ use lib.ListN.{length, take, drop, get_or, length-drop, take-append-drop, drop_o
 use lib.Seq.{drop-cons, get_or-drop}
 use borrow.Author.Tests.{ltb-true, eqb-true, not-true, not-false}
 use Rattle.meaning.specs.declared.Settings.{Settings}
-use Rattle.meaning.specs.declared.Read.TheVariants as Read'
+use Rattle.meaning.specs.declared.ReadText.TheVariants as ReadText'
 use Rattle.meaning.specs.Bytes.{◌!◌, part, has, quote, backslash}
-use Rattle.std.specs.Prelude.{if◌then◌else◌}
+use Rattle.std.specs.Prelude.{if◌then◌else◌, Ok}
 use Rattle.meaning.specs.Walk.{keep, walk, plain}
 use Rattle.meaning.specs.Steps.{standard_step}
 use Rattle.meaning.specs.Cutting.{segment}
@@ -132,7 +132,7 @@ module _ (σ : Settings) (t : List ℕ) (x : Bool) (e : x ≡ is_plain σ t) (y 
       let v = part 1 (length t - 1) t in
       ap (read σ) s ∙ free_read σ v (and_right (encloses 0 quote t) (free_body σ v) both) ∙ ap (λ (w : List ℕ). borrowed 1 (length w - 1)) (sym s)
 
-  pub plain_borrowed : (out : List ℕ) → Reads (read σ t) out (Read'.Borrowed 1 (length t - 1)) out
+  pub plain_borrowed : (out : List ℕ) → Reads (read σ t) out (Ok (ReadText'.Borrowed 1 (length t - 1))) out
   plain_borrowed out = rw plain_read (record { answer = refl; buffer = refl })
 
 -- AS THE CODE ASKS: two marks first, then the body

@@ -1,5 +1,5 @@
 -- What the quick reading answers, by what was read and stored. Assumes nothing.
-use mathlib.Core.Path.{◌≡◌, refl, ap, ap₂, sym, ◌∙◌, subst}
+use mathlib.Core.Path.{◌≡◌, refl, ap, ap₂, sym, ◌∙◌}
 use mathlib.Core.Bool.{Bool, true, false, not, false≢true}
 use mathlib.Core.List.{List, [], ◌++◌, append-nil}
 use Prim.Native.Nat.{ℕ, ◌+◌, ◌-◌, ◌≤◌, ◌<◌}
@@ -8,19 +8,19 @@ use borrow.Author.Tests.{not-false, le-leb}
 use lib.ListN.{length, take, drop, length-append, length-drop, drop_of_length-le}
 use lib.Seq.{take_all, length-take-le, drop_at}
 use Rattle.meaning.specs.declared.Settings.{Settings}
-use Rattle.meaning.specs.declared.Read.{Read}
-use Rattle.meaning.specs.declared.Read.TheVariants as Read'
-use Rattle.std.specs.Prelude.{if◌then◌else◌}
+use Rattle.meaning.specs.declared.ReadText.{ReadText}
+use Rattle.meaning.specs.declared.ReadRefusal.{ReadRefusal}
+use Rattle.meaning.specs.declared.ReadText.TheVariants as ReadText'
+use Rattle.std.specs.Prelude.{if◌then◌else◌, Result, Ok, Err}
 use Rattle.meaning.specs.Answers.{filled}
 use Rattle.meaning.specs.Reading.{Answer, borrowed, written, read}
-use Rattle.meaning.specs.Reads.{Reads, read_of}
+use Rattle.meaning.specs.Reads.{Reads, read_of, buffer_of}
 use Rattle.laws.proofs.questions.Owed.{reads_short, reads_written, reads_borrowed}
 use Rattle.leaves.specs.Puts.{Puts}
 use Rattle.strings.specs.declared.quick.Segment.{Segment}
-use Rattle.strings.specs.declared.quick.Quick.{Quick}
-use Rattle.strings.specs.declared.quick.Quick.TheVariants as Quick'
+use Rattle.strings.specs.declared.quick.Untold.TheVariants as Untold'
 use Rattle.strings.specs.Storing.{Behind}
-use Rattle.strings.specs.Driving.{DrivenBy, Drives, Rewrites, QuickBy, QuickReads}
+use Rattle.strings.specs.Driving.{DrivenBy, Drives, Rewrites, Tries}
 use Rattle.strings.proofs.Storages.{stored_empty}
 
 -- two answers that are written have one value
@@ -73,27 +73,27 @@ module _ (σ : Settings) (t d : List ℕ) (q : Segment) (chunk none : List ℕ) 
   told : (x : Bool) → q.plain ≡ x → read σ t ≡ (if x then borrowed q.from (length t - 1) else written k.w)
   told x p = k.reads ∙ ap (λ (y : Bool). if y then borrowed q.from (length t - 1) else written k.w) p
 
-  pub quick_borrowed : (out : List ℕ) → q.plain ≡ true → QuickReads (read σ t) out (Quick'.Borrowed q.from (length t - 1)) out
-  quick_borrowed out p = record { by = reads_borrowed (read σ t) out q.from (length t - 1) (told true p) }
+  pub quick_borrowed : (out : List ℕ) → q.plain ≡ true → Tries true (read σ t) out (Ok (ReadText'.Borrowed q.from (length t - 1))) out
+  quick_borrowed out p = record { by = (refl, reads_borrowed (read σ t) out q.from (length t - 1) (told true p)) }
 
   module _ (p : q.plain ≡ false) where
     value : read σ t ≡ written k.w
     value = told false p
 
-    pub quick_lacks : (out : List ℕ) → length out < q.total + q.n → QuickReads (read σ t) out (Quick'.NoRoom (q.total + q.n)) out
-    quick_lacks out h = record { by = reads_short (read σ t) k.w out (q.total + q.n) value (count) h }
+    pub quick_lacks : (out : List ℕ) → length out < q.total + q.n → Tries true (read σ t) out (Err (Untold'.NoRoom (q.total + q.n))) out
+    quick_lacks out h = record { by = (refl, reads_short (read σ t) k.w out (q.total + q.n) value (count) h) }
 
     module _ (out : List ℕ) (h : q.total + q.n ≤ length out) where
       -- the value stands at the buffer's start
-      done : (after : List ℕ) → after ≡ k.w ++ drop (length k.w) out → QuickReads (read σ t) out (Quick'.Written (q.total + q.n)) after
-      done after l = record { by = reads_written (read σ t) k.w out after (q.total + q.n) value (count) h l }
+      done : (after : List ℕ) → after ≡ k.w ++ drop (length k.w) out → Tries true (read σ t) out (Ok (ReadText'.Written (q.total + q.n))) after
+      done after l = record { by = (refl, reads_written (read σ t) k.w out after (q.total + q.n) value (count) h l) }
 
       holds : (o : List ℕ) → length o ≡ length out → filled k.w o ≡ k.w ++ drop (length k.w) o
       unfolding filled
       holds o e = rw (le-leb (length k.w) (length o) (omega (arith, count)))
 
       pub quick_put : q.total ≡ 0 → (i : ℕ) (after : List ℕ) → Puts (take (q.total + q.n) chunk) out i after
-          → QuickReads (read σ t) out (Quick'.Written (q.total + q.n)) after
+          → Tries true (read σ t) out (Ok (ReadText'.Written (q.total + q.n))) after
       quick_put z i after b =
           let n : q.total + q.n ≡ q.n = omega (arith, z) in
           let w : take (q.total + q.n) chunk ≡ k.w = ap (λ (j : ℕ). take j chunk) n ∙ sym (ap (λ (j : ℕ). drop j k.w) (sym z) ∙ k.stored.held) in
@@ -106,32 +106,18 @@ module _ (σ : Settings) (t d : List ℕ) (q : Segment) (chunk none : List ℕ) 
         size : length (take (q.total + q.n) out) ≡ q.total + q.n
         size = length-take-le (q.total + q.n) out h
 
-        pub quick_again : x ≡ true → QuickReads (read σ t) out (Quick'.Written (q.total + q.n)) whole
+        pub quick_again : x ≡ true → Tries true (read σ t) out (Ok (ReadText'.Written (q.total + q.n))) whole
         quick_again y =
             done whole (ap₂ (λ (x : List ℕ) (j : ℕ). x ++ drop j out) (b.done y k.w value (count ∙ sym size)) (sym (count)))
 
-        pub quick_left : QuickReads (read σ t) out Quick'.Unread whole
+        pub quick_left : Tries true (read σ t) out (Err Untold'.Unread) whole
         quick_left =
             let n : length after ≡ q.total + q.n = b.same ∙ size in
             let same : length whole ≡ length out = length-append after (drop (q.total + q.n) out) ∙ omega (arith, n, length-drop (q.total + q.n) out, h) in
             let rest : drop (length k.w) whole ≡ drop (length k.w) out = rw (count) (drop_at after (drop (q.total + q.n) out) (q.total + q.n) n) in
-            record { by = (same, rw value (holds whole same ∙ ap (k.w ++◌) rest ∙ sym (holds out refl))) }
+            record { by = (refl, (same, rw value (holds whole same ∙ ap (k.w ++◌) rest ∙ sym (holds out refl)))) }
 
--- WITH AN ANSWER it is the definition's; WITHOUT ONE the reading by units answers for both
-module _ (a : Answer) (out : List ℕ) (q : Quick) (after : List ℕ) (k : QuickReads a out q after) where
-  by : (y : Quick) → q ≡ y → QuickBy a out y after
-  by y e = subst (λ (z : Quick). QuickBy a out z after) e k.by
-
-  pub borrowed_reads : (f u : ℕ) → q ≡ Quick'.Borrowed f u → Reads a out (Read'.Borrowed f u) after
-  borrowed_reads f u e = by (Quick'.Borrowed f u) e
-
-  pub written_reads : (n : ℕ) → q ≡ Quick'.Written n → Reads a out (Read'.Written n) after
-  written_reads n e = by (Quick'.Written n) e
-
-  pub lacking_reads : (n : ℕ) → q ≡ Quick'.NoRoom n → Reads a out (Read'.NoRoom n) after
-  lacking_reads n e = by (Quick'.NoRoom n) e
-
-  pub onward_reads : q ≡ Quick'.Unread → (r : Read) (last : List ℕ) → Reads a after r last → Reads a out r last
-  onward_reads e r last x =
-      let y = by Quick'.Unread e in
-      record { answer = x.answer ∙ ap (λ (n : ℕ). read_of n a) y.0; buffer = x.buffer ∙ y.1 }
+-- WITHOUT AN ANSWER the reading by units answers for both
+pub onward_reads : (a : Answer) (out after : List ℕ) → length after ≡ length out → buffer_of after a ≡ buffer_of out a
+    → (r : Result ReadText ReadRefusal) (last : List ℕ) → Reads a after r last → Reads a out r last
+onward_reads a out after same owed r last x = record { answer = x.answer ∙ ap (λ (n : ℕ). read_of n a) same; buffer = x.buffer ∙ owed }

@@ -2,15 +2,15 @@
 -- Assumes nothing.
 use mathlib.Core.Path.{◌≡◌, refl, ap, ap₂, sym, ◌∙◌}
 use mathlib.Core.Bool.{Bool, true, false, ◌||◌, false≢true}
-use mathlib.Core.List.{List, [], ◌∷◌, ◌++◌, append-nil}
+use mathlib.Core.List.{List, [], ◌∷◌, ◌++◌}
 use Prim.Native.Nat.{ℕ, zero, suc, ◌+◌, ◌-◌, ◌≤◌, ◌<◌}
 use native.Mathlib.Omega.{arith}
 use lib.Dec.{eqb, leb}
-use lib.ListN.{length, take, drop, get_or, set, length-append, length-take, length-drop, drop_of_length-le}
-use lib.Seq.{drop-cons, sets-eq, length-take-le, take_all, take-take, take-append-le, take-add, take_at, get_or-take}
-use Rattle.meaning.specs.Bytes.{◌!◌, span}
+use lib.ListN.{length, take, drop, get_or, set, length-append, length-take, length-drop}
+use lib.Seq.{drop-cons, length-take-le, take-take, take-append-le, take-add, take_at}
+use Rattle.meaning.specs.Bytes.{span}
 use Rattle.std.specs.Prelude.{if◌then◌else◌}
-use Rattle.laws.proofs.basics.Copies.{Copying, copying_none, copying_turn, copying_all}
+use Rattle.laws.proofs.basics.Copies.{Copying, copying_none, copying_turn}
 use Rattle.laws.proofs.basics.Lists.{part_tail}
 use Rattle.laws.proofs.basics.Tests.{and_left, and_right, or_left, or_right}
 use Rattle.leaves.proofs.RunSteps.{span_length}
@@ -19,45 +19,6 @@ use Rattle.leaves.specs.Words.{neither, eight_run}
 use Rattle.leaves.proofs.Scans.{passes_append, span_passes}
 use Rattle.strings.specs.Quick.{Copies}
 use Rattle.strings.proofs.Lending.{lent, back, back_same, back_take}
-
--- A BLOCK: the first i of a text's first n bytes are put into a buffer that held d
-pub record Putting (n : ℕ) (s d out : List ℕ) (i : ℕ) : Type 0 where
-  pub there : n ≤ length s
-  pub copying : Copying (take n s) d out i
-
-pub putting_none : (n : ℕ) (s d : List ℕ) → n ≤ length s → n ≤ length d → Putting n s d d 0
-putting_none n s d h k = record { there = h; copying = copying_none (take n s) d (omega (arith, length-take-le n s h)) }
-
-module _ {n : ℕ} {s d out : List ℕ} {i : ℕ} (x : Putting n s d out i) where
-  all : length (take n s) ≡ n
-  all = length-take-le n s x.there
-
-  pub putting_turn : i < n → Putting n s d (set out i (get_or s i 0)) (i + 1)
-  putting_turn h = record {
-    there = x.there;
-    copying = let k : i < length (take n s) = omega (arith, all) in rw (get_or-take n s i 0 h) at (copying_turn x.copying k);
-  }
-
-  putting_all : n ≤ i → out ≡ take n s ++ drop n d
-  putting_all h = copying_all x.copying (omega (arith, all)) ∙ rw all
-
-  -- the buffer is an array of n; the text is
-  pub block_made : n ≤ i → length d ≡ n → out ≡ take n s
-  block_made h e =
-      let k : length d ≤ n = omega arith in
-      putting_all h ∙ ap (take n s ++◌) (drop_of_length-le d k) ∙ append-nil (take n s)
-
-  pub block_put : n ≤ i → length s ≡ n → out ≡ s ++ drop n d
-  block_put h e = putting_all h ∙ ap (◌++ drop n d) (take_all n s (omega arith))
-
--- four stores, one behind the other
-pub four_put : (b out : List ℕ) → length b ≡ 4 → 4 ≤ length out → set (set (set (set out 0 (b ! 0)) 1 (b ! 1)) 2 (b ! 2)) 3 (b ! 3) ≡ b ++ drop 4 out
-four_put [] out e h = absurd (omega arith)
-four_put (x ∷ []) out e h = absurd (omega arith)
-four_put (x ∷ y ∷ []) out e h = absurd (omega arith)
-four_put (x ∷ y ∷ z ∷ []) out e h = absurd (omega arith)
-four_put (x ∷ y ∷ z ∷ w ∷ []) out e h = sets-eq (x ∷ y ∷ z ∷ w ∷ []) out 0 (omega arith)
-four_put (x ∷ y ∷ z ∷ w ∷ v ∷ b) out e h = absurd (omega arith)
 
 -- THE LAST BYTES: those before j are copied, and belong to the run
 pub record Lasting (first second : ℕ) (s d out : List ℕ) (j : ℕ) : Type 0 where

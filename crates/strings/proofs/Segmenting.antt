@@ -9,7 +9,7 @@ use lib.Dec.{eqb}
 use lib.ListN.{length, take, drop, length-drop, take-append-drop}
 use lib.Seq.{drop-cons, drop-drop, get_or-drop}
 use Rattle.meaning.specs.declared.Settings.{Settings}
-use Rattle.meaning.specs.Bytes.{◌!◌, ascii, has, is_mark, quote, backslash}
+use Rattle.meaning.specs.Bytes.{◌!◌, ascii, has, is_mark, quote}
 use Rattle.std.specs.Prelude.{if◌then◌else◌}
 use Rattle.meaning.specs.Chars.{utf8}
 use Rattle.meaning.specs.Steps.{gap, standard_step}

@@ -1,8 +1,10 @@
 -- What the answers of string reading mean, and what is owed of the buffer. Assumes nothing.
-use Rattle.std.specs.Prelude.{◌≡◌, List, ◌++◌, ℕ, ◌+◌, ◌≤◌, length, drop}
+use Rattle.std.specs.Prelude.{◌≡◌, List, ◌++◌, ℕ, ◌+◌, ◌≤◌, length, drop, Result, Ok, Err}
 use Rattle.meaning.specs.declared.Settings.{Settings}
-use Rattle.meaning.specs.declared.Read.{Read}
-use Rattle.meaning.specs.declared.Read.TheVariants.{Borrowed, Written, Refused, NoRoom}
+use Rattle.meaning.specs.declared.ReadText.{ReadText}
+use Rattle.meaning.specs.declared.ReadRefusal.{ReadRefusal}
+use Rattle.meaning.specs.declared.ReadText.TheVariants.{Borrowed, Written}
+use Rattle.meaning.specs.declared.ReadRefusal.TheVariants.{At, NoRoom}
 use Rattle.meaning.specs.Bytes.{part}
 use Rattle.meaning.specs.Walk.{walk}
 use Rattle.meaning.specs.Steps.{unicode_step}
@@ -15,8 +17,7 @@ use Rattle.spellings.specs.declared.spelling.Body.{Body}
 use Rattle.spellings.specs.declared.spelling.Spelled.{Spelled}
 use Rattle.spellings.specs.declared.spelling.Spelled.TheVariants as Spelled'
 use Rattle.spellings.specs.Spelled.{escape_of}
-use Rattle.strings.specs.declared.joined.Joined.{Joined}
-use Rattle.strings.specs.declared.joined.Joined.TheVariants as Joined'
+use Rattle.strings.specs.declared.joined.Stop.{Stop}
 
 -- A BODY of t, and what it means; it and its escape character's part lie in a text of n bytes
 abbrev pub body_of : List ℕ → Body → Answer
@@ -45,33 +46,36 @@ pub record SpellsAlone (σ : Settings) (t : List ℕ) (s : Spelled) : Type 0 whe
   pub means : one σ t ≡ spelled_as t s
 
 -- what was read of a part from f up to u, on the text that holds it; and the place that it tells
-abbrev pub placed_of : ℕ → ℕ → Read → Read
-placed_of f u (Borrowed a b) = Borrowed f u
-placed_of f u (Written n) = Written n
-placed_of f u (Refused p) = Refused (f + p)
-placed_of f u (NoRoom n) = NoRoom n
+abbrev pub placed_of : ℕ → ℕ → Result ReadText ReadRefusal → Result ReadText ReadRefusal
+placed_of f u (Ok (Borrowed a b)) = Ok (Borrowed f u)
+placed_of f u (Ok (Written n)) = Ok (Written n)
+placed_of f u (Err (At p)) = Err (At (f + p))
+placed_of f u (Err (NoRoom n)) = Err (NoRoom n)
 
-abbrev pub place_of : Read → ℕ
-place_of (Borrowed a b) = 0
-place_of (Written n) = 0
-place_of (Refused p) = p
-place_of (NoRoom n) = 0
+abbrev pub place_of : Result ReadText ReadRefusal → ℕ
+place_of (Ok (Borrowed a b)) = 0
+place_of (Ok (Written n)) = 0
+place_of (Err (At p)) = p
+place_of (Err (NoRoom n)) = 0
 
 -- U& with the mark q
 unfoldable pub lexeme_of : ℕ → List ℕ → Answer
 lexeme_of q t = if_unicode (λ e f u. answer f u (walk (unicode_step e q) 0 (part f u t))) (refused 0) (unicode_spelling q t)
 
 -- A VALUE's length, or where it fails
-abbrev pub length_of : Value → Joined
-length_of (means v) = Joined'.Length (length v)
-length_of (fails p) = Joined'.Refused p
+abbrev pub stop_at : ℕ → Stop
+stop_at p = record { place = p }
+
+abbrev pub length_of : Value → Result ℕ Stop
+length_of (means v) = Ok (length v)
+length_of (fails p) = Err (stop_at p)
 
 -- it is put at the buffer's start, if there is room
-pub record PutsValue (x : Value) (out : List ℕ) (r : Joined) (after : List ℕ) : Type 0 where
+pub record PutsValue (x : Value) (out : List ℕ) (r : Result ℕ Stop) (after : List ℕ) : Type 0 where
   pub answer : r ≡ length_of x
   pub buffer : after ≡ buffer_of out (as_written x)
 
 -- of a value that is put part by part, only what is left where there is room for all of it is said
-pub record PutsAll (x : Value) (out : List ℕ) (r : Joined) (after : List ℕ) : Type 0 where
+pub record PutsAll (x : Value) (out : List ℕ) (r : Result ℕ Stop) (after : List ℕ) : Type 0 where
   pub answer : r ≡ length_of x
   pub buffer : (v : List ℕ) → x ≡ means v → length v ≤ length out → after ≡ v ++ drop (length v) out

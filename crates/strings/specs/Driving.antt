@@ -1,6 +1,8 @@
 -- What the quick reading says of a segment and of a text. Assumes nothing.
-use Rattle.std.specs.Prelude.{◌≡◌, Bool, true, false, List, ◌++◌, ℕ, suc, ◌+◌, ◌-◌, ◌≤◌, ◌<◌, length, drop}
-use Rattle.meaning.specs.declared.Read.TheVariants as Read'
+use Rattle.std.specs.Prelude.{◌≡◌, Bool, true, false, List, ◌++◌, ℕ, suc, ◌+◌, ◌-◌, ◌≤◌, ◌<◌, length, drop, Result, Ok, Err}
+use Rattle.meaning.specs.declared.ReadText.{ReadText}
+use Rattle.meaning.specs.declared.ReadRefusal.{ReadRefusal}
+use Rattle.meaning.specs.declared.ReadRefusal.TheVariants as ReadRefusal'
 use Rattle.meaning.specs.declared.Settings.{Settings}
 use Rattle.meaning.specs.Bytes.{◌!◌, ascii, has}
 use Rattle.std.specs.Prelude.{if◌then◌else◌}
@@ -20,14 +22,11 @@ use Rattle.strings.specs.declared.storing.Store.{Store}
 use Rattle.strings.specs.declared.storing.Body.{Body}
 use Rattle.strings.specs.declared.quick.Opened.{Opened}
 use Rattle.strings.specs.declared.quick.Segment.{Segment}
-use Rattle.strings.specs.declared.quick.Quick.{Quick}
-use Rattle.strings.specs.declared.quick.Quick.TheVariants as Quick'
 use Rattle.strings.specs.declared.reading.Fit.{Fit}
 use Rattle.strings.specs.declared.reading.Fit.TheVariants as Fit'
-use Rattle.strings.specs.declared.reading.Checked.{Checked}
-use Rattle.strings.specs.declared.reading.Checked.TheVariants as Checked'
-use Rattle.strings.specs.declared.reading.Tried.{Tried}
-use Rattle.strings.specs.declared.reading.Tried.TheVariants as Tried'
+use Rattle.strings.specs.declared.reading.NotUtf8.{NotUtf8}
+use Rattle.strings.specs.declared.quick.Untold.{Untold}
+use Rattle.strings.specs.declared.quick.Untold.TheVariants as Untold'
 use Rattle.strings.specs.Plain.{is_plain}
 use Rattle.strings.specs.Storing.{Stored}
 
@@ -97,16 +96,6 @@ pub record Rewrites (σ : Settings) (t out : List ℕ) (r : Bool) (after : List 
   pub same : length after ≡ length out
   pub done : r ≡ true → (v : List ℕ) → read σ t ≡ written v → length v ≡ length out → after ≡ v
 
--- an answer is the definition's; without one, what the definition makes of the buffer is the same as before
-abbrev pub QuickBy : Answer → List ℕ → Quick → List ℕ → Type 0
-QuickBy a out (Quick'.Borrowed f u) after = Reads a out (Read'.Borrowed f u) after
-QuickBy a out (Quick'.Written n) after = Reads a out (Read'.Written n) after
-QuickBy a out (Quick'.NoRoom n) after = Reads a out (Read'.NoRoom n) after
-QuickBy a out Quick'.Unread after = (length after ≡ length out) × (buffer_of after a ≡ buffer_of out a)
-
-pub record QuickReads (a : Answer) (out : List ℕ) (r : Quick) (after : List ℕ) : Type 0 where
-  pub by : QuickBy a out r after
-
 -- how a text may be read
 abbrev pub FitBy : Settings → List ℕ → Fit → Type 0
 FitBy σ t Fit'.Plain = (is_plain σ t ≡ true) × (utf8 t ≡ true)
@@ -117,20 +106,19 @@ pub record FitsAs (σ : Settings) (t : List ℕ) (r : Fit) : Type 0 where
   pub by : FitBy σ t r
 
 -- a text that is tested to be UTF-8 before it is read
-abbrev pub ChecksBy : Bool → Answer → List ℕ → Checked → List ℕ → Type 0
-ChecksBy u a out Checked'.NotUtf8 after = (u ≡ false) × (after ≡ out)
-ChecksBy u a out (Checked'.Text r) after = (u ≡ true) × Reads a out r after
+abbrev pub ChecksBy : Bool → Answer → List ℕ → Result (Result ReadText ReadRefusal) NotUtf8 → List ℕ → Type 0
+ChecksBy u a out (Ok r) after = (u ≡ true) × Reads a out r after
+ChecksBy u a out (Err n) after = (u ≡ false) × (after ≡ out)
 
-pub record Checks (u : Bool) (a : Answer) (out : List ℕ) (r : Checked) (after : List ℕ) : Type 0 where
+pub record Checks (u : Bool) (a : Answer) (out : List ℕ) (r : Result (Result ReadText ReadRefusal) NotUtf8) (after : List ℕ) : Type 0 where
   pub by : ChecksBy u a out r after
 
 -- what is told of it without the reading by units; where it is left to read, it is UTF-8, and the answer makes of the buffer what it made of it before
-abbrev pub TriesBy : Bool → Answer → List ℕ → Tried → List ℕ → Type 0
-TriesBy u a out (Tried'.Borrowed f e) after = Checks u a out (Checked'.Text (Read'.Borrowed f e)) after
-TriesBy u a out (Tried'.Written n) after = Checks u a out (Checked'.Text (Read'.Written n)) after
-TriesBy u a out (Tried'.NoRoom n) after = Checks u a out (Checked'.Text (Read'.NoRoom n)) after
-TriesBy u a out Tried'.Unread after = (u ≡ true) × QuickReads a out Quick'.Unread after
-TriesBy u a out Tried'.NotUtf8 after = Checks u a out Checked'.NotUtf8 after
+abbrev pub TriesBy : Bool → Answer → List ℕ → Result ReadText Untold → List ℕ → Type 0
+TriesBy u a out (Ok t) after = (u ≡ true) × Reads a out (Ok t) after
+TriesBy u a out (Err (Untold'.NoRoom n)) after = (u ≡ true) × Reads a out (Err (ReadRefusal'.NoRoom n)) after
+TriesBy u a out (Err Untold'.Unread) after = (u ≡ true) × ((length after ≡ length out) × (buffer_of after a ≡ buffer_of out a))
+TriesBy u a out (Err Untold'.NotUtf8) after = (u ≡ false) × (after ≡ out)
 
-pub record Tries (u : Bool) (a : Answer) (out : List ℕ) (r : Tried) (after : List ℕ) : Type 0 where
+pub record Tries (u : Bool) (a : Answer) (out : List ℕ) (r : Result ReadText Untold) (after : List ℕ) : Type 0 where
   pub by : TriesBy u a out r after

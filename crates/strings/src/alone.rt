@@ -7,22 +7,25 @@ ghost use Rattle.strings.specs.Answers.{BodyInside, body_of, place_of, placed_of
 
 use escapes::reading::read_units;
 use leaves::texts::string_literal_embeds_nul;
-use meaning::{Read, Settings};
+use meaning::{ReadRefusal, ReadText, Settings};
 use spellings::spelling::{Body, Spelled, string_spelling};
 
 // What was read of a text's part, from a place up to another, as an answer on the text.
 // Rules out: a place counted from the body's end (must-fail: place_from_the_end).
-fn placed(answer: Read, from: usize, until: usize) -> Read
+fn placed(
+    answer: Result<ReadText, ReadRefusal>,
+    from: usize,
+    until: usize,
+) -> Result<ReadText, ReadRefusal>
     requires { from + place_of answer ≤ until }
     ensures { result ≡ placed_of from until answer }
 {
     match answer {
-        Read::Borrowed { from: _, until: _ } => Read::Borrowed { from, until },
-        Read::Written { len } => Read::Written { len },
-        Read::Refused { place } => Read::Refused {
+        Ok(ReadText::Borrowed { from: _, until: _ }) => Ok(ReadText::Borrowed { from, until }),
+        Err(ReadRefusal::At { place }) => Err(ReadRefusal::At {
             place: from + place,
-        },
-        Read::NoRoom { needed } => Read::NoRoom { needed },
+        }),
+        other => other,
     }
 }
 
@@ -39,8 +42,9 @@ fn escape_in<'a>(text: &'a [u8], backslash: &'a [u8], start: usize, end: usize) 
 }
 
 // Reads a body of a text, by its family and its escape character.
+// Stays: this Body is a spelling's; that of `fill` and `close_segment` is another, so that nothing travels through all three.
 // Rules out: the body taken for the escape character (must-fail: body_for_escape).
-pub(crate) fn read_body(text: &[u8], body: Body, out: &mut [u8]) -> Read
+pub(crate) fn read_body(text: &[u8], body: Body, out: &mut [u8]) -> Result<ReadText, ReadRefusal>
     requires { BodyInside (length text.now) body }
     ensures { Reads (body_of text.now body) out.old result out.new }
 {
@@ -66,13 +70,17 @@ pub(crate) fn spell_alone(text: &[u8], settings: Settings) -> Spelled
 
 // Reads a text as it is spelled.
 // Rules out: what is not spelled told behind its start; a dollar body shown empty (must-fail: refused_behind_its_start, dollar_shown_empty).
-pub(crate) fn read_spelled(text: &[u8], spelled: Spelled, out: &mut [u8]) -> Read
+pub(crate) fn read_spelled(
+    text: &[u8],
+    spelled: Spelled,
+    out: &mut [u8],
+) -> Result<ReadText, ReadRefusal>
     requires { SpelledInside (length text.now) spelled }
     ensures { Reads (spelled_as text.now spelled) out.old result out.new }
 {
     match spelled {
         Spelled::Body(body) => read_body(text, body, out),
-        Spelled::Dollar { from, until } => Read::Borrowed { from, until },
-        Spelled::Unspelt => Read::Refused { place: 0 },
+        Spelled::Dollar { from, until } => Ok(ReadText::Borrowed { from, until }),
+        Spelled::Unspelt => Err(ReadRefusal::At { place: 0 }),
     }
 }

@@ -1,8 +1,8 @@
 // A turn of reading, for any of the three families: what stands for itself at a text's front, copied, and the unit behind it.
-ghost use Rattle.std.specs.Prelude.{◌≡◌, ◌++◌, ◌+◌, ◌≤◌, length, drop};
+ghost use Rattle.std.specs.Prelude.{◌≡◌, ◌+◌, ◌≤◌, length};
 ghost use Rattle.strings.specs.Quick.{mark_by, other_by, TurnsBehind, Turns, Ends};
 
-use crate::runs::copy_run;
+use crate::runs::{copy_front, copy_run};
 use crate::taking::take_unit;
 use cutting::marks::mark_byte;
 use escapes::units::Family;
@@ -29,6 +29,7 @@ pub(crate) struct Turn {
 }
 
 // The mark that a family's body ends with.
+// Stays: no step is chosen: a byte is told that the family holds, or that is fixed, as its definition `mark_by` tells it.
 fn mark_of(family: Family) -> u8
     ensures { result ≡ mark_by family }
 {
@@ -40,6 +41,7 @@ fn mark_of(family: Family) -> u8
 }
 
 // The other byte that ends a run: the backslash where it is active, else the mark again.
+// Stays: no step is chosen: a byte is told by the family, as its definition `other_by` tells it.
 fn other_of(family: Family) -> u8
     ensures { result ≡ other_by family }
 {
@@ -55,18 +57,7 @@ fn other_of(family: Family) -> u8
     }
 }
 
-// Puts four bytes at a buffer's start: those that count, and what is written over.
-fn put_four(bytes: [u8; 4], out: &mut [u8])
-    requires { 4 ≤ length out.old }
-    ensures { out.new ≡ bytes ++ drop 4 out.old }
-{
-    out[0] = bytes[0];
-    out[1] = bytes[1];
-    out[2] = bytes[2];
-    out[3] = bytes[3];
-}
-
-// The unit behind a run that stands in the buffer already.
+// The unit behind a run that stands in the buffer already: four bytes are put, of which those that count are left, and the others written over.
 fn take_behind(text: &[u8], run: usize, family: Family, out: &mut [u8]) -> Turn
     requires { (run ≤ length text.now) × (run + 4 ≤ length out.old) }
     ensures { TurnsBehind family text.now run out.old result out.new }
@@ -80,8 +71,7 @@ fn take_behind(text: &[u8], run: usize, family: Family, out: &mut [u8]) -> Turn
             ends: true,
         };
     }
-    let bytes = unit.bytes;
-    put_four(bytes, &mut out[run..]);
+    copy_front::<4>(&unit.bytes, &mut out[run..]);
     Turn {
         at: run + unit.len,
         n: run + unit.put,

@@ -6,7 +6,7 @@ ghost use Rattle.meaning.specs.Chars.{utf8};
 ghost use Rattle.meaning.specs.Reading.{read};
 ghost use Rattle.cutting.specs.Marks.{mark_of};
 ghost use Rattle.strings.specs.declared.chunks.End.TheVariants.{Closed};
-ghost use Rattle.strings.specs.Driving.{family_by, is_bits, Opens, Closes, ReadsSegment, Drives, Rewrites, QuickReads};
+ghost use Rattle.strings.specs.Driving.{family_by, is_bits, Opens, Closes, ReadsSegment, Drives, Rewrites, Tries};
 
 use crate::chunks::End;
 use crate::storing::{Body, Store, put_behind, read_body};
@@ -16,16 +16,16 @@ use escapes::units::Family;
 use leaves::bytes::byte_at;
 use leaves::names::is_mark;
 use leaves::puts::put_bytes;
-use meaning::Settings;
+use meaning::{ReadText, Settings};
 use spaces::gap_at;
 
-// An answer, or none. It is no `Read` with a case more: one enum inside another is moved byte by byte, which cost 3 ns a row.
+// Why a text is not read without the reading by units: there is no room, it is left to that, or it is not UTF-8.
+// Stays: no `ReadRefusal` in it, and it in no Option: one enum inside another is moved byte by byte, which cost 11 instructions of a row's 560 to 800.
 #[derive(Clone, Copy)]
-pub(crate) enum Quick {
-    Borrowed { from: usize, until: usize },
-    Written { len: usize },
+pub(crate) enum Untold {
     NoRoom { needed: usize },
     Unread,
+    NotUtf8,
 }
 
 // A segment's opening: the place behind it, and how its body is read.
@@ -60,6 +60,7 @@ fn mark_from(byte: u8) -> Mark
 }
 
 // B or X, in either case: bits, which no string is.
+// Stays: no method of u8 tests these four letters; its definition names them so, and | makes no branch of them.
 fn is_bits(byte: u8) -> bool
     ensures { result ≡ is_bits byte }
 {
@@ -67,6 +68,7 @@ fn is_bits(byte: u8) -> bool
 }
 
 // E or N, in either case: a string's, where a quote mark stands behind it.
+// Stays: no method of u8 tests these four letters; the clause names them so, and | makes no branch of them.
 fn is_string_letter(byte: u8) -> bool
     ensures { result ≡ has byte (ascii "EeNn") }
 {
@@ -232,35 +234,39 @@ fn write_again(text: &[u8], settings: Settings, chunk: &mut [u8], out: &mut [u8]
     driven.read
 }
 
-// Reads a text that is UTF-8 and holds no NUL, if it can be read so. The buffer is touched once all is known: a first walk only counts what fills the chunk up. What
+// Reads a text that is UTF-8 and holds no NUL, if it can be read so; else there is no answer. The buffer is touched once all is known: a first walk only counts what fills the chunk up. What
 // never filled it is copied out of it, anything else is walked again and written. That the second walk reads what the first has read need not be shown: if it did not, the reading by units would write the same.
-pub(crate) fn read_quick(text: &[u8], settings: Settings, out: &mut [u8]) -> Quick
+pub(crate) fn read_quick(
+    text: &[u8],
+    settings: Settings,
+    out: &mut [u8],
+) -> Result<ReadText, Untold>
     requires { (has 0 text.now ≡ false) × (utf8 text.now ≡ true) }
-    ensures { QuickReads (read settings text.now) out.old result out.new }
+    ensures { Tries true (read settings text.now) out.old result out.new }
 {
     let mut chunk = [0u8; 240];
     let mut nowhere = [0u8; 1];
     let driven = drive(text, settings, &mut chunk, &mut nowhere);
     if !driven.read {
-        return Quick::Unread;
+        return Err(Untold::Unread);
     }
     if driven.plain {
         let until = text.len() - 1;
-        return Quick::Borrowed {
+        return Ok(ReadText::Borrowed {
             from: driven.from,
             until,
-        };
+        });
     }
     let needed = driven.total + driven.n;
     if out.len() < needed {
-        return Quick::NoRoom { needed };
+        return Err(Untold::NoRoom { needed });
     }
     if driven.total == 0 {
         put_bytes(&chunk[..needed], out);
-        return Quick::Written { len: needed };
+        return Ok(ReadText::Written { len: needed });
     }
     if write_again(text, settings, &mut chunk, &mut out[..needed]) {
-        return Quick::Written { len: needed };
+        return Ok(ReadText::Written { len: needed });
     }
-    Quick::Unread
+    Err(Untold::Unread)
 }

@@ -7,27 +7,14 @@ ghost use Rattle.strings.specs.Driving.{FitsAs, Checks, Tries};
 
 use crate::joined::read_by_units;
 use crate::plain::{is_plain, is_plain_ascii};
-use crate::quick::{Quick, read_quick};
-use meaning::{Read, Settings};
+use crate::quick::{Untold, read_quick};
+use meaning::{ReadRefusal, ReadText, Settings};
 use utf8::ascii::is_plain_run;
 use utf8::check::{is_clean, is_utf8};
 
-// What a text is, before its reading is told: not UTF-8, or read.
+// A text is not UTF-8, and nothing of it is read.
 #[derive(Clone, Copy)]
-pub enum Checked {
-    NotUtf8,
-    Text(Read),
-}
-
-// What is told of a text without the reading by units: its reading, that it is left to read, or that it is not UTF-8.
-#[derive(Clone, Copy)]
-pub(crate) enum Tried {
-    Borrowed { from: usize, until: usize },
-    Written { len: usize },
-    NoRoom { needed: usize },
-    Unread,
-    NotUtf8,
-}
+pub struct NotUtf8;
 
 // How a text may be read: as its own body, quickly, or by units alone.
 #[derive(Clone, Copy)]
@@ -59,7 +46,7 @@ fn fit_of(text: &[u8], settings: Settings) -> Fit
 // begins, which would else stand on top of it with some 500 bytes more of stack.
 // Rules out: a text with a NUL told as not UTF-8; a plain body shown from its mark on, or nothing of it; the setting lost; the first byte passed over (must-fail:
 // nul_told_as_not_utf8, plain_from_its_mark, plain_shown_empty, setting_lost_on_the_way, first_byte_passed_over).
-fn try_string(text: &[u8], settings: Settings, out: &mut [u8]) -> Tried
+fn try_string(text: &[u8], settings: Settings, out: &mut [u8]) -> Result<ReadText, Untold>
     ensures { Tries (utf8 text.now) (read settings text.now) out.old result out.new }
 {
     // A part of the text comes by its place and its length. The slice as it was lent would come through memory, stored by halves and loaded whole, which the
@@ -68,54 +55,49 @@ fn try_string(text: &[u8], settings: Settings, out: &mut [u8]) -> Tried
     match fit_of(text, settings) {
         Fit::Plain => {
             let until: usize = text.len() - 1;
-            Tried::Borrowed { from: 1, until }
+            Ok(ReadText::Borrowed { from: 1, until })
         }
-        Fit::Clean => {
-            match read_quick(text, settings, out) {
-                Quick::Borrowed { from, until } => Tried::Borrowed { from, until },
-                Quick::Written { len } => Tried::Written { len },
-                Quick::NoRoom { needed } => Tried::NoRoom { needed },
-                Quick::Unread => Tried::Unread,
-            }
-        }
+        Fit::Clean => read_quick(text, settings, out),
         Fit::Other => {
             if is_utf8(text) {
-                return Tried::Unread;
+                return Err(Untold::Unread);
             }
-            Tried::NotUtf8
+            Err(Untold::NotUtf8)
         }
     }
 }
 
 // Reads a string's text, which is tested to be UTF-8. Whoever asks tells a plain text in ASCII before, by `is_plain_ascii`: that costs a scan where this costs a call.
 // Rules out: 6 for bytes that are not UTF-8; the setting lost (must-fail: not_utf8_told_as_refused, setting_lost_by_units).
-pub fn read_string(text: &[u8], settings: Settings, out: &mut [u8]) -> Checked
+pub fn read_string(
+    text: &[u8],
+    settings: Settings,
+    out: &mut [u8],
+) -> Result<Result<ReadText, ReadRefusal>, NotUtf8>
     ensures { Checks (utf8 text.now) (read settings text.now) out.old result out.new }
 {
     match try_string(text, settings, out) {
-        Tried::Borrowed { from, until } => Checked::Text(Read::Borrowed { from, until }),
-        Tried::Written { len } => Checked::Text(Read::Written { len }),
-        Tried::NoRoom { needed } => Checked::Text(Read::NoRoom { needed }),
-        Tried::Unread => Checked::Text(read_by_units(text, settings, out)),
-        Tried::NotUtf8 => Checked::NotUtf8,
+        Ok(text) => Ok(Ok(text)),
+        Err(Untold::NoRoom { needed }) => Ok(Err(ReadRefusal::NoRoom { needed })),
+        Err(Untold::Unread) => Ok(read_by_units(text, settings, out)),
+        Err(Untold::NotUtf8) => Err(NotUtf8),
     }
 }
 
 // Reads any bytes as a string's text: what is not UTF-8 has a meaning too.
 // Rules out: a plain body shown with its opening mark, or nothing of it; the setting lost (must-fail: bytes_from_the_mark, bytes_shown_empty,
 // bytes_with_the_setting_off).
-pub fn read_bytes(text: &[u8], settings: Settings, out: &mut [u8]) -> Read
+pub fn read_bytes(text: &[u8], settings: Settings, out: &mut [u8]) -> Result<ReadText, ReadRefusal>
     ensures { Reads (read settings text.now) out.old result out.new }
 {
     if is_plain_ascii(text, settings) {
         let until = text.len() - 1;
-        return Read::Borrowed { from: 1, until };
+        return Ok(ReadText::Borrowed { from: 1, until });
     }
     match try_string(text, settings, out) {
-        Tried::Borrowed { from, until } => Read::Borrowed { from, until },
-        Tried::Written { len } => Read::Written { len },
-        Tried::NoRoom { needed } => Read::NoRoom { needed },
-        Tried::Unread => read_by_units(text, settings, out),
-        Tried::NotUtf8 => read_by_units(text, settings, out),
+        Ok(text) => Ok(text),
+        Err(Untold::NoRoom { needed }) => Err(ReadRefusal::NoRoom { needed }),
+        Err(Untold::Unread) => read_by_units(text, settings, out),
+        Err(Untold::NotUtf8) => read_by_units(text, settings, out),
     }
 }

@@ -5,56 +5,15 @@ ghost use Rattle.strings.specs.Quick.{Copies};
 
 use leaves::words::eight_run;
 
-// The first sixteen bytes of a text. They go through an array, so that they are loaded and stored as one.
-fn block_of(text: &[u8]) -> [u8; 16]
-    requires { 16 ≤ length text.now }
-    ensures { result ≡ take 16 text.now }
+// Copies the first N bytes of a text to a buffer's start. They go through an array, so that they are loaded and stored as one: for all that is known of two slices,
+// they might overlap, and which of them comes first would be asked each time.
+pub(crate) fn copy_front<const N: usize>(text: &[u8], out: &mut [u8])
+    requires { (N ≤ length text.now) × (N ≤ length out.old) }
+    ensures { out.new ≡ take N text.now ++ drop N out.old }
 {
-    let mut block = [0u8; 16];
-    let mut j: usize = 0;
-    while j < 16 {
-        block[j] = text[j];
-        j += 1;
-    }
-    block
-}
-
-// Puts sixteen bytes at a buffer's start.
-fn put_block(block: [u8; 16], out: &mut [u8])
-    requires { 16 ≤ length out.old }
-    ensures { out.new ≡ block ++ drop 16 out.old }
-{
-    let mut j: usize = 0;
-    while j < 16 {
-        out[j] = block[j];
-        j += 1;
-    }
-}
-
-// The first eight bytes of a text, through an array as well.
-fn eight_of(text: &[u8]) -> [u8; 8]
-    requires { 8 ≤ length text.now }
-    ensures { result ≡ take 8 text.now }
-{
-    let mut eight = [0u8; 8];
-    let mut j: usize = 0;
-    while j < 8 {
-        eight[j] = text[j];
-        j += 1;
-    }
-    eight
-}
-
-// Puts eight bytes at a buffer's start.
-fn put_eight(eight: [u8; 8], out: &mut [u8])
-    requires { 8 ≤ length out.old }
-    ensures { out.new ≡ eight ++ drop 8 out.old }
-{
-    let mut j: usize = 0;
-    while j < 8 {
-        out[j] = eight[j];
-        j += 1;
-    }
+    let mut block = [0u8; N];
+    block.copy_from_slice(&text[..N]);
+    out[..N].copy_from_slice(&block);
 }
 
 // The last bytes of a text, less than eight, one by one.
@@ -62,16 +21,13 @@ fn copy_last(text: &[u8], first: u8, second: u8, out: &mut [u8]) -> usize
     requires { (length text.now < 8) × (16 ≤ length out.old) }
     ensures { Copies first second text.now out.old result out.new }
 {
-    let mut j: usize = 0;
-    while j < text.len() {
-        let byte = text[j];
-        if (byte == first) | (byte == second) {
-            return j;
+    for (place, byte) in text.iter().enumerate() {
+        if (*byte == first) | (*byte == second) {
+            return place;
         }
-        out[j] = byte;
-        j += 1;
+        out[place] = *byte;
     }
-    j
+    text.len()
 }
 
 // The last bytes of a text, from eight to fifteen, by two words that overlap: the first eight and the last eight. Most segments end with as many, and one by one
@@ -82,8 +38,8 @@ fn copy_short(text: &[u8], first: u8, second: u8, out: &mut [u8]) -> usize
     ensures { Copies first second text.now out.old result out.new }
 {
     let last = text.len() - 8;
-    put_eight(eight_of(text), out);
-    put_eight(eight_of(&text[last..]), &mut out[last..]);
+    copy_front::<8>(text, out);
+    copy_front::<8>(&text[last..], &mut out[last..]);
     let low = eight_run(text, 0, first, second);
     if low < 8 {
         return low;
@@ -102,7 +58,7 @@ pub(crate) fn copy_run(text: &[u8], first: u8, second: u8, out: &mut [u8]) -> us
     if text.len() < 16 {
         return copy_short(text, first, second, out);
     }
-    put_block(block_of(text), out);
+    copy_front::<16>(text, out);
     let low = eight_run(text, 0, first, second);
     if low < 8 {
         return low;

@@ -14,6 +14,7 @@ use scalars::encoding::{encode_utf8, is_scalar};
 use utf8::tail::{Utf8Tail, is_whole, utf8_tail_push};
 
 // What was taken: `len` bytes of the text, which stand for the first `put` of four bytes; 0 of the text for nothing.
+// Stays: no heap; four bytes by value, all of which are put, and those that do not count are then written over; `len` counts bytes of the text.
 #[derive(Clone, Copy)]
 pub(crate) struct Taken {
     pub len: usize,
@@ -118,8 +119,7 @@ fn char_taken(text: &[u8]) -> Taken
     let mut bytes = [0u8; 4];
     let mut tail = Utf8Tail::Start;
     let mut at: usize = 0;
-    let mut n: usize = 0;
-    while n < 4 {
+    for n in 0..4 {
         let raw = raw_byte(&text[at..]);
         if raw.len == 0 {
             return none();
@@ -127,11 +127,10 @@ fn char_taken(text: &[u8]) -> Taken
         bytes[n] = raw.byte;
         tail = utf8_tail_push(tail, raw.byte);
         at += raw.len;
-        n += 1;
         if is_whole(tail) {
             return Taken {
                 len: at,
-                put: n,
+                put: n + 1,
                 bytes,
             };
         }

@@ -2,44 +2,18 @@
 use mathlib.Core.Path.{◌≡◌, refl, sym, ap, ◌∙◌}
 use mathlib.Core.Bool.{Bool, true, false, ◌&&◌, ◌||◌, not, and-false, false≢true, or_assoc, or-false}
 use mathlib.Core.List.{List, [], ◌∷◌}
-use Prim.Native.Nat.{ℕ, zero, suc, ◌+◌, ◌-◌, ◌≤◌, ◌<◌}
-use native.Mathlib.Numerals.{add-one}
+use Prim.Native.Nat.{ℕ, zero, suc, ◌-◌}
 use native.Mathlib.Omega.{arith}
 use lib.Dec.{eqb, ltb, eqb-suc-suc, eqb-zero-suc}
-use lib.ListN.{length, take, drop, drop_of_length-le}
-use lib.Seq.{drop-cons}
+use lib.ListN.{length, take, drop}
 use borrow.Author.Tests.{eq-eqb, ne_eqb, not-true, not-false}
 use Rattle.meaning.specs.Bytes.{◌!◌, part, within, quote, digit}
 use Rattle.meaning.specs.Chars.{Due, due, broken, lead, laters, width, width_by, space}
 use Rattle.meaning.specs.Spelling.{encloses, is_one, legal_escape}
-use Rattle.laws.proofs.basics.Tests.{within_yes, within_below, within_above}
+use Rattle.laws.proofs.basics.Lists.{part_tail}
 use Rattle.laws.proofs.cutting.Arguments.{argument_inner}
 use Rattle.uescape.specs.declared.Argument.TheVariants.{Legal, Illegal}
 use Rattle.uescape.specs.Clauses.{all_later, legal_by, argument_of}
-
--- LATER BYTES from a place on: those before i are 80 to BF hex
-pub record LaterSoFar (l : List ℕ) (from i : ℕ) : Type 0 where
-  pub rest : all_later (drop from l) ≡ all_later (drop i l)
-
-pub later_none : (l : List ℕ) (from : ℕ) → LaterSoFar l from from
-later_none l from = record { rest = refl }
-
-module _ (l : List ℕ) (from i : ℕ) (s : LaterSoFar l from i) where
-  pub later_end : length l ≤ i → true ≡ all_later (drop from l)
-  later_end h = sym (s.rest ∙ rw (drop_of_length-le l h))
-
-  module _ (h : i < length l) where
-    later_at : all_later (drop from l) ≡ (within 0x80 0xBF (l ! i) && all_later (drop (suc i) l))
-    later_at = s.rest ∙ ap all_later (drop-cons l i 0 h)
-
-    pub later_below : l ! i < 0x80 → false ≡ all_later (drop from l)
-    later_below b = sym (later_at ∙ rw (within_below 0x80 0xBF (l ! i) b))
-
-    pub later_above : 0xBF < l ! i → false ≡ all_later (drop from l)
-    later_above b = sym (later_at ∙ rw (within_above 0x80 0xBF (l ! i) b))
-
-    pub later_more : 0x80 ≤ l ! i → l ! i ≤ 0xBF → LaterSoFar l from (i + 1)
-    later_more b a = record { rest = rw add-one (later_at ∙ rw (within_yes 0x80 0xBF (l ! i) b a)) }
 
 -- ONE CHARACTER: as many bytes as the first says, the later ones 80 to BF hex
 swap : (x y z : Bool) → (x && (y && z)) ≡ (y && (x && z))
@@ -56,23 +30,20 @@ one_all : (d : Due) (t : List ℕ) → is_one d t ≡ (eqb (width_by d) (suc (le
 one_all broken t = rw (eqb-zero-suc (length t))
 one_all (due n lo hi) t = laters_all n t
 
-pub legal_empty : (l : List ℕ) → length l ≡ 0 → false ≡ legal_escape l
-legal_empty [] z = refl
-legal_empty (b ∷ t) z = absurd (omega arith)
-
 -- by the first byte's width
 pub legal_not : (l : List ℕ) → (length l ≡ 0 → ⊥) → (w : ℕ) → w ≡ width (l ! 0) → (w ≡ length l → ⊥) → false ≡ legal_escape l
 unfolding width
 legal_not [] z w ew n = absurd (z refl)
 legal_not (b ∷ t) z w ew n = rw (one_all (lead b) t, ← ew, ne_eqb w (suc (length t)) n)
 
-pub legal_by_lem : (l : List ℕ) → (length l ≡ 0 → ⊥) → (w : ℕ) → w ≡ width (l ! 0) → w ≡ length l → (x : Bool) → x ≡ all_later (drop 1 l)
+pub legal_by_lem : (l : List ℕ) → (length l ≡ 0 → ⊥) → (w : ℕ) → w ≡ width (l ! 0) → w ≡ length l → (x : Bool) → x ≡ all_later (take (length l - 1) (drop 1 l))
     → (d : ℕ) → d ≡ digit (l ! 0) → (s : ℕ) → s ≡ space (drop 0 l)
     → (x && ltb 15 d && not (eqb (l ! 0) 43 || eqb (l ! 0) 39 || eqb (l ! 0) 34) && eqb s 0) ≡ legal_escape l
 unfolding width
 legal_by_lem [] z w ew e x ex d ed s es = absurd (z refl)
 legal_by_lem (b ∷ t) z w ew e x ex d ed s es =
-    rw (one_all (lead b) t, ← ew, eq-eqb w (suc (length t)) e, ← ex, ← ed, ← es) (simp (or_assoc, or-false))
+    let ey : x ≡ all_later t = ex ∙ ap (λ (u : List ℕ). all_later u) (part_tail (b ∷ t) 1) in
+    rw (one_all (lead b) t, ← ew, eq-eqb w (suc (length t)) e, ← ey, ← ed, ← es) (simp (or_assoc, or-false))
 
 -- AN ARGUMENT in quotes
 legal_some : (e : List ℕ) → legal_escape e ≡ true → Legal ≡ legal_by e

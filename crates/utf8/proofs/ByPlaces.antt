@@ -3,9 +3,8 @@
 use Rattle.std.proofs.Common.{◌≡◌, ℕ, zero, suc, ◌≤◌, Bool, true, false, not, ◌&&◌, ◌||◌, eqb, leb, List, [], ◌∷◌, length, sym, refl, ap, ◌∙◌, arith, leb-false}
 use mathlib.Core.Bool.{and-false}
 use borrow.Author.Tests.{lt-leb}
-use Rattle.meaning.specs.Bytes.{within}
 use Rattle.std.specs.Prelude.{if◌then◌else◌}
-use Rattle.meaning.specs.Chars.{Due, due, broken, push, pushes, whole, utf8}
+use Rattle.meaning.specs.Chars.{due, broken, push, pushes, whole, utf8}
 use Rattle.laws.proofs.basics.Tests.{or_left, or_right, within_bounds}
 use Rattle.laws.proofs.utf8.Utf8.{pushes_broken}
 use Rattle.leaves.specs.Blocks.{passes}

@@ -4,3 +4,4 @@ pub mod ByPlaces
 pub mod PlaceScans
 pub mod Pushing
 pub mod States
+pub mod StdUtf8

@@ -1,5 +1,6 @@
 -- The scans by places: what stands at a place is told by the four bytes up to it; a front byte after byte, the rest by blocks. Assumes nothing.
-use Rattle.std.proofs.Common.{◌≡◌, ℕ, zero, suc, ◌+◌, ◌-◌, ◌<◌, ◌≤◌, Bool, true, false, not, ◌&&◌, ◌||◌, eqb, leb, List, [], ◌∷◌, length, get_or, drop, sym, refl, ap, ◌∙◌, add-one, arith, drop-cons, ne_eqb, le-leb}
+use Rattle.std.proofs.Common.{◌≡◌, ℕ, zero, suc, ◌+◌, ◌-◌, ◌<◌, ◌≤◌, Bool, true, false, not, ◌&&◌, ◌||◌, leb, List, [], ◌∷◌, length, get_or, drop, sym, refl, ap, ◌∙◌, add-one, arith, drop-cons, ne_eqb, le-leb}
+use mir.Val.{bool_byte}
 use mathlib.Core.Bool.{and-true, and-false}
 use borrow.Author.Tests.{not-true, not-false}
 use Rattle.meaning.specs.Bytes.{◌!◌, within, has}
@@ -7,6 +8,7 @@ use Rattle.std.specs.Prelude.{if◌then◌else◌}
 use Rattle.meaning.specs.Chars.{utf8}
 use Rattle.leaves.specs.Blocks.{passes}
 use Rattle.leaves.proofs.Scans.{passes_append, Counting, counting_start, counting_on, Before, block_passes, block_fails, block_last}
+use Rattle.leaves.proofs.Chunks.{byte_one}
 use Rattle.utf8.specs.Places.{low_of, high_of, is_due, begins, follows, fits, fitted, is_one, padded}
 use Rattle.utf8.proofs.ByPlaces.{due_behind, by_places}
 
@@ -61,9 +63,9 @@ module _ (least : ℕ) (t : List ℕ) where
   places_start n at h = counting_start is_one n (fitted least 0 0 0 t) at (omega (arith, long))
 
   pub places_on : {n at c j : ℕ} → Counting is_one n (fitted least 0 0 0 t) at c j → 3 ≤ at → j < n → (x : Bool)
-      → x ≡ fits least (t ! (at + j - 3)) (t ! (at + j - 2)) (t ! (at + j - 1)) (t ! (at + j)) → (k : ℕ) → k ≡ (if x then 1 else 0)
+      → x ≡ fits least (t ! (at + j - 3)) (t ! (at + j - 2)) (t ! (at + j - 1)) (t ! (at + j)) → (k : ℕ) → k ≡ bool_byte x
       → Counting is_one n (fitted least 0 0 0 t) at (c + k) (j + 1)
-  places_on {n} {at} {c} {j} v f h x e k ek = counting_on v h x (e ∙ sym (place_one (at + j) (omega arith) (omega (arith, v.room, long)))) k ek
+  places_on {n} {at} {c} {j} v f h x e k ek = counting_on v h x (e ∙ sym (place_one (at + j) (omega arith) (omega (arith, v.room, long)))) k (byte_one x k ek)
 
   -- BLOCKS, from the fourth place on
   pub record Fitting (i : ℕ) : Type 0 where
@@ -127,8 +129,8 @@ module _ (least : ℕ) (t : List ℕ) where
     fronting_end h = let z : i ≡ n = omega (arith, v.inside) in sym (ap (λ (m : ℕ). passes is_one m (fitted least 0 0 0 t)) (sym z) ∙ v.pass)
 
   -- the first three do not fit
-  pub three_fail : 19 ≤ length t → (x : Bool) → x ≡ passes is_one 3 (fitted least 0 0 0 t) → not x ≡ true → false ≡ passes is_one (length t) (fitted least 0 0 0 t)
-  three_fail h x e y = front_not 3 (length t - 3) (length t) (omega arith) (sym e ∙ not-true x y)
+  pub three_fail : 19 ≤ length t → (x : Bool) → x ≡ passes is_one 3 (fitted least 0 0 0 t) → x ≡ false → x ≡ passes is_one (length t) (fitted least 0 0 0 t)
+  three_fail h x e y = y ∙ front_not 3 (length t - 3) (length t) (omega arith) (sym e ∙ y)
 
   -- THE END, and the answer
   due_end : (l : List ℕ) (p₃ p₂ p₁ : ℕ) → due_behind p₃ p₂ p₁ l

@@ -6,9 +6,8 @@ ghost use Rattle.meaning.specs.Chars.{utf8};
 ghost use Rattle.leaves.specs.Blocks.{passes};
 ghost use Rattle.utf8.specs.Places.{low_of, high_of, is_due, fits, fitted, is_one, padded};
 
-use leaves::blocks::one_if;
-
 // From where on the second byte of a character may lie, by its first.
+// Stays: no value of a type is converted: it is a bound of a range, by a byte, and its definition `low_of` has just these ifs.
 // Rules out: an overlong form of three bytes accepted (must-fail: second_byte_lost).
 fn second_low(first: u8) -> u8
     ensures { result ≡ low_of first }
@@ -23,6 +22,7 @@ fn second_low(first: u8) -> u8
 }
 
 // Up to where it may lie.
+// Stays: no value of a type is converted: it is a bound of a range, by a byte, and its definition `high_of` has just these ifs.
 // Rules out: a surrogate; a scalar above 10FFFF (must-fail: surrogate_accepted).
 fn second_high(first: u8) -> u8
     ensures { result ≡ high_of first }
@@ -56,34 +56,32 @@ fn fits_behind(third: u8, second: u8, before: u8, byte: u8, least: u8) -> bool
 }
 
 // Whether the bytes at n places fit, from the fourth place of a text or a later one on. They are counted: a count is compiled to one vector test.
+// Stays: bytes and least go down five inner functions as they came, and no struct says more; n counts places, and is no length of the slice.
 // Rules out: the block at the start asked for any (must-fail: block_at_the_start).
 fn fits_block(bytes: &[u8], at: usize, n: usize, least: u8) -> bool
     requires { (3 ≤ at) × (at + n ≤ length bytes.now) × (n ≤ 32) }
     ensures { result ≡ passes is_one n (drop at (fitted least 0 0 0 bytes.now)) }
 {
     let mut count: u8 = 0;
-    let mut j: usize = 0;
-    while j < n {
+    for j in 0..n {
         let i = at + j;
-        count += one_if(fits_behind(bytes[i - 3], bytes[i - 2], bytes[i - 1], bytes[i], least));
-        j += 1;
+        count += u8::from(fits_behind(bytes[i - 3], bytes[i - 2], bytes[i - 1], bytes[i], least));
     }
     count as usize == n
 }
 
 // Whether all bytes fit, of which the first three do, by blocks of n; the last overlaps the one before it.
+// Stays: n is a block's size, and no length of the slice.
 // Rules out: the least byte forgotten in some blocks (must-fail: least_lost, last_block_asked_less).
 fn fits_by(bytes: &[u8], n: usize, least: u8) -> bool
     requires { (0 < n) × (3 + n ≤ length bytes.now) × (n ≤ 32) × (passes is_one 3 (fitted least 0 0 0 bytes.now) ≡ true) }
     ensures { result ≡ passes is_one (length bytes.now) (fitted least 0 0 0 bytes.now) }
 {
     let last = bytes.len() - n;
-    let mut i: usize = 3;
-    while i < last {
+    for i in (3..last).step_by(n) {
         if !fits_block(bytes, i, n, least) {
             return false;
         }
-        i += n;
     }
     fits_block(bytes, last, n, least)
 }
@@ -97,21 +95,19 @@ fn front_fits(bytes: &[u8], n: usize, least: u8) -> bool
     let mut third: u8 = 0;
     let mut second: u8 = 0;
     let mut before: u8 = 0;
-    let mut i: usize = 0;
-    while i < n {
-        let byte = bytes[i];
-        if !fits_behind(third, second, before, byte, least) {
+    for i in 0..n {
+        if !fits_behind(third, second, before, bytes[i], least) {
             return false;
         }
         third = second;
         second = before;
-        before = byte;
-        i += 1;
+        before = bytes[i];
     }
     true
 }
 
 // The byte k places before the end, or 0.
+// Stays: 0 is no missing answer: it is the byte that `padded` has before a text.
 fn back(bytes: &[u8], k: usize) -> u8
     requires { (0 < k) × (k ≤ 3) }
     ensures { result ≡ padded bytes.now ! (length bytes.now + 3 - k) }
@@ -122,7 +118,7 @@ fn back(bytes: &[u8], k: usize) -> u8
     bytes[bytes.len() - k]
 }
 
-// Whether every byte fits.
+// Whether every byte fits: of a long text the first three one after the other, and the others by blocks of sixteen.
 // Rules out: the least byte forgotten in short texts (must-fail: least_lost_in_short_texts).
 fn all_fit(bytes: &[u8], least: u8) -> bool
     ensures { result ≡ passes is_one (length bytes.now) (fitted least 0 0 0 bytes.now) }
@@ -130,10 +126,7 @@ fn all_fit(bytes: &[u8], least: u8) -> bool
     if bytes.len() < 19 {
         return front_fits(bytes, bytes.len(), least);
     }
-    if !front_fits(bytes, 3, least) {
-        return false;
-    }
-    fits_by(bytes, 16, least)
+    front_fits(bytes, 3, least) && fits_by(bytes, 16, least)
 }
 
 // Whether a slice is UTF-8 and holds no byte below a least one: every byte fits, and none is due at the end.

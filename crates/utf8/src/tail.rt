@@ -61,6 +61,7 @@ fn utf8_lead(byte: u8) -> Utf8Tail
 pub fn utf8_tail_push(tail: Utf8Tail, byte: u8) -> Utf8Tail
     ensures { due_of result ≡ push (due_of tail) byte }
 {
+    // Stays: Broken is a state that no byte leaves, as in `push`, and no refusal of this call: a public function that could not fail still can't.
     match tail {
         Utf8Tail::Start => utf8_lead(byte),
         Utf8Tail::One => due_next(byte, 0x80, 0xBF, Utf8Tail::Start),
@@ -89,15 +90,5 @@ fn due_next(byte: u8, low: u8, high: u8, next: Utf8Tail) -> Utf8Tail
 pub fn is_whole(tail: Utf8Tail) -> bool
     ensures { result ≡ whole (due_of tail) }
 {
-    match tail {
-        Utf8Tail::Start => true,
-        Utf8Tail::One => false,
-        Utf8Tail::Two => false,
-        Utf8Tail::TwoFromA0 => false,
-        Utf8Tail::TwoUpTo9F => false,
-        Utf8Tail::Three => false,
-        Utf8Tail::ThreeFrom90 => false,
-        Utf8Tail::ThreeUpTo8F => false,
-        Utf8Tail::Broken => false,
-    }
+    matches!(tail, Utf8Tail::Start)
 }

@@ -21,6 +21,8 @@ use Rattle.laws.proofs.questions.BlockReturns.{BlockCall, room_from, Returned, b
 use Rattle.valdrabus.specs.declared.told.Told.{Told}
 use Rattle.valdrabus.specs.Numbers.{five_told, text_told, TellsPlace}
 use Rattle.valdrabus.specs.Calls.{outcome_told, string_call}
+use Rattle.std.specs.Prelude.{Result, Ok, Err}
+use Rattle.meaning.specs.declared.Refusal.{Refusal}
 
 -- the four of a single call's numbers, for a text that is written from place b on: a range becomes a start and a length; of refusals 9 keeps its
 -- length, and 6 its place
@@ -30,37 +32,37 @@ four_by b t =
     else if eqb t.number 9 then four 9 0 0 t.second
     else four t.number 0 t.place 0
 
-four_by_lem : (b : ℕ) (r : Text) → four_of b r ≡ four_by b (text_told r)
-four_by_lem b (Text'.Borrowed f u) = refl
-four_by_lem b (Text'.Written n) = ap (four 0 2 b) (sym (sub-zero n))
-four_by_lem b (Text'.Refused (Refusal'.WrongKind e k)) = refl
-four_by_lem b (Text'.Refused (Refusal'.MissingSource s)) = refl
-four_by_lem b (Text'.Refused (Refusal'.InvalidSourceRange s)) = refl
-four_by_lem b (Text'.Refused (Refusal'.NotUtf8 s)) = refl
-four_by_lem b (Text'.Refused (Refusal'.InvalidInteger s)) = refl
-four_by_lem b (Text'.Refused (Refusal'.InvalidString s p)) = refl
-four_by_lem b (Text'.Refused (Refusal'.InvalidBitString s)) = refl
-four_by_lem b (Text'.Refused (Refusal'.InvalidMoney s)) = refl
-four_by_lem b (Text'.Refused (Refusal'.NoRoom n)) = refl
-four_by_lem b (Text'.Refused (Refusal'.InvalidDate s)) = refl
+four_by_lem : (b : ℕ) (r : Result Text Refusal) → four_of b r ≡ four_by b (text_told r)
+four_by_lem b (Ok (Text'.Borrowed f u)) = refl
+four_by_lem b (Ok (Text'.Written n)) = ap (four 0 2 b) (sym (sub-zero n))
+four_by_lem b (Err (Refusal'.WrongKind e k)) = refl
+four_by_lem b (Err (Refusal'.MissingSource s)) = refl
+four_by_lem b (Err (Refusal'.InvalidSourceRange s)) = refl
+four_by_lem b (Err (Refusal'.NotUtf8 s)) = refl
+four_by_lem b (Err (Refusal'.InvalidInteger s)) = refl
+four_by_lem b (Err (Refusal'.InvalidString s p)) = refl
+four_by_lem b (Err (Refusal'.InvalidBitString s)) = refl
+four_by_lem b (Err (Refusal'.InvalidMoney s)) = refl
+four_by_lem b (Err (Refusal'.NoRoom n)) = refl
+four_by_lem b (Err (Refusal'.InvalidDate s)) = refl
 
 -- how many bytes a single call wrote
 abbrev pub wrote : Told → ℕ
 wrote t = if eqb t.how 2 then t.second else 0
 
-takes_by : (r : Text) → takes r ≡ wrote (text_told r)
-takes_by (Text'.Borrowed f u) = refl
-takes_by (Text'.Written n) = refl
-takes_by (Text'.Refused (Refusal'.WrongKind e k)) = refl
-takes_by (Text'.Refused (Refusal'.MissingSource s)) = refl
-takes_by (Text'.Refused (Refusal'.InvalidSourceRange s)) = refl
-takes_by (Text'.Refused (Refusal'.NotUtf8 s)) = refl
-takes_by (Text'.Refused (Refusal'.InvalidInteger s)) = refl
-takes_by (Text'.Refused (Refusal'.InvalidString s p)) = refl
-takes_by (Text'.Refused (Refusal'.InvalidBitString s)) = refl
-takes_by (Text'.Refused (Refusal'.InvalidMoney s)) = refl
-takes_by (Text'.Refused (Refusal'.NoRoom n)) = refl
-takes_by (Text'.Refused (Refusal'.InvalidDate s)) = refl
+takes_by : (r : Result Text Refusal) → takes r ≡ wrote (text_told r)
+takes_by (Ok (Text'.Borrowed f u)) = refl
+takes_by (Ok (Text'.Written n)) = refl
+takes_by (Err (Refusal'.WrongKind e k)) = refl
+takes_by (Err (Refusal'.MissingSource s)) = refl
+takes_by (Err (Refusal'.InvalidSourceRange s)) = refl
+takes_by (Err (Refusal'.NotUtf8 s)) = refl
+takes_by (Err (Refusal'.InvalidInteger s)) = refl
+takes_by (Err (Refusal'.InvalidString s p)) = refl
+takes_by (Err (Refusal'.InvalidBitString s)) = refl
+takes_by (Err (Refusal'.InvalidMoney s)) = refl
+takes_by (Err (Refusal'.NoRoom n)) = refl
+takes_by (Err (Refusal'.InvalidDate s)) = refl
 
 -- the item behind n numbers of a block got what a single call told and wrote
 pub record Gives {items S : List ℕ} (c : BlockCall items S) (n : ℕ) (t : Told) (after : List ℕ) : Type 0 where
@@ -70,7 +72,7 @@ pub record Gives {items S : List ℕ} (c : BlockCall items S) (n : ℕ) (t : Tol
 module _ (a : List ℕ) (k g s e : ℕ) (b S : List ℕ) (f : length a % 4 ≡ 0) (c : BlockCall (a ++ (k ∷ (g ∷ (s ∷ (e ∷ b))))) S) (z : c.result ≡ 0)
     (known : is_known k 0 g ≡ true) (n how first second place : ℕ) (after : List ℕ)
     (single : TellsPlace (string_call k 0 s e S g (drop (room_from c (length a)) c.lent)) n how first second place after) where
-  abbrev asked : Outcome Text
+  abbrev asked : Outcome (Result Text Refusal)
   asked = string_question (literal_of k 0 s e) S (settings_of g) (drop (room_from c (length a)) c.lent)
 
   single_is : TellsPlace (outcome_told text_told asked) n how first second place after

@@ -1,6 +1,9 @@
 -- A call: numbers that name nothing are refused with 10, and the buffer is as lent; else the answer is the question's own. Assumes nothing.
+use Rattle.std.specs.Prelude.{Result, Some, None}
+use Rattle.std.specs.Bool.{then_some}
+use Rattle.std.proofs.lemmas.Option.{none-some}
 use mathlib.Core.Path.{◌≡◌, refl, sym, ap, ◌∙◌}
-use mathlib.Core.Bool.{Bool, true, false, ◌&&◌, not, false≢true}
+use mathlib.Core.Bool.{Bool, true, false, ◌&&◌}
 use mathlib.Core.List.{List}
 use Prim.Native.Nat.{ℕ, ◌≤◌, ◌<◌}
 use lib.Dec.{leb}
@@ -9,17 +12,10 @@ use borrow.Author.Tests.{le-leb, lt-leb}
 use Rattle.meaning.specs.declared.Settings.{Settings}
 use Rattle.meaning.specs.declared.Literal.{Literal}
 use Rattle.meaning.specs.declared.Text.{Text}
-use Rattle.meaning.specs.declared.Range.{Range}
-use Rattle.meaning.specs.declared.Charset.{Charset}
-use Rattle.meaning.specs.declared.Integer.{Integer}
 use Rattle.meaning.specs.declared.CalendarDay.{CalendarDay}
-use Rattle.meaning.specs.declared.Dated.{Dated}
-use Rattle.meaning.specs.declared.PackedBits.{PackedBits}
 use Rattle.meaning.specs.declared.BitStringRadix.{BitStringRadix}
-use Rattle.meaning.specs.declared.BitWriting.{BitWriting}
-use Rattle.meaning.specs.declared.Truth.{Truth}
-use Rattle.meaning.specs.declared.Nullness.{Nullness}
-use Rattle.meaning.specs.declared.Writing.{Writing}
+use Rattle.meaning.specs.declared.BitWritingError.{BitWritingError}
+use Rattle.meaning.specs.declared.WritingError.{WritingError}
 use Rattle.meaning.specs.declared.PartSize.{PartSize}
 use Rattle.meaning.specs.Answers.{Outcome, Meets}
 use Rattle.meaning.specs.Questions.{string_question, decimal_question, bits_question, temporal_question, source_question, money_question, charset_question}
@@ -37,171 +33,175 @@ use Rattle.valdrabus.specs.Calls.{outcome_told, called_or, called_bare, called_c
 use Rattle.valdrabus.specs.Calls.{money_call, charset_call, i64_call, bool_call, null_call, is_null_call, write_call}
 use Rattle.valdrabus.specs.Calls.{no_day, day_told, dated_told, called_day, date_call}
 use Rattle.valdrabus.specs.Calls.{no_bits, packed_told, packed_call, is_bit_kind, radix_of, bit_write_call}
+use Rattle.meaning.specs.declared.Refusal.{Refusal}
+use Rattle.std.specs.Prelude.{ℤ}
+use Rattle.meaning.specs.declared.Part.{Part}
+use Rattle.std.specs.Prelude.{Option}
+use Rattle.meaning.specs.declared.PackedBits.{PackedBits}
+
+-- A NAME OR NONE: what `then_some` answers says what its test was
+module _ {A : Type 0} (x : A) (o : Option A) where
+  unnamed : (b : Bool) → o ≡ then_some b x → o ≡ None → b ≡ false
+  unnamed true q h = absurd (none-some x (sym h ∙ q))
+  unnamed false q h = refl
+
+  module _ (l : A) where
+    named : (b : Bool) → o ≡ then_some b x → o ≡ Some l → b ≡ true
+    named true q h = refl
+    named false q h = absurd (none-some l (sym q ∙ h))
+
+    same : (b : Bool) → o ≡ then_some b x → o ≡ Some l → l ≡ x
+    same true q h = cc
+    same false q h = absurd (none-some l (sym q ∙ h))
 
 -- WITH A BUFFER
-unknown : {B : Type 0} (ten : B) (b known : Bool) → b ≡ known → not b ≡ true → (out : List ℕ) (o : Outcome B) (t : B) → t ≡ ten
-    → Meets (called_or ten known out o) t out
-unknown ten b true e h out o t p = absurd (false≢true (sym (ap not e) ∙ h))
-unknown ten b false e h out o t p = record { answer = p; buffer = refl }
+refused : {B : Type 0} (ten : B) (known : Bool) → known ≡ false → (out : List ℕ) (o : Outcome B) (t : B) → t ≡ ten → Meets (called_or ten known out o) t out
+refused ten true z out o t p = cc
+refused ten false z out o t p = record { answer = p; buffer = refl }
 
-answered : {A B : Type 0} (ten : B) (b known : Bool) → b ≡ known → not b ≡ false → (f : A → B) (q : Outcome A) (out after : List ℕ) (a : A)
+told_by : {A B : Type 0} (ten : B) (known : Bool) → known ≡ true → (f : A → B) (q : Outcome A) (out after : List ℕ) (a : A)
     → Meets q a after → (t : B) → t ≡ f a → Meets (called_or ten known out (outcome_told f q)) t after
-answered ten b true e h f q out after a m t p = record { answer = p ∙ ap f m.answer; buffer = m.buffer }
-answered ten b false e h f q out after a m t p = absurd (false≢true (sym h ∙ ap not e))
+told_by ten true z f q out after a m t p = record { answer = p ∙ ap f m.answer; buffer = m.buffer }
+told_by ten false z f q out after a m t p = cc
 
--- WITHOUT
-unknown_bare : (b known : Bool) → b ≡ known → not b ≡ true → (t o : Told) → t ≡ number_told 10 → t ≡ called_bare known o
-unknown_bare b true e h t o p = absurd (false≢true (sym (ap not e) ∙ h))
-unknown_bare b false e h t o p = p
+module _ {X : Type 0} (x : X) (o : Option X) (known : Bool) (e : o ≡ then_some known x) where
+  unknown : {B : Type 0} → o ≡ None → (ten : B) (out : List ℕ) (q : Outcome B) (t : B) → t ≡ ten → Meets (called_or ten known out q) t out
+  unknown h ten = refused ten known (unnamed x o known e h)
 
-answered_bare : {A : Type 0} (b known : Bool) → b ≡ known → not b ≡ false → (f : A → Told) (ask : Literal → A) (l l' : Literal) → l ≡ l'
-    → (a : A) → a ≡ ask l → (t : Told) → t ≡ f a → t ≡ called_bare known (f (ask l'))
-answered_bare b true e h f ask l l' p a q t w = w ∙ ap f (q ∙ ap ask p)
-answered_bare b false e h f ask l l' p a q t w = absurd (false≢true (sym h ∙ ap not e))
+  answered : {A B : Type 0} (l : X) → o ≡ Some l → (ten : B) (f : A → B) (ask : X → Outcome A) (out : List ℕ) (a : A) (after : List ℕ)
+      → Meets (ask l) a after → (t : B) → t ≡ f a → Meets (called_or ten known out (outcome_told f (ask x))) t after
+  answered l h ten f ask out a after m t p =
+      let i : l ≡ x = same x o l known e h in
+      told_by ten known (named x o l known e h) f (ask x) out after a
+      (record { answer = m.answer ∙ ap (λ (z : X). (ask z).answer) i; buffer = m.buffer ∙ ap (λ (z : X). (ask z).buffer) i }) t p
 
-unknown_count : (b known : Bool) → b ≡ known → not b ≡ true → (t : Told) (n : Counted) → t ≡ number_told 10
-    → ◌≡◌ {A = Counted} (record { told = t; value = pos 0 }) (called_count known n)
-unknown_count b true e h t n p = absurd (false≢true (sym (ap not e) ∙ h))
-unknown_count b false e h t n p = ap (λ (x : Told). record { told = x; value = pos 0 }) p
+  -- WITHOUT: of what the call is, by the test and the question's answer
+  unknown_bare : {B : Type 0} → o ≡ None → (c : Bool → B) (t : B) → t ≡ c false → t ≡ c known
+  unknown_bare h c t p = p ∙ ap c (sym (unnamed x o known e h))
 
-answered_count : (b known : Bool) → b ≡ known → not b ≡ false → (n o : Counted) → n ≡ o → n ≡ called_count known o
-answered_count b true e h n o p = p
-answered_count b false e h n o p = absurd (false≢true (sym h ∙ ap not e))
+  answered_bare : {B : Type 0} (l : X) → o ≡ Some l → (c : Bool → X → B) (t : B) → t ≡ c true l → t ≡ c known x
+  answered_bare l h c t p = p ∙ ap (c true) (same x o l known e h) ∙ ap (λ (b : Bool). c b x) (sym (named x o l known e h))
 
-unknown_day : (b known : Bool) → b ≡ known → not b ≡ true → (o : DayTold) (t : Told) → t ≡ number_told 10 → (n : CalendarDay) → n ≡ no_day
-    → ◌≡◌ {A = DayTold} (record { told = t; on = n }) (called_day known o)
-unknown_day b true e h o t p n z = absurd (false≢true (sym (ap not e) ∙ h))
-unknown_day b false e h o t p n z = ap (day_told t) z ∙ ap (λ (x : Told). day_told x no_day) p
-
-answered_day : (b known : Bool) → b ≡ known → not b ≡ false → (n o : DayTold) → n ≡ o → n ≡ called_day known o
-answered_day b true e h n o p = p
-answered_day b false e h n o p = absurd (false≢true (sym h ∙ ap not e))
-
-module _ (k y s e σ : ℕ) (S out : List ℕ) (b : Bool) (known : b ≡ is_known k y σ) where
-  pub string_unknown : not b ≡ true → (t : Told) → t ≡ number_told 10 → Meets (string_call k y s e S σ out) t out
+module _ (k y s e σ : ℕ) (S out : List ℕ) (o : Option Literal) (known : o ≡ then_some (is_known k y σ) (literal_of k y s e)) where
+  pub string_unknown : o ≡ None → (t : Told) → t ≡ number_told 10 → Meets (string_call k y s e S σ out) t out
   unfolding string_call
-  string_unknown h t p = unknown (number_told 10) b (is_known k y σ) known h out (outcome_told text_told (string_question (literal_of k y s e) S (settings_of σ) out)) t p
+  string_unknown h =
+      unknown (literal_of k y s e) o (is_known k y σ) known h (number_told 10) out (outcome_told text_told (string_question (literal_of k y s e) S (settings_of σ) out))
 
-  pub string_answered : not b ≡ false → (l : Literal) → l ≡ literal_of k y s e → (g : Settings) → g ≡ settings_of σ → (a : Text) (after : List ℕ)
+  pub string_answered : (l : Literal) → o ≡ Some l → (g : Settings) → g ≡ settings_of σ → (a : Result Text Refusal) (after : List ℕ)
       → Meets (string_question l S g out) a after → (t : Told) → t ≡ text_told a → Meets (string_call k y s e S σ out) t after
   unfolding string_call
-  string_answered h l p g q a after m t w =
-      answered (number_told 10) b (is_known k y σ) known h text_told (string_question (literal_of k y s e) S (settings_of σ) out) out after a (rw (← p, ← q) m) t w
+  string_answered l h g q a after m =
+      answered (literal_of k y s e) o (is_known k y σ) known l h (number_told 10) text_told (λ x. string_question x S (settings_of σ) out) out a after (rw (← q) m)
 
-module _ (k y s e : ℕ) (S : List ℕ) (b : Bool) (known : b ≡ is_known k y 0) where
-  pub decimal_unknown : not b ≡ true → (out : List ℕ) (t : Told) → t ≡ number_told 10 → Meets (decimal_call k y s e S out) t out
+module _ (k y s e : ℕ) (S : List ℕ) (o : Option Literal) (known : o ≡ then_some (is_known k y 0) (literal_of k y s e)) where
+  pub decimal_unknown : o ≡ None → (out : List ℕ) (t : Told) → t ≡ number_told 10 → Meets (decimal_call k y s e S out) t out
   unfolding decimal_call
-  decimal_unknown h out t p = unknown (number_told 10) b (is_known k y 0) known h out (outcome_told text_told (decimal_question (literal_of k y s e) S out)) t p
+  decimal_unknown h out = unknown (literal_of k y s e) o (is_known k y 0) known h (number_told 10) out (outcome_told text_told (decimal_question (literal_of k y s e) S out))
 
-  pub decimal_answered : not b ≡ false → (l : Literal) → l ≡ literal_of k y s e → (out : List ℕ) (a : Text) (after : List ℕ)
-      → Meets (decimal_question l S out) a after
+  pub decimal_answered : (l : Literal) → o ≡ Some l → (out : List ℕ) (a : Result Text Refusal) (after : List ℕ) → Meets (decimal_question l S out) a after
       → (t : Told) → t ≡ text_told a → Meets (decimal_call k y s e S out) t after
   unfolding decimal_call
-  decimal_answered h l p out a after m t w =
-      answered (number_told 10) b (is_known k y 0) known h text_told (decimal_question (literal_of k y s e) S out) out after a (rw (← p) m) t w
+  decimal_answered l h out = answered (literal_of k y s e) o (is_known k y 0) known l h (number_told 10) text_told (λ x. decimal_question x S out) out
 
-  pub bits_unknown : not b ≡ true → (out : List ℕ) (t : Told) → t ≡ number_told 10 → Meets (bits_call k y s e S out) t out
+  pub bits_unknown : o ≡ None → (out : List ℕ) (t : Told) → t ≡ number_told 10 → Meets (bits_call k y s e S out) t out
   unfolding bits_call
-  bits_unknown h out t p = unknown (number_told 10) b (is_known k y 0) known h out (outcome_told text_told (bits_question (literal_of k y s e) S out)) t p
+  bits_unknown h out = unknown (literal_of k y s e) o (is_known k y 0) known h (number_told 10) out (outcome_told text_told (bits_question (literal_of k y s e) S out))
 
-  pub bits_answered : not b ≡ false → (l : Literal) → l ≡ literal_of k y s e → (out : List ℕ) (a : Text) (after : List ℕ)
-      → Meets (bits_question l S out) a after
+  pub bits_answered : (l : Literal) → o ≡ Some l → (out : List ℕ) (a : Result Text Refusal) (after : List ℕ) → Meets (bits_question l S out) a after
       → (t : Told) → t ≡ text_told a → Meets (bits_call k y s e S out) t after
   unfolding bits_call
-  bits_answered h l p out a after m t w = answered (number_told 10) b (is_known k y 0) known h text_told (bits_question (literal_of k y s e) S out) out after a (rw (← p) m) t w
+  bits_answered l h out = answered (literal_of k y s e) o (is_known k y 0) known l h (number_told 10) text_told (λ x. bits_question x S out) out
 
-  pub temporal_unknown : not b ≡ true → (out : List ℕ) (t : Told) → t ≡ number_told 10 → Meets (temporal_call k y s e S out) t out
+  pub temporal_unknown : o ≡ None → (out : List ℕ) (t : Told) → t ≡ number_told 10 → Meets (temporal_call k y s e S out) t out
   unfolding temporal_call
-  temporal_unknown h out t p = unknown (number_told 10) b (is_known k y 0) known h out (outcome_told text_told (temporal_question (literal_of k y s e) S out)) t p
+  temporal_unknown h out = unknown (literal_of k y s e) o (is_known k y 0) known h (number_told 10) out (outcome_told text_told (temporal_question (literal_of k y s e) S out))
 
-  pub temporal_answered : not b ≡ false → (l : Literal) → l ≡ literal_of k y s e → (out : List ℕ) (a : Text) (after : List ℕ)
-      → Meets (temporal_question l S out) a after
+  pub temporal_answered : (l : Literal) → o ≡ Some l → (out : List ℕ) (a : Result Text Refusal) (after : List ℕ) → Meets (temporal_question l S out) a after
       → (t : Told) → t ≡ text_told a → Meets (temporal_call k y s e S out) t after
   unfolding temporal_call
-  temporal_answered h l p out a after m t w =
-      answered (number_told 10) b (is_known k y 0) known h text_told (temporal_question (literal_of k y s e) S out) out after a (rw (← p) m) t w
+  temporal_answered l h out = answered (literal_of k y s e) o (is_known k y 0) known l h (number_told 10) text_told (λ x. temporal_question x S out) out
 
-  pub source_unknown : not b ≡ true → (t : Told) → t ≡ number_told 10 → t ≡ source_call k y s e S
+  pub source_unknown : o ≡ None → (t : Told) → t ≡ number_told 10 → t ≡ source_call k y s e S
   unfolding source_call
-  source_unknown h t p = unknown_bare b (is_known k y 0) known h t (range_told (source_question (literal_of k y s e) S)) p
+  source_unknown h = unknown_bare (literal_of k y s e) o (is_known k y 0) known h (λ b. called_bare b (range_told (source_question (literal_of k y s e) S)))
 
-  pub source_answered : not b ≡ false → (l : Literal) → l ≡ literal_of k y s e → (a : Range) → a ≡ source_question l S → (t : Told) → t ≡ range_told a
-      → t ≡ source_call k y s e S
+  pub source_answered : (l : Literal) → o ≡ Some l → (a : Result Part Refusal) → a ≡ source_question l S → (t : Told) → t ≡ range_told a → t ≡ source_call k y s e S
   unfolding source_call
-  source_answered h l p = answered_bare b (is_known k y 0) known h range_told (λ x. source_question x S) l (literal_of k y s e) p
+  source_answered l h a q t w =
+      answered_bare (literal_of k y s e) o (is_known k y 0) known l h (λ b x. called_bare b (range_told (source_question x S))) t (w ∙ ap range_told q)
 
-  pub money_unknown : not b ≡ true → (t : Told) → t ≡ number_told 10 → t ≡ money_call k y s e S
+  pub money_unknown : o ≡ None → (t : Told) → t ≡ number_told 10 → t ≡ money_call k y s e S
   unfolding money_call
-  money_unknown h t p = unknown_bare b (is_known k y 0) known h t (range_told (money_question (literal_of k y s e) S)) p
+  money_unknown h = unknown_bare (literal_of k y s e) o (is_known k y 0) known h (λ b. called_bare b (range_told (money_question (literal_of k y s e) S)))
 
-  pub money_answered : not b ≡ false → (l : Literal) → l ≡ literal_of k y s e → (a : Range) → a ≡ money_question l S → (t : Told) → t ≡ range_told a
-      → t ≡ money_call k y s e S
+  pub money_answered : (l : Literal) → o ≡ Some l → (a : Result Part Refusal) → a ≡ money_question l S → (t : Told) → t ≡ range_told a → t ≡ money_call k y s e S
   unfolding money_call
-  money_answered h l p = answered_bare b (is_known k y 0) known h range_told (λ x. money_question x S) l (literal_of k y s e) p
+  money_answered l h a q t w =
+      answered_bare (literal_of k y s e) o (is_known k y 0) known l h (λ b x. called_bare b (range_told (money_question x S))) t (w ∙ ap range_told q)
 
-  pub charset_unknown : not b ≡ true → (t : Told) → t ≡ number_told 10 → t ≡ charset_call k y s e S
+  pub charset_unknown : o ≡ None → (t : Told) → t ≡ number_told 10 → t ≡ charset_call k y s e S
   unfolding charset_call
-  charset_unknown h t p = unknown_bare b (is_known k y 0) known h t (charset_told (charset_question (literal_of k y s e) S)) p
+  charset_unknown h = unknown_bare (literal_of k y s e) o (is_known k y 0) known h (λ b. called_bare b (charset_told (charset_question (literal_of k y s e) S)))
 
-  pub charset_answered : not b ≡ false → (l : Literal) → l ≡ literal_of k y s e → (a : Charset) → a ≡ charset_question l S → (t : Told) → t ≡ charset_told a
-      → t ≡ charset_call k y s e S
+  pub charset_answered : (l : Literal) → o ≡ Some l → (a : Result (Option Part) Refusal) → a ≡ charset_question l S → (t : Told) → t ≡ charset_told a → t ≡ charset_call k y s e S
   unfolding charset_call
-  charset_answered h l p = answered_bare b (is_known k y 0) known h charset_told (λ x. charset_question x S) l (literal_of k y s e) p
+  charset_answered l h a q t w =
+      answered_bare (literal_of k y s e) o (is_known k y 0) known l h (λ b x. called_bare b (charset_told (charset_question x S))) t (w ∙ ap charset_told q)
 
-  pub i64_unknown : not b ≡ true → (t : Told) → t ≡ number_told 10 → ◌≡◌ {A = Counted} (record { told = t; value = pos 0 }) (i64_call k y s e S)
+  pub i64_unknown : o ≡ None → (t : Told) → t ≡ number_told 10 → ◌≡◌ {A = Counted} (record { told = t; value = pos 0 }) (i64_call k y s e S)
   unfolding i64_call
-  i64_unknown h t p = unknown_count b (is_known k y 0) known h t (counted_of (i64_question (literal_of k y s e) S)) p
+  i64_unknown h t p =
+      unknown_bare (literal_of k y s e) o (is_known k y 0) known h (λ b. called_count b (counted_of (i64_question (literal_of k y s e) S)))
+      (record { told = t; value = pos 0 }) (ap (λ (x : Told). record { told = x; value = pos 0 }) p)
 
-  pub i64_answered : not b ≡ false → (l : Literal) → l ≡ literal_of k y s e → (a : Integer) → a ≡ i64_question l S → (n : Counted) → n ≡ counted_of a
-      → n ≡ i64_call k y s e S
+  pub i64_answered : (l : Literal) → o ≡ Some l → (a : Result ℤ Refusal) → a ≡ i64_question l S → (n : Counted) → n ≡ counted_of a → n ≡ i64_call k y s e S
   unfolding i64_call
-  i64_answered h l p a q n w =
-      answered_count b (is_known k y 0) known h n (counted_of (i64_question (literal_of k y s e) S))
-      (w ∙ ap counted_of q ∙ ap (λ (x : Literal). counted_of (i64_question x S)) p)
+  i64_answered l h a q n w =
+      answered_bare (literal_of k y s e) o (is_known k y 0) known l h (λ b x. called_count b (counted_of (i64_question x S))) n (w ∙ ap counted_of q)
 
-  pub date_unknown : not b ≡ true → (t : Told) → t ≡ number_told 10 → (n : CalendarDay) → n ≡ no_day
-      → ◌≡◌ {A = DayTold} (record { told = t; on = n }) (date_call k y s e S)
+  pub date_unknown : o ≡ None → (t : Told) → t ≡ number_told 10 → (n : CalendarDay) → n ≡ no_day → ◌≡◌ {A = DayTold} (record { told = t; on = n }) (date_call k y s e S)
   unfolding date_call
-  date_unknown h t p n z = unknown_day b (is_known k y 0) known h (dated_told (date_question (literal_of k y s e) S)) t p n z
+  date_unknown h t p n z =
+      unknown_bare (literal_of k y s e) o (is_known k y 0) known h (λ b. called_day b (dated_told (date_question (literal_of k y s e) S)))
+      (day_told t n) (ap (day_told t) z ∙ ap (λ (x : Told). day_told x no_day) p)
 
-  pub date_answered : not b ≡ false → (l : Literal) → l ≡ literal_of k y s e → (a : Dated) → a ≡ date_question l S → (n : DayTold) → n ≡ dated_told a
-      → n ≡ date_call k y s e S
+  pub date_answered : (l : Literal) → o ≡ Some l → (a : Result CalendarDay Refusal) → a ≡ date_question l S → (n : DayTold) → n ≡ dated_told a → n ≡ date_call k y s e S
   unfolding date_call
-  date_answered h l p a q n w =
-      answered_day b (is_known k y 0) known h n (dated_told (date_question (literal_of k y s e) S))
-      (w ∙ ap dated_told q ∙ ap (λ (x : Literal). dated_told (date_question x S)) p)
+  date_answered l h a q n w =
+      answered_bare (literal_of k y s e) o (is_known k y 0) known l h (λ b x. called_day b (dated_told (date_question x S))) n (w ∙ ap dated_told q)
 
-  pub packed_unknown : not b ≡ true → (out : List ℕ) (t : Told) → t ≡ number_told 10 → (n : PackedTold) → n ≡ no_bits t → Meets (packed_call k y s e S out) n out
+  pub packed_unknown : o ≡ None → (out : List ℕ) (t : Told) → t ≡ number_told 10 → (n : PackedTold) → n ≡ no_bits t → Meets (packed_call k y s e S out) n out
   unfolding packed_call
   packed_unknown h out t p n q =
-      unknown (no_bits (number_told 10)) b (is_known k y 0) known h out (outcome_told packed_told (packed_question (literal_of k y s e) S out)) n (q ∙ ap no_bits p)
+      unknown (literal_of k y s e) o (is_known k y 0) known h (no_bits (number_told 10)) out (outcome_told packed_told (packed_question (literal_of k y s e) S out)) n
+      (q ∙ ap no_bits p)
 
-  pub packed_answered : not b ≡ false → (l : Literal) → l ≡ literal_of k y s e → (out : List ℕ) (a : PackedBits) (after : List ℕ)
-      → Meets (packed_question l S out) a after → (n : PackedTold) → n ≡ packed_told a → Meets (packed_call k y s e S out) n after
+  pub packed_answered : (l : Literal) → o ≡ Some l → (out : List ℕ) (a : Result PackedBits Refusal) (after : List ℕ) → Meets (packed_question l S out) a after
+      → (n : PackedTold) → n ≡ packed_told a → Meets (packed_call k y s e S out) n after
   unfolding packed_call
-  packed_answered h l p out a after m n w =
-      answered (no_bits (number_told 10)) b (is_known k y 0) known h packed_told (packed_question (literal_of k y s e) S out) out after a (rw (← p) m) n w
+  packed_answered l h out =
+      answered (literal_of k y s e) o (is_known k y 0) known l h (no_bits (number_told 10)) packed_told (λ x. packed_question x S out) out
 
 -- BY THE KIND ALONE
+module _ (k : ℕ) (o : Option Literal) (known : o ≡ then_some (is_known k 0 0) (literal_of k 0 0 0)) where
+  pub bool_unknown : o ≡ None → (t : Told) → t ≡ number_told 10 → t ≡ bool_call k
+  unfolding bool_call
+  bool_unknown h = unknown_bare (literal_of k 0 0 0) o (is_known k 0 0) known h (λ b. called_bare b (truth_told (bool_question (kind_of k))))
+
+  pub bool_answered : (l : Literal) → o ≡ Some l → (a : Result Bool Refusal) → a ≡ bool_question l.kind → (t : Told) → t ≡ truth_told a → t ≡ bool_call k
+  unfolding bool_call
+  bool_answered l h a q t w = answered_bare (literal_of k 0 0 0) o (is_known k 0 0) known l h (λ b x. called_bare b (truth_told (bool_question x.kind))) t (w ∙ ap truth_told q)
+
+  pub null_unknown : o ≡ None → (t : Told) → t ≡ number_told 10 → t ≡ null_call k
+  unfolding null_call
+  null_unknown h = unknown_bare (literal_of k 0 0 0) o (is_known k 0 0) known h (λ b. called_bare b (nullness_told (null_question (kind_of k))))
+
+  pub null_answered : (l : Literal) → o ≡ Some l → (a : Result (Unit {0}) Refusal) → a ≡ null_question l.kind → (t : Told) → t ≡ nullness_told a → t ≡ null_call k
+  unfolding null_call
+  null_answered l h a q t w = answered_bare (literal_of k 0 0 0) o (is_known k 0 0) known l h (λ b x. called_bare b (nullness_told (null_question x.kind))) t (w ∙ ap nullness_told q)
+
 module _ (k : ℕ) (b : Bool) (known : b ≡ is_known k 0 0) where
-  pub bool_unknown : not b ≡ true → (t : Told) → t ≡ number_told 10 → t ≡ bool_call k
-  unfolding bool_call
-  bool_unknown h t p = unknown_bare b (is_known k 0 0) known h t (truth_told (bool_question (kind_of k))) p
-
-  pub bool_answered : not b ≡ false → (l : Literal) → l ≡ literal_of k 0 0 0 → (a : Truth) → a ≡ bool_question l.kind → (t : Told) → t ≡ truth_told a
-      → t ≡ bool_call k
-  unfolding bool_call
-  bool_answered h l p = answered_bare b (is_known k 0 0) known h truth_told (λ x. bool_question x.kind) l (literal_of k 0 0 0) p
-
-  pub null_unknown : not b ≡ true → (t : Told) → t ≡ number_told 10 → t ≡ null_call k
-  unfolding null_call
-  null_unknown h t p = unknown_bare b (is_known k 0 0) known h t (nullness_told (null_question (kind_of k))) p
-
-  pub null_answered : not b ≡ false → (l : Literal) → l ≡ literal_of k 0 0 0 → (a : Nullness) → a ≡ null_question l.kind → (t : Told) → t ≡ nullness_told a
-      → t ≡ null_call k
-  unfolding null_call
-  null_answered h l p = answered_bare b (is_known k 0 0) known h nullness_told (λ x. null_question x.kind) l (literal_of k 0 0 0) p
-
   pub is_null_called : (l : Literal) → l ≡ literal_of k 0 0 0 → (n : Bool) → n ≡ is_null l.kind → b && n ≡ is_null_call k
   unfolding is_null_call
   is_null_called l p n q = ap (λ (x : Bool). x && n) known ∙ ap (λ (x : Bool). is_known k 0 0 && x) (q ∙ ap (λ (x : Literal). is_null x.kind) p)
@@ -210,23 +210,20 @@ module _ (k : ℕ) (b : Bool) (known : b ≡ is_known k 0 0) where
 module _ (p : PartSize) (v : List ℕ) (σ : ℕ) (out : List ℕ) where
   pub write_unknown : 1 < σ → (t : Told) → t ≡ number_told 10 → Meets (write_call p v σ out) t out
   unfolding write_call
-  write_unknown h t q = unknown (number_told 10) false (leb σ 1) (sym (lt-leb σ 1 h)) refl out (outcome_told writing_told (write_question (settings_of σ) p v out)) t q
+  write_unknown h = refused (number_told 10) (leb σ 1) (lt-leb σ 1 h) out (outcome_told writing_told (write_question (settings_of σ) p v out))
 
-  pub write_answered : σ ≤ 1 → (g : Settings) → g ≡ settings_of σ → (a : Writing) (after : List ℕ) → Meets (write_question g p v out) a after → (t : Told)
+  pub write_answered : σ ≤ 1 → (g : Settings) → g ≡ settings_of σ → (a : Result ℕ WritingError) (after : List ℕ) → Meets (write_question g p v out) a after → (t : Told)
       → t ≡ writing_told a → Meets (write_call p v σ out) t after
   unfolding write_call
-  write_answered h g q a after m t w =
-      answered (number_told 10) true (leb σ 1) (sym (le-leb σ 1 h)) refl writing_told (write_question (settings_of σ) p v out) out after a (rw (← q) m) t w
+  write_answered h g q a after m = told_by (number_told 10) (leb σ 1) (le-leb σ 1 h) writing_told (write_question (settings_of σ) p v out) out after a (rw (← q) m)
 
 -- [02 T-07] BITS BACK
-module _ (bytes : List ℕ) (n k : ℕ) (out : List ℕ) (b : Bool) (known : b ≡ is_bit_kind k) where
-  pub bit_write_unknown : not b ≡ true → (t : Told) → t ≡ number_told 10 → Meets (bit_write_call bytes n k out) t out
+module _ (bytes : List ℕ) (n k : ℕ) (out : List ℕ) (o : Option BitStringRadix) (known : o ≡ then_some (is_bit_kind k) (radix_of k)) where
+  pub bit_write_unknown : o ≡ None → (t : Told) → t ≡ number_told 10 → Meets (bit_write_call bytes n k out) t out
   unfolding bit_write_call
-  bit_write_unknown h t q =
-      unknown (number_told 10) b (is_bit_kind k) known h out (outcome_told bit_writing_told (bit_write_question (radix_of k) bytes n out)) t q
+  bit_write_unknown h = unknown (radix_of k) o (is_bit_kind k) known h (number_told 10) out (outcome_told bit_writing_told (bit_write_question (radix_of k) bytes n out))
 
-  pub bit_write_answered : not b ≡ false → (g : BitStringRadix) → g ≡ radix_of k → (a : BitWriting) (after : List ℕ)
+  pub bit_write_answered : (g : BitStringRadix) → o ≡ Some g → (a : Result ℕ BitWritingError) (after : List ℕ)
       → Meets (bit_write_question g bytes n out) a after → (t : Told) → t ≡ bit_writing_told a → Meets (bit_write_call bytes n k out) t after
   unfolding bit_write_call
-  bit_write_answered h g q a after m t w =
-      answered (number_told 10) b (is_bit_kind k) known h bit_writing_told (bit_write_question (radix_of k) bytes n out) out after a (rw (← q) m) t w
+  bit_write_answered g h = answered (radix_of k) o (is_bit_kind k) known g h (number_told 10) bit_writing_told (λ x. bit_write_question x bytes n out) out

@@ -11,12 +11,7 @@ use Rattle.meaning.specs.declared.Span.{Span}
 use Rattle.meaning.specs.declared.Refusal.{Refusal}
 use Rattle.meaning.specs.declared.Refusal.TheVariants as Refusal'
 use Rattle.meaning.specs.declared.Text.{Text}
-use Rattle.meaning.specs.declared.Text.TheVariants as Text'
 use Rattle.meaning.specs.declared.CalendarDay.{CalendarDay}
-use Rattle.meaning.specs.declared.Day.{Day}
-use Rattle.meaning.specs.declared.Day.TheVariants as Day'
-use Rattle.meaning.specs.declared.Dated.{Dated}
-use Rattle.meaning.specs.declared.Dated.TheVariants as Dated'
 use Rattle.meaning.specs.Chars.{utf8}
 use Rattle.meaning.specs.Cutting.{off}
 use Rattle.meaning.specs.Reading.{means, value_of}
@@ -38,9 +33,11 @@ use Rattle.valdrabus.specs.Views.{view_call, view_bytes}
 use Rattle.valdrabus.proofs.Numbering.{text_number_lem}
 use Rattle.valdrabus.proofs.Viewing.{view_shows}
 use Rattle.valdrabus.proofs.PlaceExports.{six, refused_six}
+use Rattle.std.specs.Prelude.{Result, Err, Ok}
+use Rattle.std.specs.Prelude.{Option, Some, None}
 
 -- A CALL THAT IS ANSWERED gave a day
-refused_some : (r : Refusal) → (dated_told (Dated'.Refused r)).told.number ≡ 0 → ⊥
+refused_some : (r : Refusal) → (dated_told (Err r)).told.number ≡ 0 → ⊥
 refused_some (Refusal'.WrongKind e k) h = omega arith
 refused_some (Refusal'.MissingSource s) h = omega arith
 refused_some (Refusal'.InvalidSourceRange s) h = omega arith
@@ -52,16 +49,16 @@ refused_some (Refusal'.InvalidMoney s) h = omega arith
 refused_some (Refusal'.NoRoom n) h = omega arith
 refused_some (Refusal'.InvalidDate s) h = omega arith
 
-zero_day : (a : Dated) → (dated_told a).told.number ≡ 0 → a ≡ Dated'.On (dated_told a).on
-zero_day (Dated'.On d) h = refl
-zero_day (Dated'.Refused r) h = absurd (refused_some r h)
+zero_day : (a : Result CalendarDay Refusal) → (dated_told a).told.number ≡ 0 → a ≡ Ok (dated_told a).on
+zero_day (Ok d) h = refl
+zero_day (Err r) h = absurd (refused_some r h)
 
-called_day_lem : (known : Bool) (a : Dated) → (called_day known (dated_told a)).told.number ≡ 0 → a ≡ Dated'.On (called_day known (dated_told a)).on
+called_day_lem : (known : Bool) (a : Result CalendarDay Refusal) → (called_day known (dated_told a)).told.number ≡ 0 → a ≡ Ok (called_day known (dated_told a)).on
 called_day_lem true a h = zero_day a h
 called_day_lem false a h = absurd (omega arith)
 
 module _ (k y s e : ℕ) (S : List ℕ) {Y M D N f g : ℕ} (w : Dates (date_call k y s e S) 0 Y M D N f g) where
-  asked_day : date_question (literal_of k y s e) S ≡ Dated'.On (date_call k y s e S).on
+  asked_day : date_question (literal_of k y s e) S ≡ Ok (date_call k y s e S).on
   unfolding date_call
   asked_day = called_day_lem (is_known k y 0) (date_question (literal_of k y s e) S) (sym w.result)
 
@@ -81,11 +78,11 @@ order_exports k y s e S k' y' s' e' S' {Y} {M} {D} {N} {f} {g} {Y'} {M'} {D'} v 
     rw (a.1, b.1) (later_larger Y M D Y' M' D' a.0 b.0, larger_later Y M D Y' M' D' a.0 b.0)
 
 -- A NUMBER's day
-found_day : (n : ℕ) (c : CalendarDay) → day_question n ≡ Day'.On c → {r Y M D : ℕ} → Finds (day_call n) r Y M D
+found_day : (n : ℕ) (c : CalendarDay) → day_question n ≡ Some c → {r Y M D : ℕ} → Finds (day_call n) r Y M D
     → (r ≡ 0) × (Y ≡ c.year) × (M ≡ c.month) × (D ≡ c.day)
 unfolding day_call
 found_day n c e w =
-    let q : found_told (day_question n) ≡ found_told (Day'.On c) = ap found_told e in (
+    let q : found_told (day_question n) ≡ found_told (Some c) = ap found_told e in (
       w.result ∙ ap (λ (t : DayTold). t.told.number) q,
       w.years ∙ ap (λ (t : DayTold). t.on.year) q,
       w.months ∙ ap (λ (t : DayTold). t.on.month) q,
@@ -111,7 +108,7 @@ number_exports n w lo hi =
 pub outside_exports : (n : ℕ) {r Y M D : ℕ} → Finds (day_call n) r Y M D → (n ≡ 0) ⊎ (last_day < n) → (r ≡ 14) × (Y ≡ 0) × (M ≡ 0) × (D ≡ 0)
 unfolding day_call
 outside_exports n w h =
-    let q : found_told (day_question n) ≡ found_told Day'.InvalidDate = ap found_told (day_outside n h) in (
+    let q : found_told (day_question n) ≡ found_told None = ap found_told (day_outside n h) in (
       w.result ∙ ap (λ (t : DayTold). t.told.number) q,
       w.years ∙ ap (λ (t : DayTold). t.on.year) q,
       w.months ∙ ap (λ (t : DayTold). t.on.month) q,
@@ -136,15 +133,15 @@ decided : (sp : Span) (bytes : List ℕ) {r Y M D N f g : ℕ} → Dates (dated_
 unfolding calendar_day
 decided sp bytes {r} {Y} {M} {D} {N} {f} {g} w = go (day_in bytes) refl w
   where
-    go : (d : Day) → day_in bytes ≡ d → Dates (dated_told (dated_on sp d)) r Y M D N f g → Decided bytes sp.start sp.end r Y M D N f g
-    go (Day'.On c) e v =
+    go : (d : Option CalendarDay) → day_in bytes ≡ d → Dates (dated_told (dated_on sp d)) r Y M D N f g → Decided bytes sp.start sp.end r Y M D N f g
+    go (Some c) e v =
         let x = date_spelled bytes c e in
         inl (rw (v.result, v.years, v.months, v.days, v.counted) (refl, x.0, x.1, ap (λ (k : CalendarDay). k.number) x.2))
-    go Day'.InvalidDate e v = inr (v.result, v.one, v.two, no_day_lem bytes e)
+    go None e v = inr (v.result, v.one, v.two, no_day_lem bytes e)
 
 spelled_no_fourteen : (y m d : ℕ) → is_day y m d ≡ true → is_date (spelled_day y m d) ≡ false → ⊥
 spelled_no_fourteen y m d a n =
-    let e : Day'.On (calendar_day y m d) ≡ Day'.InvalidDate = sym (spelled_date y m d a) ∙ no_date (spelled_day y m d) n in
+    let e : Some (calendar_day y m d) ≡ None = sym (spelled_date y m d a) ∙ no_date (spelled_day y m d) n in
     let z : ◌≡◌ {A = ℕ} 0 1 = cc in omega arith
 
 decides : {bytes : List ℕ} {s e r Y M D N f g : ℕ} → Decided bytes s e r Y M D N f g → (y m d : ℕ) → is_day y m d ≡ true
@@ -162,9 +159,9 @@ decides (inr x) y m d a = (
 )
 
 -- 6, with the span that the temporal call gives, exactly where that gives 6, whatever buffer it is lent; and the temporal call tells the place
-dated_six : (a : Dated) → (dated_told a).told.number ≡ 6 → (sp : Span) × (a ≡ Dated'.Refused (Refusal'.InvalidString sp (dated_told a).told.place))
-dated_six (Dated'.On d) h = absurd (omega arith)
-dated_six (Dated'.Refused r) h = let w = refused_six r h in (w.0, ap Dated'.Refused w.1)
+dated_six : (a : Result CalendarDay Refusal) → (dated_told a).told.number ≡ 6 → (sp : Span) × (a ≡ Err (Refusal'.InvalidString sp (dated_told a).told.place))
+dated_six (Ok d) h = absurd (omega arith)
+dated_six (Err r) h = let w = refused_six r h in (w.0, ap Err w.1)
 
 module _ (y s e : ℕ) (S out : List ℕ) where
   abbrev pub l : Literal
@@ -178,8 +175,8 @@ module _ (y s e : ℕ) (S out : List ℕ) where
 
   -- the same refusal, by either
   six_both : (known : Bool) → (dates known).told.number ≡ 6
-      → (sp : Span) × (p : ℕ) × (date_question l S ≡ Dated'.Refused (Refusal'.InvalidString sp p))
-      × ((temporal_question l S out).answer ≡ Text'.Refused (Refusal'.InvalidString sp p)) × (known ≡ true)
+      → (sp : Span) × (p : ℕ) × (date_question l S ≡ Err (Refusal'.InvalidString sp p))
+      × ((temporal_question l S out).answer ≡ Err (Refusal'.InvalidString sp p)) × (known ≡ true)
   six_both true h =
       let x = dated_six (date_question l S) h in
       let p = (dated_told (date_question l S)).told.place in
@@ -190,7 +187,7 @@ module _ (y s e : ℕ) (S out : List ℕ) where
   six_back true h =
       let x = six (temporal_question l S out).answer h in
       let p = (text_told (temporal_question l S out).answer).place in
-      ap (λ (a : Dated). (dated_told a).told.number) ((date_six l S out refl x.0 p).1 x.1)
+      ap (λ (a : Result CalendarDay Refusal). (dated_told a).told.number) ((date_six l S out refl x.0 p).1 x.1)
   six_back false h = absurd (omega arith)
 
   module _ {r Y M D N f g r' h f' g' p : ℕ} {after : List ℕ} (v : Dates (date_call 8 y s e S) r Y M D N f g)
@@ -200,7 +197,7 @@ module _ (y s e : ℕ) (S out : List ℕ) where
     six_exports = (
       λ q.
           let x = six_both (is_known 8 y 0) (sym v.result ∙ q) in
-          w.tells.says.result ∙ ap (λ (b : Bool). (texts b).answer.number) x.4 ∙ ap (λ (a : Text). (text_told a).number) x.3,
+          w.tells.says.result ∙ ap (λ (b : Bool). (texts b).answer.number) x.4 ∙ ap (λ (a : Result Text Refusal). (text_told a).number) x.3,
       λ q. v.result ∙ six_back (is_known 8 y 0) (sym w.tells.says.result ∙ q),
     )
 
@@ -214,12 +211,12 @@ module _ (y s e : ℕ) (S out : List ℕ) where
           v.two ∙ ap (λ (t : DayTold). t.told.second) a ∙ sym (w.tells.says.two ∙ ap (λ (t : Told). t.second) b),
         )
 
-    pub six_place : r ≡ 6 → (sp : Span) × (date_question l S ≡ Dated'.Refused (Refusal'.InvalidString sp p))
+    pub six_place : r ≡ 6 → (sp : Span) × (date_question l S ≡ Err (Refusal'.InvalidString sp p))
     unfolding date_call temporal_call
     six_place q =
         let x = six_both (is_known 8 y 0) (sym v.result ∙ q) in
         let b = ap (λ (b : Bool). (texts b).answer) x.4 ∙ ap text_told x.3 in
-        (x.0, x.2 ∙ ap (λ (n : ℕ). Dated'.Refused (Refusal'.InvalidString x.0 n)) (sym (w.stop ∙ ap (λ (t : Told). t.place) b)))
+        (x.0, x.2 ∙ ap (λ (n : ℕ). Err (Refusal'.InvalidString x.0 n)) (sym (w.stop ∙ ap (λ (t : Told). t.place) b)))
 
   -- WHAT THE TEMPORAL CALL SHOWS, with whatever buffer, decides
   zero_known : (known : Bool) → (texts known).answer.number ≡ 0
@@ -245,7 +242,7 @@ module _ (y s e : ℕ) (S out : List ℕ) where
         rw (t.tells.says.way, t.tells.says.one, t.tells.says.two, t.tells.buffer) (view_shows S o.buffer o.answer) in
         let a : date_question l S ≡ dated_on l.span (day_in seen) =
         date_temporal_shown l S out refl k.1 ∙ ap (λ (b : List ℕ). dated_on l.span (day_in b)) (sym q) in
-        decided l.span seen (subst (λ (x : Dated). Dates (dated_told x) r Y M D N f g) a c)
+        decided l.span seen (subst (λ (x : Result CalendarDay Refusal). Dates (dated_told x) r Y M D N f g) a c)
 
     -- so it is a day's exactly if these are its ten bytes
     pub shown_exports : (Y' M' D' : ℕ) → is_day Y' M' D' ≡ true → Gives r Y M D N (calendar_day Y' M' D') ↔ (seen ≡ spelled_day Y' M' D')
@@ -276,18 +273,18 @@ same_calendar_day c d y m k n =
     (record { year = d.year; month = d.month; day = d.day; number = d.number }) = cc in
     e
 
-dated_fourteen : (a : Dated) → (dated_told a).told.number ≡ 14 → (sp : Span) × (a ≡ Dated'.Refused (Refusal'.InvalidDate sp))
-dated_fourteen (Dated'.On d) h = absurd (omega arith)
-dated_fourteen (Dated'.Refused (Refusal'.WrongKind e k)) h = absurd (omega arith)
-dated_fourteen (Dated'.Refused (Refusal'.MissingSource s)) h = absurd (omega arith)
-dated_fourteen (Dated'.Refused (Refusal'.InvalidSourceRange s)) h = absurd (omega arith)
-dated_fourteen (Dated'.Refused (Refusal'.NotUtf8 s)) h = absurd (omega arith)
-dated_fourteen (Dated'.Refused (Refusal'.InvalidInteger s)) h = absurd (omega arith)
-dated_fourteen (Dated'.Refused (Refusal'.InvalidString s p)) h = absurd (omega arith)
-dated_fourteen (Dated'.Refused (Refusal'.InvalidBitString s)) h = absurd (omega arith)
-dated_fourteen (Dated'.Refused (Refusal'.InvalidMoney s)) h = absurd (omega arith)
-dated_fourteen (Dated'.Refused (Refusal'.NoRoom n)) h = absurd (omega arith)
-dated_fourteen (Dated'.Refused (Refusal'.InvalidDate s)) h = (s, refl)
+dated_fourteen : (a : Result CalendarDay Refusal) → (dated_told a).told.number ≡ 14 → (sp : Span) × (a ≡ Err (Refusal'.InvalidDate sp))
+dated_fourteen (Ok d) h = absurd (omega arith)
+dated_fourteen (Err (Refusal'.WrongKind e k)) h = absurd (omega arith)
+dated_fourteen (Err (Refusal'.MissingSource s)) h = absurd (omega arith)
+dated_fourteen (Err (Refusal'.InvalidSourceRange s)) h = absurd (omega arith)
+dated_fourteen (Err (Refusal'.NotUtf8 s)) h = absurd (omega arith)
+dated_fourteen (Err (Refusal'.InvalidInteger s)) h = absurd (omega arith)
+dated_fourteen (Err (Refusal'.InvalidString s p)) h = absurd (omega arith)
+dated_fourteen (Err (Refusal'.InvalidBitString s)) h = absurd (omega arith)
+dated_fourteen (Err (Refusal'.InvalidMoney s)) h = absurd (omega arith)
+dated_fourteen (Err (Refusal'.NoRoom n)) h = absurd (omega arith)
+dated_fourteen (Err (Refusal'.InvalidDate s)) h = (s, refl)
 
 module _ {t : List ℕ} (x : DateExport t) where
   abbrev of : Literal
@@ -297,15 +294,15 @@ module _ {t : List ℕ} (x : DateExport t) where
   unfolding date_call
   answered = x.contract
 
-  gives_question : (c : CalendarDay) → GivesDay x c ↔ (date_question of x.source ≡ Dated'.On c)
+  gives_question : (c : CalendarDay) → GivesDay x c ↔ (date_question of x.source ≡ Ok c)
   gives_question c = (
     λ q.
         let a = zero_day (date_question of x.source) (sym answered.result ∙ q.zero) in
         a
-        ∙ ap Dated'.On (same_calendar_day (dated_told (date_question of x.source)).on c (sym answered.years ∙ q.years)
+        ∙ ap Ok (same_calendar_day (dated_told (date_question of x.source)).on c (sym answered.years ∙ q.years)
         (sym answered.months ∙ q.months) (sym answered.days ∙ q.days) (sym answered.counted ∙ q.counted)),
     λ q.
-        let w = subst (λ (a : Dated). Dates (dated_told a) x.result x.year x.month x.day x.number x.first x.second) q answered in
+        let w = subst (λ (a : Result CalendarDay Refusal). Dates (dated_told a) x.result x.year x.month x.day x.number x.first x.second) q answered in
         record { zero = w.result; years = w.years; months = w.months; days = w.days; counted = w.counted },
   )
 
@@ -326,14 +323,14 @@ module _ {t : List ℕ} (x : DateExport t) where
           (b.1, b.2, b.3),
       λ q.
           let a = (date_fourteen of x.source t refl x.spans u of.span).1 (refl, q.0, q.1, q.2) in
-          answered.result ∙ ap (λ (a : Dated). (dated_told a).told.number) a,
+          answered.result ∙ ap (λ (a : Result CalendarDay Refusal). (dated_told a).told.number) a,
     )
 
     pub fourteen_span : x.result ≡ 14 → (x.first ≡ x.start) × (x.second ≡ x.end)
     fourteen_span q =
         let v = fourteen_exports.0 q in
         let a = (date_fourteen of x.source t refl x.spans u of.span).1 (refl, v.0, v.1, v.2) in
-        (answered.one ∙ ap (λ (a : Dated). (dated_told a).told.first) a, answered.two ∙ ap (λ (a : Dated). (dated_told a).told.second) a)
+        (answered.one ∙ ap (λ (a : Result CalendarDay Refusal). (dated_told a).told.first) a, answered.two ∙ ap (λ (a : Result CalendarDay Refusal). (dated_told a).told.second) a)
 
 -- "Joined segments count as one value": 'a' and 'b' behind words, and 'ab' behind them
 pub joined_exports : (w a g b : List ℕ) → TwoOf w a g b → (x : DateExport (w ++ (quoted a ++ (g ++ quoted b)))) (y : DateExport (w ++ quoted (a ++ b)))

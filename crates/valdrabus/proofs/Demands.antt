@@ -11,8 +11,8 @@ use Rattle.meaning.specs.declared.PartSize.{PartSize}
 use Rattle.meaning.specs.declared.Form.{Form}
 use Rattle.meaning.specs.declared.Text.{Text}
 use Rattle.meaning.specs.declared.Text.TheVariants as Text'
-use Rattle.meaning.specs.declared.Writing.{Writing}
-use Rattle.meaning.specs.declared.Writing.TheVariants as Writing'
+use Rattle.meaning.specs.declared.WritingError.{WritingError}
+use Rattle.meaning.specs.declared.WritingError.TheVariants as WritingError'
 use Rattle.meaning.specs.Bytes.{◌!◌, is_mark}
 use Rattle.meaning.specs.Cutting.{complete}
 use Rattle.meaning.specs.Answers.{Outcome, text_number, shown}
@@ -39,6 +39,8 @@ use Rattle.valdrabus.specs.Views.{viewed, view_call, view_bytes}
 use Rattle.valdrabus.proofs.Numbering.{text_number_lem}
 use Rattle.valdrabus.proofs.Viewing.{view_shows}
 use Rattle.valdrabus.proofs.Determined.{place_unique}
+use Rattle.std.specs.Prelude.{Result, Ok, Err}
+use Rattle.meaning.specs.declared.Refusal.{Refusal}
 
 -- A CALL of valdrabus_as_str_in on the text t, at the setting of number σ: the kind is 4, a String, and the mark 0, for not synthetic
 pub record StringExport (σ : ℕ) (t : List ℕ) : Type 0 where
@@ -62,14 +64,14 @@ pub record Shows {σ : ℕ} {t : List ℕ} (c : StringExport σ t) (v : List ℕ
   pub value : view_bytes c.source c.after (view_call c.how c.first c.second (length c.source) (length c.after)) ≡ v
 
 -- a buffer keeps its length
-leaves_long : (out after : List ℕ) (a : Text) → TextLeaves out a after → length after ≡ length out
-leaves_long out after (Text'.Borrowed f u) l = ap length l
-leaves_long out after (Text'.Written n) l =
+leaves_long : (out after : List ℕ) (a : Result Text Refusal) → TextLeaves out a after → length after ≡ length out
+leaves_long out after (Ok (Text'.Borrowed f u)) l = ap length l
+leaves_long out after (Ok (Text'.Written n)) l =
     let r = l.room in let z = l.size in ap length l.bytes ∙ simp (length-append, length-drop) (omega arith)
-leaves_long out after (Text'.Refused r) l = ap length l
+leaves_long out after (Err r) l = ap length l
 
 module _ {σ : ℕ} {t : List ℕ} (c : StringExport σ t) where
-  abbrev pub asked : Outcome Text
+  abbrev pub asked : Outcome (Result Text Refusal)
   asked = string_question (literal_of 4 0 c.start c.end) c.source (settings_of σ) c.lent
 
   pub tells_all : TellsPlace (outcome_told text_told asked) c.result c.how c.first c.second c.place c.after
@@ -130,23 +132,23 @@ pub record WriterExport (σ : ℕ) (size : PartSize) (v : List ℕ) : Type 0 whe
   pub after : List ℕ
   pub contract : Lengths (write_call size v σ lent) result len after
 
-zero_written : (a : Writing) → (writing_told a).number ≡ 0 → a ≡ Writing'.Written (writing_told a).second
-zero_written (Writing'.Written n) z = refl
-zero_written Writing'.OverLimit z = absurd (omega arith)
-zero_written Writing'.NotUtf8 z = absurd (omega arith)
-zero_written Writing'.HoldsNul z = absurd (omega arith)
-zero_written (Writing'.NoRoom n) z = absurd (omega arith)
+zero_written : (a : Result ℕ WritingError) → (writing_told a).number ≡ 0 → a ≡ Ok (writing_told a).second
+zero_written (Ok n) z = refl
+zero_written (Err WritingError'.OverLimit) z = absurd (omega arith)
+zero_written (Err WritingError'.NotUtf8) z = absurd (omega arith)
+zero_written (Err WritingError'.HoldsNul) z = absurd (omega arith)
+zero_written (Err (WritingError'.NoRoom n)) z = absurd (omega arith)
 
 -- what the numbers of a writer say: 0, and the length, just where it wrote
-told_wrote : {o : Outcome Writing} {r len : ℕ} {after : List ℕ} → Lengths (outcome_told writing_told o) r len after → r ≡ 0 → o.answer ≡ Writing'.Written len
+told_wrote : {o : Outcome (Result ℕ WritingError)} {r len : ℕ} {after : List ℕ} → Lengths (outcome_told writing_told o) r len after → r ≡ 0 → o.answer ≡ Ok len
 told_wrote {o} t z = rw t.long (zero_written o.answer (sym t.result ∙ z))
 
-wrote_told : {o : Outcome Writing} {r len : ℕ} {after : List ℕ} → Lengths (outcome_told writing_told o) r len after → (n : ℕ) → o.answer ≡ Writing'.Written n
+wrote_told : {o : Outcome (Result ℕ WritingError)} {r len : ℕ} {after : List ℕ} → Lengths (outcome_told writing_told o) r len after → (n : ℕ) → o.answer ≡ Ok n
     → (r ≡ 0) × (len ≡ n)
-wrote_told t n e = (t.result ∙ ap (λ (a : Writing). (writing_told a).number) e, t.long ∙ ap (λ (a : Writing). (writing_told a).second) e)
+wrote_told t n e = (t.result ∙ ap (λ (a : Result ℕ WritingError). (writing_told a).number) e, t.long ∙ ap (λ (a : Result ℕ WritingError). (writing_told a).second) e)
 
 module _ {σ : ℕ} {size : PartSize} {v : List ℕ} (w : WriterExport σ size v) where
-  abbrev pub writing : Outcome Writing
+  abbrev pub writing : Outcome (Result ℕ WritingError)
   writing = write_question (settings_of σ) size v w.lent
 
   pub tells_writing : Lengths (outcome_told writing_told writing) w.result w.len w.after
@@ -157,10 +159,10 @@ module _ {σ : ℕ} {size : PartSize} {v : List ℕ} (w : WriterExport σ size v
   abbrev pub writer_call : WriterCall (settings_of σ) size v
   writer_call = record { lent = w.lent; result = writing.answer; after = w.after; contract = record { answer = refl; buffer = tells_writing.buffer } }
 
-  pub wrote_there : w.result ≡ 0 → writer_call.result ≡ Writing'.Written w.len
+  pub wrote_there : w.result ≡ 0 → writer_call.result ≡ Ok w.len
   wrote_there = told_wrote tells_writing
 
-  pub wrote_here : (n : ℕ) → writer_call.result ≡ Writing'.Written n → (w.result ≡ 0) × (w.len ≡ n)
+  pub wrote_here : (n : ℕ) → writer_call.result ≡ Ok n → (w.result ≡ 0) × (w.len ≡ n)
   wrote_here = wrote_told tells_writing
 
 -- a value that is accepted is written, where there is room; and none other
@@ -202,7 +204,7 @@ pub record FormExport (f : Form) (v : List ℕ) : Type 0 where
   pub contract : Lengths (form_call f v lent) result len after
 
 module _ {f : Form} {v : List ℕ} (w : FormExport f v) where
-  abbrev pub forming : Outcome Writing
+  abbrev pub forming : Outcome (Result ℕ WritingError)
   forming = form_question f v w.lent
 
   pub tells_forming : Lengths (outcome_told writing_told forming) w.result w.len w.after

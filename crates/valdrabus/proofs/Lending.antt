@@ -1,15 +1,13 @@
 -- The numbers lent out are those that were told. Assumes nothing.
-use mathlib.Core.Path.{◌≡◌, refl, ap, ◌∙◌}
+use mathlib.Core.Path.{◌≡◌, ap, ◌∙◌}
 use mathlib.Core.List.{List}
 use Prim.Native.Nat.{ℕ}
 use mir.Syntax.{w64}
 use mir.Val.{SFits, to_z, of_z}
 use mir.Facts.{to_z-of_z}
 use Rattle.meaning.specs.declared.Form.{Form}
-use Rattle.meaning.specs.declared.Day.{Day}
-use Rattle.meaning.specs.declared.Identifier.{Identifier}
 use Rattle.meaning.specs.declared.RadixPrefix.{RadixPrefix}
-use Rattle.meaning.specs.declared.Writing.{Writing}
+use Rattle.meaning.specs.declared.WritingError.{WritingError}
 use Rattle.meaning.specs.Answers.{Outcome, Meets}
 use Rattle.meaning.specs.Questions.{identifier_question}
 use Rattle.meaning.specs.Forms.{form_question}
@@ -22,6 +20,11 @@ use Rattle.valdrabus.specs.declared.views.View.{View}
 use Rattle.valdrabus.specs.Numbers.{identifier_told, writing_told, Says, Tells, SaysPlace, TellsPlace}
 use Rattle.valdrabus.specs.Calls.{outcome_told, identifier_call, form_call, Counts, Bare, Lengths, Splits, found_told, day_call, Dates, Finds, Packs}
 use Rattle.valdrabus.specs.Views.{Shows}
+use Rattle.meaning.specs.declared.CalendarDay.{CalendarDay}
+use Rattle.std.specs.Prelude.{Result}
+use Rattle.std.specs.Prelude.{Option}
+use Rattle.meaning.specs.declared.Text.{Text}
+use Rattle.meaning.specs.declared.IdentifierError.{IdentifierError}
 
 module _ (t : Told) where
   module _ (r how first second : ℕ) (w : Says t r how first second) where
@@ -31,16 +34,13 @@ module _ (t : Told) where
     pub tells_of : (o : Outcome Told) (after : List ℕ) → Meets o t after → Tells o r how first second after
     tells_of o after m = record { says = says_of o.answer m.answer; buffer = m.buffer }
 
-    pub identifier_tells : (text out after : List ℕ) (a : Identifier) → Meets (identifier_question text out) a after → t ≡ identifier_told a
+    pub identifier_tells : (text out after : List ℕ) (a : Result Text IdentifierError) → Meets (identifier_question text out) a after → t ≡ identifier_told a
         → Tells (identifier_call text out) r how first second after
     unfolding identifier_call
     identifier_tells text out after a m p =
         record { says = says_of (identifier_told (identifier_question text out).answer) (p ∙ ap identifier_told m.answer); buffer = m.buffer }
 
   -- with the place
-  pub place_says : (r how first second : ℕ) → Says t r how first second → SaysPlace t r how first second t.place
-  place_says r how first second w = record { says = w; stop = refl }
-
   pub place_tells : (r how first second place : ℕ) → SaysPlace t r how first second place → (o : Outcome Told) (after : List ℕ) → Meets o t after
       → TellsPlace o r how first second place after
   place_tells r how first second place w o after m =
@@ -52,7 +52,7 @@ module _ (t : Told) where
   pub lengths_of : (o : Outcome Told) (after : List ℕ) → Meets o t after → Lengths o t.number t.second after
   lengths_of o after m = record { result = ap (λ (x : Told). x.number) m.answer; long = ap (λ (x : Told). x.second) m.answer; buffer = m.buffer }
 
-  pub form_lengths : (f : Form) (v out after : List ℕ) (a : Writing) → Meets (form_question f v out) a after → t ≡ writing_told a
+  pub form_lengths : (f : Form) (v out after : List ℕ) (a : Result ℕ WritingError) → Meets (form_question f v out) a after → t ≡ writing_told a
       → Lengths (form_call f v out) t.number t.second after
   unfolding form_call
   form_lengths f v out after a m p =
@@ -88,7 +88,7 @@ dates_of t t' p =
       two = ap (λ (x : DayTold). x.told.second) p;
     }
 
-pub finds_of : (n : ℕ) (a : Day) → a ≡ day_question n → (t : DayTold) → t ≡ found_told a
+pub finds_of : (n : ℕ) (a : Option CalendarDay) → a ≡ day_question n → (t : DayTold) → t ≡ found_told a
     → Finds (day_call n) t.told.number t.on.year t.on.month t.on.day
 unfolding day_call
 finds_of n a q t p =

@@ -16,13 +16,11 @@ use Rattle.meaning.specs.declared.Refusal.{Refusal}
 use Rattle.meaning.specs.declared.Refusal.TheVariants as Refusal'
 use Rattle.meaning.specs.declared.Text.{Text}
 use Rattle.meaning.specs.declared.Text.TheVariants as Text'
-use Rattle.meaning.specs.declared.PackedBits.{PackedBits}
-use Rattle.meaning.specs.declared.PackedBits.TheVariants as Packed'
-use Rattle.meaning.specs.declared.BitWriting.{BitWriting}
-use Rattle.meaning.specs.declared.BitWriting.TheVariants as BitWriting'
+use Rattle.meaning.specs.declared.BitWritingError.{BitWritingError}
+use Rattle.meaning.specs.declared.BitWritingError.TheVariants as BitWritingError'
 use Rattle.meaning.specs.Bytes.{◌!◌}
 use Rattle.meaning.specs.Reading.{means}
-use Rattle.meaning.specs.Answers.{Outcome, Meets, refusal_number, text_number, shown, filled}
+use Rattle.meaning.specs.Answers.{Outcome, Meets, refusal_number, shown, filled}
 use Rattle.meaning.specs.Questions.{bits_question}
 use Rattle.meaning.specs.Packing.{bits_in, pack_bits, packs_as, packed_question, radix_bits, bit_literal, bit_write_question}
 use Rattle.meaning.specs.Codes.{kind_of, is_known, literal_of}
@@ -39,6 +37,9 @@ use Rattle.valdrabus.specs.Calls.{outcome_told, called_or, called, no_bits, pack
 use Rattle.valdrabus.specs.Views.{view_call, view_bytes}
 use Rattle.valdrabus.proofs.Numbering.{refusal_number_lem, text_number_lem}
 use Rattle.valdrabus.proofs.Viewing.{view_shows}
+use Rattle.std.specs.Prelude.{Result, Ok, Err}
+use Rattle.meaning.specs.declared.PackedBits.{PackedBits}
+use Rattle.meaning.specs.Answers.{packed_at}
 
 -- THE KIND that has a letter, by its code
 abbrev pub bit_kind : BitStringRadix → ℕ
@@ -74,15 +75,15 @@ refused_some (Refusal'.InvalidMoney s) h = omega arith
 refused_some (Refusal'.NoRoom n) h = omega arith
 refused_some (Refusal'.InvalidDate s) h = omega arith
 
-zero_packed : (a : PackedBits) → (packed_told a).told.number ≡ 0 → a ≡ Packed'.Written (packed_told a).told.second (packed_told a).bits
-zero_packed (Packed'.Written n b) h = refl
-zero_packed (Packed'.Refused q) h = absurd (refused_some q h)
+zero_packed : (a : Result PackedBits Refusal) → (packed_told a).told.number ≡ 0 → a ≡ Ok (packed_at (packed_told a).told.second (packed_told a).bits)
+zero_packed (Ok π) h = refl
+zero_packed (Err q) h = absurd (refused_some q h)
 
-zero_written : (a : BitWriting) → (bit_writing_told a).number ≡ 0 → a ≡ BitWriting'.Written (bit_writing_told a).second
-zero_written (BitWriting'.Written n) h = refl
-zero_written BitWriting'.OverLimit h = absurd (omega arith)
-zero_written BitWriting'.BadBits h = absurd (omega arith)
-zero_written (BitWriting'.NoRoom n) h = absurd (omega arith)
+zero_written : (a : Result ℕ BitWritingError) → (bit_writing_told a).number ≡ 0 → a ≡ Ok (bit_writing_told a).second
+zero_written (Ok n) h = refl
+zero_written (Err BitWritingError'.OverLimit) h = absurd (omega arith)
+zero_written (Err BitWritingError'.BadBits) h = absurd (omega arith)
+zero_written (Err (BitWritingError'.NoRoom n)) h = absurd (omega arith)
 
 -- A CALL of valdrabus_as_packed_bits on the text t: the kind is a radix's, and the mark 0, for not synthetic
 pub record PackExport (r : BitStringRadix) (t : List ℕ) : Type 0 where
@@ -112,7 +113,7 @@ module _ {r : BitStringRadix} {t : List ℕ} (c : PackExport r t) where
   abbrev pub literal : Literal
   literal = literal_of (bit_kind r) 0 c.start c.end
 
-  abbrev pub packing : Outcome PackedBits
+  abbrev pub packing : Outcome (Result PackedBits Refusal)
   packing = packed_question literal c.source c.lent
 
   pub tells_packing : Packs (outcome_told packed_told packing) c.result c.bits c.how c.first c.second c.after
@@ -133,18 +134,18 @@ module _ {r : BitStringRadix} {t : List ℕ} (c : PackExport r t) where
         contract = record { answer = refl; buffer = tells_packing.buffer };
       }
 
-  pub packed_there : c.result ≡ 0 → packing.answer ≡ Packed'.Written c.second c.bits
+  pub packed_there : c.result ≡ 0 → packing.answer ≡ Ok (packed_at c.second c.bits)
   packed_there z =
       rw (tells_packing.says.two, tells_packing.count) (zero_packed packing.answer (sym tells_packing.says.result ∙ z))
 
-  pub packed_here : (bytes : List ℕ) (n : ℕ) → packing.answer ≡ Packed'.Written (length bytes) n → c.after ≡ bytes ++ drop (length bytes) c.lent
+  pub packed_here : (bytes : List ℕ) (n : ℕ) → packing.answer ≡ Ok (packed_at (length bytes) n) → c.after ≡ bytes ++ drop (length bytes) c.lent
       → Gives c bytes n
   packed_here bytes n e d = record {
-    number = tells_packing.says.result ∙ ap (λ (a : PackedBits). (packed_told a).told.number) e;
-    count = tells_packing.count ∙ ap (λ (a : PackedBits). (packed_told a).bits) e;
-    way = tells_packing.says.way ∙ ap (λ (a : PackedBits). (packed_told a).told.how) e;
-    begins = tells_packing.says.one ∙ ap (λ (a : PackedBits). (packed_told a).told.first) e;
-    ends = tells_packing.says.two ∙ ap (λ (a : PackedBits). (packed_told a).told.second) e;
+    number = tells_packing.says.result ∙ ap (λ (a : Result PackedBits Refusal). (packed_told a).told.number) e;
+    count = tells_packing.count ∙ ap (λ (a : Result PackedBits Refusal). (packed_told a).bits) e;
+    way = tells_packing.says.way ∙ ap (λ (a : Result PackedBits Refusal). (packed_told a).told.how) e;
+    begins = tells_packing.says.one ∙ ap (λ (a : Result PackedBits Refusal). (packed_told a).told.first) e;
+    ends = tells_packing.says.two ∙ ap (λ (a : Result PackedBits Refusal). (packed_told a).told.second) e;
     buffer = d;
   }
 
@@ -157,7 +158,7 @@ pub record BitExport (r : BitStringRadix) (bytes : List ℕ) (n : ℕ) : Type 0 
   pub contract : Lengths (bit_write_call bytes n (bit_kind r) lent) result len after
 
 module _ {r : BitStringRadix} {bytes : List ℕ} {n : ℕ} (w : BitExport r bytes n) where
-  abbrev pub writing : Outcome BitWriting
+  abbrev pub writing : Outcome (Result ℕ BitWritingError)
   writing = bit_write_question r bytes n w.lent
 
   pub tells_writing : Lengths (outcome_told bit_writing_told writing) w.result w.len w.after
@@ -167,13 +168,13 @@ module _ {r : BitStringRadix} {bytes : List ℕ} {n : ℕ} (w : BitExport r byte
   abbrev pub writer_call : BitWriterCall r bytes n
   writer_call = record { lent = w.lent; result = writing.answer; after = w.after; contract = record { answer = refl; buffer = tells_writing.buffer } }
 
-  pub wrote_there : w.result ≡ 0 → writing.answer ≡ BitWriting'.Written w.len
+  pub wrote_there : w.result ≡ 0 → writing.answer ≡ Ok w.len
   wrote_there z = rw tells_writing.long (zero_written writing.answer (sym tells_writing.result ∙ z))
 
-  pub wrote_here : (m : ℕ) → writing.answer ≡ BitWriting'.Written m → (w.result ≡ 0) × (w.len ≡ m)
+  pub wrote_here : (m : ℕ) → writing.answer ≡ Ok m → (w.result ≡ 0) × (w.len ≡ m)
   wrote_here m e = (
-    tells_writing.result ∙ ap (λ (a : BitWriting). (bit_writing_told a).number) e,
-    tells_writing.long ∙ ap (λ (a : BitWriting). (bit_writing_told a).second) e,
+    tells_writing.result ∙ ap (λ (a : Result ℕ BitWritingError). (bit_writing_told a).number) e,
+    tells_writing.long ∙ ap (λ (a : Result ℕ BitWritingError). (bit_writing_told a).second) e,
   )
 
   -- a count that goes with the bytes is written, where there is room; and none other
@@ -181,7 +182,7 @@ module _ {r : BitStringRadix} {bytes : List ℕ} {n : ℕ} (w : BitExport r byte
       → (w.result ≡ 0) × (w.len ≡ length (bit_literal r bytes n))
   fine_exports_write l f room =
       wrote_here (length (bit_literal r bytes n))
-      (ap (λ (o : Outcome BitWriting). o.answer) (bit_writes_lem r bytes n w.lent l f ∙ bit_writes_all (bit_literal r bytes n) w.lent room))
+      (ap (λ (o : Outcome (Result ℕ BitWritingError)). o.answer) (bit_writes_lem r bytes n w.lent l f ∙ bit_writes_all (bit_literal r bytes n) w.lent room))
 
   pub written_exports_fine : w.result ≡ 0 → (length bytes ≤ 268435456) × Fine r bytes n
   written_exports_fine z = let a = bit_accepted r bytes n w.lent w.len (wrote_there z) in (a.0, a.1)
@@ -229,14 +230,14 @@ how_none (Refusal'.InvalidDate s) = refl
 refused_few : (q : Refusal) (n : ℕ) → n ≤ 8 → (refusal_told q).number ≡ n → refusal_number q ≤ 8
 refused_few q n h e = let m = refusal_number_lem q in omega arith
 
-packed_few : (a : PackedBits) (n : ℕ) → 1 ≤ n → n ≤ 8 → (packed_told a).told.number ≡ n → (q : Refusal) × (a ≡ Packed'.Refused q) × (refusal_number q ≤ 8)
-packed_few (Packed'.Written m b) n lo hi e = absurd (omega arith)
-packed_few (Packed'.Refused q) n lo hi e = (q, refl, refused_few q n hi e)
+packed_few : (a : Result PackedBits Refusal) (n : ℕ) → 1 ≤ n → n ≤ 8 → (packed_told a).told.number ≡ n → (q : Refusal) × (a ≡ Err q) × (refusal_number q ≤ 8)
+packed_few (Ok π) n lo hi e = absurd (omega arith)
+packed_few (Err q) n lo hi e = (q, refl, refused_few q n hi e)
 
-text_few : (a : Text) (n : ℕ) → 1 ≤ n → n ≤ 8 → (text_told a).number ≡ n → (q : Refusal) × (a ≡ Text'.Refused q) × (refusal_number q ≤ 8)
-text_few (Text'.Borrowed f u) n lo hi e = absurd (omega arith)
-text_few (Text'.Written m) n lo hi e = absurd (omega arith)
-text_few (Text'.Refused q) n lo hi e = (q, refl, refused_few q n hi e)
+text_few : (a : Result Text Refusal) (n : ℕ) → 1 ≤ n → n ≤ 8 → (text_told a).number ≡ n → (q : Refusal) × (a ≡ Err q) × (refusal_number q ≤ 8)
+text_few (Ok (Text'.Borrowed f u)) n lo hi e = absurd (omega arith)
+text_few (Ok (Text'.Written m)) n lo hi e = absurd (omega arith)
+text_few (Err q) n lo hi e = (q, refl, refused_few q n hi e)
 
 no_ten : (q : Refusal) → (refusal_told q).number ≡ 10 → ⊥
 no_ten (Refusal'.WrongKind e k) h = omega arith
@@ -250,14 +251,14 @@ no_ten (Refusal'.InvalidMoney s) h = omega arith
 no_ten (Refusal'.NoRoom n) h = omega arith
 no_ten (Refusal'.InvalidDate s) h = omega arith
 
-packed_no_ten : (a : PackedBits) → (packed_told a).told.number ≡ 10 → ⊥
-packed_no_ten (Packed'.Written m b) h = omega arith
-packed_no_ten (Packed'.Refused q) h = no_ten q h
+packed_no_ten : (a : Result PackedBits Refusal) → (packed_told a).told.number ≡ 10 → ⊥
+packed_no_ten (Ok π) h = omega arith
+packed_no_ten (Err q) h = no_ten q h
 
-text_no_ten : (a : Text) → (text_told a).number ≡ 10 → ⊥
-text_no_ten (Text'.Borrowed f u) h = omega arith
-text_no_ten (Text'.Written m) h = omega arith
-text_no_ten (Text'.Refused q) h = no_ten q h
+text_no_ten : (a : Result Text Refusal) → (text_told a).number ≡ 10 → ⊥
+text_no_ten (Ok (Text'.Borrowed f u)) h = omega arith
+text_no_ten (Ok (Text'.Written m)) h = omega arith
+text_no_ten (Err q) h = no_ten q h
 
 module _ (k y s e : ℕ) (S out out' : List ℕ) where
   abbrev l : Literal
@@ -270,17 +271,17 @@ module _ (k y s e : ℕ) (S out out' : List ℕ) where
   texts known = called known out' (outcome_told text_told (bits_question l S out'))
 
   module _ {r b h f g r' h' f' g' : ℕ} {after after' : List ℕ} where
-    alike : (q : Refusal) → refusal_number q ≤ 8 → (packed_question l S out).answer ≡ Packed'.Refused q → Packs (packs true) r b h f g after
+    alike : (q : Refusal) → refusal_number q ≤ 8 → (packed_question l S out).answer ≡ Err q → Packs (packs true) r b h f g after
         → Tells (texts true) r' h' f' g' after' → Alike out r b h f g after r' f' g'
     alike q few a v w =
-        let x : (bits_question l S out').answer ≡ Text'.Refused q = (packed_refuses l S out out' q few).0 a in
+        let x : (bits_question l S out').answer ≡ Err q = (packed_refuses l S out out' q few).0 a in
         record {
-          number = v.says.result ∙ ap (λ (z : PackedBits). (packed_told z).told.number) a ∙ sym (w.says.result ∙ ap (λ (z : Text). (text_told z).number) x);
-          one = v.says.one ∙ ap (λ (z : PackedBits). (packed_told z).told.first) a ∙ sym (w.says.one ∙ ap (λ (z : Text). (text_told z).first) x);
-          two = v.says.two ∙ ap (λ (z : PackedBits). (packed_told z).told.second) a ∙ sym (w.says.two ∙ ap (λ (z : Text). (text_told z).second) x);
-          count = v.count ∙ ap (λ (z : PackedBits). (packed_told z).bits) a;
-          way = v.says.way ∙ ap (λ (z : PackedBits). (packed_told z).told.how) a ∙ how_none q;
-          buffer = v.buffer ∙ subst (λ (z : PackedBits). PackedLeaves out z (packed_question l S out).buffer) a (packed_leaves l S out);
+          number = v.says.result ∙ ap (λ (z : Result PackedBits Refusal). (packed_told z).told.number) a ∙ sym (w.says.result ∙ ap (λ (z : Result Text Refusal). (text_told z).number) x);
+          one = v.says.one ∙ ap (λ (z : Result PackedBits Refusal). (packed_told z).told.first) a ∙ sym (w.says.one ∙ ap (λ (z : Result Text Refusal). (text_told z).first) x);
+          two = v.says.two ∙ ap (λ (z : Result PackedBits Refusal). (packed_told z).told.second) a ∙ sym (w.says.two ∙ ap (λ (z : Result Text Refusal). (text_told z).second) x);
+          count = v.count ∙ ap (λ (z : Result PackedBits Refusal). (packed_told z).bits) a;
+          way = v.says.way ∙ ap (λ (z : Result PackedBits Refusal). (packed_told z).told.how) a ∙ how_none q;
+          buffer = v.buffer ∙ subst (λ (z : Result PackedBits Refusal). PackedLeaves out z (packed_question l S out).buffer) a (packed_leaves l S out);
         }
 
     from_packed : (known : Bool) → Packs (packs known) r b h f g after → Tells (texts known) r' h' f' g' after' → (n : ℕ) → 1 ≤ n → n ≤ 8 → r ≡ n
@@ -336,7 +337,7 @@ module _ {r : BitStringRadix} {t : List ℕ} (c : PackExport r t) (out : List �
 
   packs_seen : Meets (packs_as (literal c).span (radix_bits r) c.lent (means seen)) (packing c).answer c.after
   packs_seen =
-      let o : Outcome Text = bits_question (literal c) c.source out in
+      let o : Outcome (Result Text Refusal) = bits_question (literal c) c.source out in
       let q : seen ≡ shown c.source after o.answer =
       rw (tells_bits.says.way, tells_bits.says.one, tells_bits.says.two) (view_shows c.source after o.answer) in
       rw q
@@ -357,9 +358,9 @@ module _ {r : BitStringRadix} {t : List ℕ} (c : PackExport r t) (out : List �
   short_exports room =
       let m = packs_seen in
       let x = lt-leb (length packed) (length c.lent) room in
-      let a : (packing c).answer ≡ Packed'.Refused (Refusal'.NoRoom (length packed)) = rw x at m.answer in (
-        (tells_packing c).says.result ∙ ap (λ (z : PackedBits). (packed_told z).told.number) a,
-        (tells_packing c).count ∙ ap (λ (z : PackedBits). (packed_told z).bits) a,
-        (tells_packing c).says.two ∙ ap (λ (z : PackedBits). (packed_told z).told.second) a,
+      let a : (packing c).answer ≡ Err (Refusal'.NoRoom (length packed)) = rw x at m.answer in (
+        (tells_packing c).says.result ∙ ap (λ (z : Result PackedBits Refusal). (packed_told z).told.number) a,
+        (tells_packing c).count ∙ ap (λ (z : Result PackedBits Refusal). (packed_told z).bits) a,
+        (tells_packing c).says.two ∙ ap (λ (z : Result PackedBits Refusal). (packed_told z).told.second) a,
         rw x at m.buffer,
       )

@@ -6,7 +6,7 @@ use mathlib.Core.Bool.{false}
 use mathlib.Core.List.{List, [], ◌∷◌, ◌++◌}
 use Prim.Native.Nat.{ℕ, zero, suc, ◌≤◌, ◌<◌}
 use native.Mathlib.Omega.{arith}
-use lib.ListN.{length, take, drop}
+use lib.ListN.{length, drop}
 use Rattle.meaning.specs.declared.BitStringRadix.TheVariants.{Binary, Hex}
 use Rattle.meaning.specs.Bytes.{◌!◌, ascii, within, is_mark, digit, all_digits}
 use Rattle.meaning.specs.Chars.{lead, utf8}

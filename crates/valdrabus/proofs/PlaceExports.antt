@@ -22,6 +22,7 @@ use Rattle.laws.proofs.places.Told.{stopped_at, place_told_lem, told_place, temp
 use Rattle.valdrabus.specs.Numbers.{text_told, TellsPlace}
 use Rattle.valdrabus.specs.Calls.{outcome_told, called, string_call, temporal_call}
 use Rattle.valdrabus.proofs.Demands.{StringExport, asked, tells_all}
+use Rattle.std.specs.Prelude.{Result, Ok, Err}
 
 -- a call that gave 6 and the place p, of a literal from start to end: nothing is answered, and the buffer is as lent
 pub record Stopped (start end p : ℕ) (lent : List ℕ) (result how first second place : ℕ) (after : List ℕ) : Type 0 where
@@ -33,7 +34,7 @@ pub record Stopped (start end p : ℕ) (lent : List ℕ) (result how first secon
   pub buffer : after ≡ lent
 
 -- WHAT THE NUMBERS SAY of a refusal, of an answer
-pub refused_six : (r : Refusal) → (text_told (Text'.Refused r)).number ≡ 6 → (sp : Span) × (r ≡ Refusal'.InvalidString sp (text_told (Text'.Refused r)).place)
+pub refused_six : (r : Refusal) → (text_told (Err r)).number ≡ 6 → (sp : Span) × (r ≡ Refusal'.InvalidString sp (text_told (Err r)).place)
 refused_six (Refusal'.WrongKind e k) h = absurd (omega arith)
 refused_six (Refusal'.MissingSource s) h = absurd (omega arith)
 refused_six (Refusal'.InvalidSourceRange s) h = absurd (omega arith)
@@ -45,12 +46,12 @@ refused_six (Refusal'.InvalidMoney s) h = absurd (omega arith)
 refused_six (Refusal'.NoRoom n) h = absurd (omega arith)
 refused_six (Refusal'.InvalidDate s) h = absurd (omega arith)
 
-pub six : (a : Text) → (text_told a).number ≡ 6 → (sp : Span) × (a ≡ Text'.Refused (Refusal'.InvalidString sp (text_told a).place))
-six (Text'.Borrowed f u) h = absurd (omega arith)
-six (Text'.Written n) h = absurd (omega arith)
-six (Text'.Refused r) h = let w = refused_six r h in (w.0, ap Text'.Refused w.1)
+pub six : (a : Result Text Refusal) → (text_told a).number ≡ 6 → (sp : Span) × (a ≡ Err (Refusal'.InvalidString sp (text_told a).place))
+six (Ok (Text'.Borrowed f u)) h = absurd (omega arith)
+six (Ok (Text'.Written n)) h = absurd (omega arith)
+six (Err r) h = let w = refused_six r h in (w.0, ap Err w.1)
 
-refused_other : (r : Refusal) → ((text_told (Text'.Refused r)).number ≡ 6 → ⊥) → (text_told (Text'.Refused r)).place ≡ 0
+refused_other : (r : Refusal) → ((text_told (Err r)).number ≡ 6 → ⊥) → (text_told (Err r)).place ≡ 0
 refused_other (Refusal'.WrongKind e k) h = refl
 refused_other (Refusal'.MissingSource s) h = refl
 refused_other (Refusal'.InvalidSourceRange s) h = refl
@@ -62,32 +63,32 @@ refused_other (Refusal'.InvalidMoney s) h = refl
 refused_other (Refusal'.NoRoom n) h = refl
 refused_other (Refusal'.InvalidDate s) h = refl
 
-other : (a : Text) → ((text_told a).number ≡ 6 → ⊥) → (text_told a).place ≡ 0
-other (Text'.Borrowed f u) h = refl
-other (Text'.Written n) h = refl
-other (Text'.Refused r) h = refused_other r h
+other : (a : Result Text Refusal) → ((text_told a).number ≡ 6 → ⊥) → (text_told a).place ≡ 0
+other (Ok (Text'.Borrowed f u)) h = refl
+other (Ok (Text'.Written n)) h = refl
+other (Err r) h = refused_other r h
 
-module _ (o : Outcome Text) {r h f u p : ℕ} {after : List ℕ} (w : TellsPlace (outcome_told text_told o) r h f u p after) where
+module _ (o : Outcome (Result Text Refusal)) {r h f u p : ℕ} {after : List ℕ} (w : TellsPlace (outcome_told text_told o) r h f u p after) where
   stopped_tells : (sp : Span) (q : ℕ) (lent : List ℕ) → o ≡ stopped_at sp q lent → Stopped sp.start sp.end q lent r h f u p after
   stopped_tells sp q lent e = record {
-    number = w.tells.says.result ∙ ap (λ (x : Outcome Text). (text_told x.answer).number) e;
-    none = w.tells.says.way ∙ ap (λ (x : Outcome Text). (text_told x.answer).how) e;
-    begins = w.tells.says.one ∙ ap (λ (x : Outcome Text). (text_told x.answer).first) e;
-    ends = w.tells.says.two ∙ ap (λ (x : Outcome Text). (text_told x.answer).second) e;
-    stop = w.stop ∙ ap (λ (x : Outcome Text). (text_told x.answer).place) e;
-    buffer = w.tells.buffer ∙ ap (λ (x : Outcome Text). x.buffer) e;
+    number = w.tells.says.result ∙ ap (λ (x : Outcome (Result Text Refusal)). (text_told x.answer).number) e;
+    none = w.tells.says.way ∙ ap (λ (x : Outcome (Result Text Refusal)). (text_told x.answer).how) e;
+    begins = w.tells.says.one ∙ ap (λ (x : Outcome (Result Text Refusal)). (text_told x.answer).first) e;
+    ends = w.tells.says.two ∙ ap (λ (x : Outcome (Result Text Refusal)). (text_told x.answer).second) e;
+    stop = w.stop ∙ ap (λ (x : Outcome (Result Text Refusal)). (text_told x.answer).place) e;
+    buffer = w.tells.buffer ∙ ap (λ (x : Outcome (Result Text Refusal)). x.buffer) e;
   }
 
-  tells_six : r ≡ 6 → (sp : Span) × (o.answer ≡ Text'.Refused (Refusal'.InvalidString sp p))
+  tells_six : r ≡ 6 → (sp : Span) × (o.answer ≡ Err (Refusal'.InvalidString sp p))
   tells_six e =
       let x = six o.answer (sym w.tells.says.result ∙ e) in
-      (x.0, x.1 ∙ ap (λ (q : ℕ). Text'.Refused (Refusal'.InvalidString x.0 q)) (sym w.stop))
+      (x.0, x.1 ∙ ap (λ (q : ℕ). Err (Refusal'.InvalidString x.0 q)) (sym w.stop))
 
   tells_other : (r ≡ 6 → ⊥) → p ≡ 0
   tells_other n = w.stop ∙ other o.answer (λ e. n (w.tells.says.result ∙ e))
 
 -- WITH ANY OTHER NUMBER, of whatever was given, the place is 0
-called_other : (known : Bool) (out : List ℕ) (o : Outcome Text) {r h f u p : ℕ} {after : List ℕ}
+called_other : (known : Bool) (out : List ℕ) (o : Outcome (Result Text Refusal)) {r h f u p : ℕ} {after : List ℕ}
     → TellsPlace (called known out (outcome_told text_told o)) r h f u p after → (r ≡ 6 → ⊥) → p ≡ 0
 called_other true out o w n = tells_other o w n
 called_other false out o w n = w.stop
@@ -134,7 +135,7 @@ pub record TemporalExport (t : List ℕ) : Type 0 where
   pub contract : TellsPlace (temporal_call kind 0 start end source lent) result how first second place after
 
 module _ {t : List ℕ} (c : TemporalExport t) where
-  abbrev question : Outcome Text
+  abbrev question : Outcome (Result Text Refusal)
   question = temporal_question (literal_of c.kind 0 c.start c.end) c.source c.lent
 
   temporal_tells : TellsPlace (outcome_told text_told question) c.result c.how c.first c.second c.place c.after

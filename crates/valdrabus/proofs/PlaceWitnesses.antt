@@ -1,6 +1,6 @@
 -- [02 T-04] What the laws of the exported places ask for can be had: a closed call on joined text whose third segment is refused, and one on a date. Assumes
 -- nothing.
-use mathlib.Core.Path.{◌≡◌, refl}
+use mathlib.Core.Path.{refl}
 use mathlib.Core.List.{List, [], ◌∷◌}
 use Prim.Native.Nat.{ℕ}
 use native.Mathlib.Omega.{arith}

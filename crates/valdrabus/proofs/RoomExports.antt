@@ -11,10 +11,6 @@ use Rattle.meaning.specs.declared.Refusal.{Refusal}
 use Rattle.meaning.specs.declared.Refusal.TheVariants as Refusal'
 use Rattle.meaning.specs.declared.Text.{Text}
 use Rattle.meaning.specs.declared.Text.TheVariants as Text'
-use Rattle.meaning.specs.declared.Identifier.{Identifier}
-use Rattle.meaning.specs.declared.Identifier.TheVariants as Identifier'
-use Rattle.meaning.specs.declared.PackedBits.{PackedBits}
-use Rattle.meaning.specs.declared.PackedBits.TheVariants as Packed'
 use Rattle.meaning.specs.Answers.{Outcome}
 use Rattle.meaning.specs.Questions.{string_question, decimal_question, bits_question, temporal_question, identifier_question}
 use Rattle.meaning.specs.Packing.{packed_question}
@@ -30,6 +26,10 @@ use Rattle.valdrabus.specs.Numbers.{number_told, refusal_told, text_told, identi
 use Rattle.valdrabus.specs.Calls.{outcome_told, called_or, called, no_bits, packed_told, Packs, string_call, decimal_call, bits_call, temporal_call, packed_call}
 use Rattle.valdrabus.specs.Calls.{identifier_call}
 use Rattle.valdrabus.proofs.Demands.{StringExport, Shows, string_call_lem, shows_there, shows_here}
+use Rattle.std.specs.Prelude.{Result, Ok, Err}
+use Rattle.meaning.specs.declared.IdentifierError.{IdentifierError}
+use Rattle.meaning.specs.declared.IdentifierError.TheVariants as IdentifierError'
+use Rattle.meaning.specs.declared.PackedBits.{PackedBits}
 
 -- WHAT THE NUMBERS SAY with 9, in a buffer of m bytes: of the length that is told, P, and there is no room for it
 abbrev Nine : (ℕ → Type 0) → ℕ → Told → Type 0
@@ -48,21 +48,21 @@ module _ (P : ℕ → Type 0) (m : ℕ) where
   refusal_nine (Refusal'.InvalidMoney s) a e = absurd (omega arith)
   refusal_nine (Refusal'.InvalidDate s) a e = absurd (omega arith)
 
-  text_nine : (a : Text) → TextNeeds P m a → Nine P m (text_told a)
-  text_nine (Text'.Borrowed f u) x e = absurd (omega arith)
-  text_nine (Text'.Written n) x e = absurd (omega arith)
-  text_nine (Text'.Refused r) x e = refusal_nine r x e
+  text_nine : (a : Result Text Refusal) → TextNeeds P m a → Nine P m (text_told a)
+  text_nine (Ok (Text'.Borrowed f u)) x e = absurd (omega arith)
+  text_nine (Ok (Text'.Written n)) x e = absurd (omega arith)
+  text_nine (Err r) x e = refusal_nine r x e
 
-  packed_nine : (a : PackedBits) → PackedNeeds P m a → Nine P m (packed_told a).told
-  packed_nine (Packed'.Written n b) x e = absurd (omega arith)
-  packed_nine (Packed'.Refused r) x e = refusal_nine r x e
+  packed_nine : (a : Result PackedBits Refusal) → PackedNeeds P m a → Nine P m (packed_told a).told
+  packed_nine (Ok π) x e = absurd (omega arith)
+  packed_nine (Err r) x e = refusal_nine r x e
 
-  identifier_nine : (a : Identifier) → IdentifierNeeds P m a → Nine P m (identifier_told a)
-  identifier_nine (Identifier'.Borrowed f u) x e = absurd (omega arith)
-  identifier_nine (Identifier'.Written n) x e = absurd (omega arith)
-  identifier_nine Identifier'.NotUtf8 x e = absurd (omega arith)
-  identifier_nine Identifier'.InvalidString x e = absurd (omega arith)
-  identifier_nine (Identifier'.NoRoom n) x e = x
+  identifier_nine : (a : Result Text IdentifierError) → IdentifierNeeds P m a → Nine P m (identifier_told a)
+  identifier_nine (Ok (Text'.Borrowed f u)) x e = absurd (omega arith)
+  identifier_nine (Ok (Text'.Written n)) x e = absurd (omega arith)
+  identifier_nine (Err IdentifierError'.NotUtf8) x e = absurd (omega arith)
+  identifier_nine (Err IdentifierError'.InvalidString) x e = absurd (omega arith)
+  identifier_nine (Err (IdentifierError'.NoRoom n)) x e = x
 
   -- so with what came back of a call: its result and its second number
   says_nine : {t : Told} {r h f u : ℕ} → Says t r h f u → Nine P m t → r ≡ 9 → P u × (m < u)
@@ -72,7 +72,7 @@ module _ (P : ℕ → Type 0) (m : ℕ) where
   never_nine {t} {r} {h} {f} {u} fits w n e = let a = says_nine w n e in omega (arith, fits u a.0, a.1)
 
 -- numbers that name nothing get a 10
-called_nine : (P : ℕ → Type 0) (known : Bool) (out : List ℕ) (o : Outcome Text) → TextNeeds P (length out) o.answer
+called_nine : (P : ℕ → Type 0) (known : Bool) (out : List ℕ) (o : Outcome (Result Text Refusal)) → TextNeeds P (length out) o.answer
     → Nine P (length out) (called known out (outcome_told text_told o)).answer
 called_nine P true out o x = text_nine P (length out) o.answer x
 called_nine P false out o x = λ e. absurd (omega arith)
@@ -127,7 +127,7 @@ module _ (k y s e : ℕ) (S out : List ℕ) {r h f u : ℕ} {after : List ℕ} w
       never_nine (Half (e - s)) (length out) (λ n a. omega arith) w.says
       (go (is_known k y 0) (packed_question (literal_of k y s e) S out) (packed_needs (literal_of k y s e) S out))
     where
-      go : (known : Bool) (o : Outcome PackedBits) → PackedNeeds (Half (e - s)) (length out) o.answer
+      go : (known : Bool) (o : Outcome (Result PackedBits Refusal)) → PackedNeeds (Half (e - s)) (length out) o.answer
           → Nine (Half (e - s)) (length out) (called_or (no_bits (number_told 10)) known out (outcome_told packed_told o)).answer.told
       go true o x = packed_nine (Half (e - s)) (length out) o.answer x
       go false o x = λ z. absurd (omega arith)

@@ -15,6 +15,7 @@ use Rattle.meaning.specs.Answers.{part_shown, shown}
 use Rattle.valdrabus.specs.declared.told.Told.{Told}
 use Rattle.valdrabus.specs.Numbers.{text_told}
 use Rattle.valdrabus.specs.Views.{viewed, view_call, view_bytes}
+use Rattle.std.specs.Prelude.{Result, Ok, Err}
 
 -- THE TWO TESTS
 module _ (how f u m n : ℕ) where
@@ -45,7 +46,7 @@ module _ (S out : List ℕ) where
   of_buffer f u true = refl
   of_buffer f u false = refl
 
-  refused : (r : Refusal) → seen (text_told (Text'.Refused r)) ≡ []
+  refused : (r : Refusal) → seen (text_told (Err r)) ≡ []
   unfolding view_call
   refused (Refusal'.WrongKind e k) = refl
   refused (Refusal'.MissingSource s) = refl
@@ -58,8 +59,8 @@ module _ (S out : List ℕ) where
   refused (Refusal'.NoRoom n) = refl
   refused (Refusal'.InvalidDate s) = refl
 
-  pub view_shows : (a : Text) → seen (text_told a) ≡ shown S out a
+  pub view_shows : (a : Result Text Refusal) → seen (text_told a) ≡ shown S out a
   unfolding view_call part_shown
-  view_shows (Text'.Borrowed f u) = of_source f u (leb f u && leb u (length S))
-  view_shows (Text'.Written n) = of_buffer 0 n (leb 0 n && leb n (length out))
-  view_shows (Text'.Refused r) = refused r
+  view_shows (Ok (Text'.Borrowed f u)) = of_source f u (leb f u && leb u (length S))
+  view_shows (Ok (Text'.Written n)) = of_buffer 0 n (leb 0 n && leb n (length out))
+  view_shows (Err r) = refused r

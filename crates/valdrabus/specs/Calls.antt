@@ -1,14 +1,6 @@
 -- What each exported call answers, in numbers: 10 where a number names nothing, else the question's own answer. Assumes nothing.
-use Rattle.std.specs.Prelude.{Bool, true, false, ◌&&◌, ◌||◌, ◌≡◌, List, ℕ, eqb, leb, ℤ, pos}
-use Rattle.meaning.specs.declared.Integer.{Integer}
-use Rattle.meaning.specs.declared.Integer.TheVariants as Integer'
+use Rattle.std.specs.Prelude.{Bool, true, false, ◌&&◌, ◌||◌, ◌≡◌, List, ℕ, eqb, leb, ℤ, pos, Result, Ok, Err}
 use Rattle.meaning.specs.declared.CalendarDay.{CalendarDay}
-use Rattle.meaning.specs.declared.Day.{Day}
-use Rattle.meaning.specs.declared.Day.TheVariants as Day'
-use Rattle.meaning.specs.declared.Dated.{Dated}
-use Rattle.meaning.specs.declared.Dated.TheVariants as Dated'
-use Rattle.meaning.specs.declared.PackedBits.{PackedBits}
-use Rattle.meaning.specs.declared.PackedBits.TheVariants as Packed'
 use Rattle.meaning.specs.declared.BitStringRadix.{BitStringRadix}
 use Rattle.meaning.specs.declared.BitStringRadix.TheVariants.{Binary, Hex}
 use Rattle.meaning.specs.declared.PartSize.{PartSize}
@@ -29,6 +21,9 @@ use Rattle.valdrabus.specs.declared.packed.PackedTold.{PackedTold}
 use Rattle.meaning.specs.Codes.{kind_of, is_known, literal_of, settings_of}
 use Rattle.valdrabus.specs.Numbers.{number_told, written_told, refusal_told, text_told, range_told, charset_told, truth_told, nullness_told, identifier_told}
 use Rattle.valdrabus.specs.Numbers.{writing_told, bit_writing_told, Says}
+use Rattle.meaning.specs.declared.Refusal.{Refusal}
+use Rattle.std.specs.Prelude.{Option, Some, None}
+use Rattle.meaning.specs.declared.PackedBits.{PackedBits}
 
 -- an answer and its buffer, told in numbers
 abbrev pub outcome_told : {A B : Type 0} → (A → B) → Outcome A → Outcome B
@@ -70,15 +65,15 @@ unfoldable pub charset_call : ℕ → ℕ → ℕ → ℕ → List ℕ → Told
 charset_call k y s e source = called_bare (is_known k y 0) (charset_told (charset_question (literal_of k y s e) source))
 
 -- VALUES
-abbrev pub integer_value : Integer → ℤ
-integer_value (Integer'.Value z) = z
-integer_value (Integer'.Refused r) = pos 0
+abbrev pub integer_value : Result ℤ Refusal → ℤ
+integer_value (Ok z) = z
+integer_value (Err r) = pos 0
 
-abbrev pub integer_told : Integer → Told
-integer_told (Integer'.Value z) = number_told 0
-integer_told (Integer'.Refused r) = refusal_told r
+abbrev pub integer_told : Result ℤ Refusal → Told
+integer_told (Ok z) = number_told 0
+integer_told (Err r) = refusal_told r
 
-abbrev pub counted_of : Integer → Counted
+abbrev pub counted_of : Result ℤ Refusal → Counted
 counted_of a = record { told = integer_told a; value = integer_value a }
 
 abbrev pub called_count : Bool → Counted → Counted
@@ -104,13 +99,13 @@ no_day = record { year = 0; month = 0; day = 0; number = 0 }
 abbrev pub day_told : Told → CalendarDay → DayTold
 day_told t d = record { told = t; on = d }
 
-abbrev pub dated_told : Dated → DayTold
-dated_told (Dated'.On d) = day_told (number_told 0) d
-dated_told (Dated'.Refused r) = day_told (refusal_told r) no_day
+abbrev pub dated_told : Result CalendarDay Refusal → DayTold
+dated_told (Ok d) = day_told (number_told 0) d
+dated_told (Err r) = day_told (refusal_told r) no_day
 
-abbrev pub found_told : Day → DayTold
-found_told (Day'.On d) = day_told (number_told 0) d
-found_told Day'.InvalidDate = day_told (number_told 14) no_day
+abbrev pub found_told : Option CalendarDay → DayTold
+found_told (Some d) = day_told (number_told 0) d
+found_told None = day_told (number_told 14) no_day
 
 abbrev pub called_day : Bool → DayTold → DayTold
 called_day true t = t
@@ -127,9 +122,9 @@ day_call n = found_told (day_question n)
 abbrev pub no_bits : Told → PackedTold
 no_bits t = record { told = t; bits = 0 }
 
-abbrev pub packed_told : PackedBits → PackedTold
-packed_told (Packed'.Written n b) = record { told = written_told n; bits = b }
-packed_told (Packed'.Refused r) = no_bits (refusal_told r)
+abbrev pub packed_told : Result PackedBits Refusal → PackedTold
+packed_told (Ok π) = record { told = written_told π.len; bits = π.bits }
+packed_told (Err r) = no_bits (refusal_told r)
 
 unfoldable pub packed_call : ℕ → ℕ → ℕ → ℕ → List ℕ → List ℕ → Outcome PackedTold
 packed_call k y s e source out =

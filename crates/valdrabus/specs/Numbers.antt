@@ -1,28 +1,23 @@
 -- An answer in five numbers: 0 or the refusal's number; how a text is answered (0 not, 1 borrowed, 2 written); two numbers more; and the place of a 6. Where
 -- nothing is said a number is 0. Assumes nothing.
-use Rattle.std.specs.Prelude.{◌≡◌, true, false, List, ℕ}
+use Rattle.std.specs.Prelude.{◌≡◌, true, false, List, ℕ, Result, Ok, Err}
 use Rattle.meaning.specs.declared.Span.{Span}
 use Rattle.meaning.specs.declared.Refusal.{Refusal}
 use Rattle.meaning.specs.declared.Refusal.TheVariants.{WrongKind, MissingSource, InvalidSourceRange, NotUtf8, InvalidInteger, InvalidString, InvalidBitString}
 use Rattle.meaning.specs.declared.Refusal.TheVariants.{InvalidMoney, NoRoom, InvalidDate}
 use Rattle.meaning.specs.declared.Text.{Text}
 use Rattle.meaning.specs.declared.Text.TheVariants as Text'
-use Rattle.meaning.specs.declared.Range.{Range}
-use Rattle.meaning.specs.declared.Range.TheVariants as Range'
-use Rattle.meaning.specs.declared.Charset.{Charset}
-use Rattle.meaning.specs.declared.Charset.TheVariants as Charset'
-use Rattle.meaning.specs.declared.Truth.{Truth}
-use Rattle.meaning.specs.declared.Truth.TheVariants as Truth'
-use Rattle.meaning.specs.declared.Nullness.{Nullness}
-use Rattle.meaning.specs.declared.Nullness.TheVariants as Nullness'
-use Rattle.meaning.specs.declared.Identifier.{Identifier}
-use Rattle.meaning.specs.declared.Identifier.TheVariants as Identifier'
-use Rattle.meaning.specs.declared.Writing.{Writing}
-use Rattle.meaning.specs.declared.Writing.TheVariants as Writing'
-use Rattle.meaning.specs.declared.BitWriting.{BitWriting}
-use Rattle.meaning.specs.declared.BitWriting.TheVariants as BitWriting'
+use Rattle.meaning.specs.declared.WritingError.{WritingError}
+use Rattle.meaning.specs.declared.WritingError.TheVariants as WritingError'
+use Rattle.meaning.specs.declared.BitWritingError.{BitWritingError}
+use Rattle.meaning.specs.declared.BitWritingError.TheVariants as BitWritingError'
 use Rattle.meaning.specs.Answers.{Outcome, expected_code, kind_code}
 use Rattle.valdrabus.specs.declared.told.Told.{Told}
+use Rattle.std.specs.Prelude.{Bool}
+use Rattle.meaning.specs.declared.Part.{Part}
+use Rattle.std.specs.Prelude.{Option, Some, None}
+use Rattle.meaning.specs.declared.IdentifierError.{IdentifierError}
+use Rattle.meaning.specs.declared.IdentifierError.TheVariants as IdentifierError'
 
 abbrev pub five_told : ℕ → ℕ → ℕ → ℕ → ℕ → Told
 five_told number how first second place = record { number = number; how = how; first = first; second = second; place = place }
@@ -64,51 +59,51 @@ refusal_told (NoRoom n) = room_told n
 refusal_told (InvalidDate s) = span_told 14 s
 
 -- ANSWERS
-abbrev pub text_told : Text → Told
-text_told (Text'.Borrowed f u) = borrowed_told f u
-text_told (Text'.Written n) = written_told n
-text_told (Text'.Refused r) = refusal_told r
+abbrev pub text_told : Result Text Refusal → Told
+text_told (Ok (Text'.Borrowed f u)) = borrowed_told f u
+text_told (Ok (Text'.Written n)) = written_told n
+text_told (Err r) = refusal_told r
 
-abbrev pub range_told : Range → Told
-range_told (Range'.Found f u) = borrowed_told f u
-range_told (Range'.Refused r) = refusal_told r
+abbrev pub range_told : Result Part Refusal → Told
+range_told (Ok π) = borrowed_told π.start π.end
+range_told (Err r) = refusal_told r
 
 -- without a name, the number 0 and no text
-abbrev pub charset_told : Charset → Told
-charset_told (Charset'.Named f u) = borrowed_told f u
-charset_told Charset'.Unnamed = number_told 0
-charset_told (Charset'.Refused r) = refusal_told r
+abbrev pub charset_told : Result (Option Part) Refusal → Told
+charset_told (Ok (Some π)) = borrowed_told π.start π.end
+charset_told (Ok None) = number_told 0
+charset_told (Err r) = refusal_told r
 
 -- a boolean's value stands where another answer says how
-abbrev pub truth_told : Truth → Told
-truth_told (Truth'.Value true) = four_told 0 1 0 0
-truth_told (Truth'.Value false) = number_told 0
-truth_told (Truth'.Refused r) = refusal_told r
+abbrev pub truth_told : Result Bool Refusal → Told
+truth_told (Ok true) = four_told 0 1 0 0
+truth_told (Ok false) = number_told 0
+truth_told (Err r) = refusal_told r
 
-abbrev pub nullness_told : Nullness → Told
-nullness_told Nullness'.IsNull = number_told 0
-nullness_told (Nullness'.Refused r) = refusal_told r
+abbrev pub nullness_told : Result (Unit {0}) Refusal → Told
+nullness_told (Ok tt) = number_told 0
+nullness_told (Err r) = refusal_told r
 
-abbrev pub identifier_told : Identifier → Told
-identifier_told (Identifier'.Borrowed f u) = borrowed_told f u
-identifier_told (Identifier'.Written n) = written_told n
-identifier_told Identifier'.NotUtf8 = number_told 4
-identifier_told Identifier'.InvalidString = number_told 6
-identifier_told (Identifier'.NoRoom n) = room_told n
+abbrev pub identifier_told : Result Text IdentifierError → Told
+identifier_told (Ok (Text'.Borrowed f u)) = borrowed_told f u
+identifier_told (Ok (Text'.Written n)) = written_told n
+identifier_told (Err IdentifierError'.NotUtf8) = number_told 4
+identifier_told (Err IdentifierError'.InvalidString) = number_told 6
+identifier_told (Err (IdentifierError'.NoRoom n)) = room_told n
 
-abbrev pub writing_told : Writing → Told
-writing_told (Writing'.Written n) = written_told n
-writing_told Writing'.OverLimit = number_told 12
-writing_told Writing'.NotUtf8 = number_told 4
-writing_told Writing'.HoldsNul = number_told 11
-writing_told (Writing'.NoRoom n) = room_told n
+abbrev pub writing_told : Result ℕ WritingError → Told
+writing_told (Ok n) = written_told n
+writing_told (Err WritingError'.OverLimit) = number_told 12
+writing_told (Err WritingError'.NotUtf8) = number_told 4
+writing_told (Err WritingError'.HoldsNul) = number_told 11
+writing_told (Err (WritingError'.NoRoom n)) = room_told n
 
 -- [02 T-07] 12 and 16 return the number alone
-abbrev pub bit_writing_told : BitWriting → Told
-bit_writing_told (BitWriting'.Written n) = written_told n
-bit_writing_told BitWriting'.OverLimit = number_told 12
-bit_writing_told BitWriting'.BadBits = number_told 16
-bit_writing_told (BitWriting'.NoRoom n) = room_told n
+abbrev pub bit_writing_told : Result ℕ BitWritingError → Told
+bit_writing_told (Ok n) = written_told n
+bit_writing_told (Err BitWritingError'.OverLimit) = number_told 12
+bit_writing_told (Err BitWritingError'.BadBits) = number_told 16
+bit_writing_told (Err (BitWritingError'.NoRoom n)) = room_told n
 
 -- WHAT A CONTRACT SAYS: the result and the lent numbers are those of an answer
 pub record Says (t : Told) (r how first second : ℕ) : Type 0 where

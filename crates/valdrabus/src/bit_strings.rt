@@ -1,15 +1,17 @@
 // [02 T-07] Bit strings as packed bytes, and back.
 ghost use Rattle.std.specs.Prelude.{◌≡◌};
+ghost use Rattle.std.specs.Bool.{then_some};
 ghost use Rattle.meaning.specs.Answers.{Meets};
 ghost use Rattle.valdrabus.specs.Calls.{packed_call, is_bit_kind, radix_of, bit_write_call, Packs, Lengths};
 
+use crate::known::known_literal;
 use crate::packed::{PackedTold, no_bits, packed_told};
 use crate::told::{Told, bit_writing_told, number_told, tell};
-use admitting::literals::{is_known, literal_of};
 use meaning::BitStringRadix;
 use questions::packing::as_packed_bits;
 use writer::bits::write_bit_literal;
 
+// Stays: the C interface gives the numbers.
 fn packed_called(
     kind: u32,
     synthetic: u32,
@@ -20,10 +22,9 @@ fn packed_called(
 ) -> PackedTold
     ensures { Meets (packed_call kind synthetic start end source.now out.old) result out.new }
 {
-    if !is_known(kind, synthetic, 0) {
+    let Some(literal) = known_literal(kind, synthetic, start, end, 0) else {
         return no_bits(number_told(10));
-    }
-    let literal = literal_of(kind, synthetic, start, end);
+    };
     packed_told(as_packed_bits(literal, source, out))
 }
 
@@ -53,32 +54,26 @@ pub extern "C" fn valdrabus_as_packed_bits(
     tell(told, how, first, second)
 }
 
-// Whether a number is a bit string's kind.
-fn is_bit_kind(kind: u32) -> bool
-    ensures { result ≡ is_bit_kind kind }
-{
-    (kind == 12) | (kind == 13)
-}
-
-// The base of the digits by a bit string's kind.
+// The base of the digits by a bit string's kind; none for any other number.
+// Stays: the C interface gives the kind as a number.
 // Rules out: 13 taken for B (must-fail: numbers_mistaken).
-fn radix_of(kind: u32) -> BitStringRadix
-    ensures { result ≡ radix_of kind }
+fn radix_of(kind: u32) -> Option<BitStringRadix>
+    ensures { result ≡ then_some (is_bit_kind kind) (radix_of kind) }
 {
-    if kind == 12 {
-        BitStringRadix::Binary
-    } else {
-        BitStringRadix::Hex
+    match kind {
+        12 => Some(BitStringRadix::Binary),
+        13 => Some(BitStringRadix::Hex),
+        _ => None,
     }
 }
 
 fn bit_write_called(bytes: &[u8], bits: u64, kind: u32, out: &mut [u8]) -> Told
     ensures { Meets (bit_write_call bytes.now bits kind out.old) result out.new }
 {
-    if !is_bit_kind(kind) {
+    let Some(radix) = radix_of(kind) else {
         return number_told(10);
-    }
-    bit_writing_told(write_bit_literal(bytes, bits, radix_of(kind), out))
+    };
+    bit_writing_told(write_bit_literal(bytes, bits, radix, out))
 }
 
 // Packed bytes and their bit count as a B literal, for kind 12, or as an X literal, for 13; 10 for any other kind.

@@ -3,9 +3,10 @@ ghost use Rattle.std.specs.Prelude.{◌≡◌};
 ghost use Rattle.valdrabus.specs.Calls.{no_day, dated_told, found_told};
 
 use crate::told::{Told, number_told, refusal_told};
-use meaning::{CalendarDay, Dated, Day};
+use meaning::{CalendarDay, Refusal};
 
 // What is told, and the day: on a refusal all its numbers are 0.
+// Stays: the numbers that an export hands to C (`day_told` of specs/Calls names them).
 #[derive(Clone, Copy)]
 pub(crate) struct DayTold {
     pub told: Told,
@@ -24,15 +25,15 @@ pub(crate) fn no_day() -> CalendarDay
 }
 
 // A date literal's day.
-pub(crate) fn dated_told(answer: Dated) -> DayTold
+pub(crate) fn dated_told(answer: Result<CalendarDay, Refusal>) -> DayTold
     ensures { result ≡ dated_told answer }
 {
     match answer {
-        Dated::On(on) => DayTold {
+        Ok(on) => DayTold {
             told: number_told(0),
             on,
         },
-        Dated::Refused(refusal) => DayTold {
+        Err(refusal) => DayTold {
             told: refusal_told(refusal),
             on: no_day(),
         },
@@ -40,15 +41,15 @@ pub(crate) fn dated_told(answer: Dated) -> DayTold
 }
 
 // A number's day; 14 returns the number alone.
-pub(crate) fn found_told(answer: Day) -> DayTold
+pub(crate) fn found_told(answer: Option<CalendarDay>) -> DayTold
     ensures { result ≡ found_told answer }
 {
     match answer {
-        Day::On(on) => DayTold {
+        Some(on) => DayTold {
             told: number_told(0),
             on,
         },
-        Day::InvalidDate => DayTold {
+        None => DayTold {
             told: number_told(14),
             on: no_day(),
         },

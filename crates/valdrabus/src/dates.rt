@@ -3,21 +3,21 @@ ghost use Rattle.std.specs.Prelude.{◌≡◌};
 ghost use Rattle.valdrabus.specs.Calls.{date_call, day_call, Dates, Finds};
 
 use crate::dated::{DayTold, dated_told, found_told, no_day};
+use crate::known::known_literal;
 use crate::told::number_told;
-use admitting::literals::{is_known, literal_of};
 use calendar::numbers::date_of_day;
 use questions::dates::as_date;
 
+// Stays: the C interface gives the numbers.
 fn date_called(kind: u32, synthetic: u32, start: u32, end: u32, source: &[u8]) -> DayTold
     ensures { result ≡ date_call kind synthetic start end source.now }
 {
-    if !is_known(kind, synthetic, 0) {
+    let Some(literal) = known_literal(kind, synthetic, start, end, 0) else {
         return DayTold {
             told: number_told(10),
             on: no_day(),
         };
-    }
-    let literal = literal_of(kind, synthetic, start, end);
+    };
     dated_told(as_date(literal, source))
 }
 

@@ -9,6 +9,7 @@ pub mod block;
 mod counted;
 mod dated;
 pub mod dates;
+mod known;
 mod packed;
 pub mod parts;
 pub mod texts;

@@ -3,17 +3,17 @@ ghost use Rattle.std.specs.Prelude.{◌≡◌};
 ghost use Rattle.valdrabus.specs.Numbers.{Says};
 ghost use Rattle.valdrabus.specs.Calls.{source_call, money_call, charset_call};
 
+use crate::known::known_literal;
 use crate::told::{Told, charset_told, number_told, range_told, tell};
-use admitting::literals::{is_known, literal_of};
 use questions::parts::{charset_range, money_range, source_range};
 
+// Stays: the C interface gives the numbers, and one function over the question would take them all, and the question besides.
 fn source_called(kind: u32, synthetic: u32, start: u32, end: u32, source: &[u8]) -> Told
     ensures { result ≡ source_call kind synthetic start end source.now }
 {
-    if !is_known(kind, synthetic, 0) {
+    let Some(literal) = known_literal(kind, synthetic, start, end, 0) else {
         return number_told(10);
-    }
-    let literal = literal_of(kind, synthetic, start, end);
+    };
     range_told(source_range(literal, source))
 }
 
@@ -36,13 +36,13 @@ pub extern "C" fn valdrabus_source_text(
     tell(told, how, first, second)
 }
 
+// Stays: the C interface gives the numbers, and one function over the question would take them all, and the question besides.
 fn money_called(kind: u32, synthetic: u32, start: u32, end: u32, source: &[u8]) -> Told
     ensures { result ≡ money_call kind synthetic start end source.now }
 {
-    if !is_known(kind, synthetic, 0) {
+    let Some(literal) = known_literal(kind, synthetic, start, end, 0) else {
         return number_told(10);
-    }
-    let literal = literal_of(kind, synthetic, start, end);
+    };
     range_told(money_range(literal, source))
 }
 
@@ -65,13 +65,13 @@ pub extern "C" fn valdrabus_as_money_text(
     tell(told, how, first, second)
 }
 
+// Stays: the C interface gives the numbers, and one function over the question would take them all, and the question besides.
 fn charset_called(kind: u32, synthetic: u32, start: u32, end: u32, source: &[u8]) -> Told
     ensures { result ≡ charset_call kind synthetic start end source.now }
 {
-    if !is_known(kind, synthetic, 0) {
+    let Some(literal) = known_literal(kind, synthetic, start, end, 0) else {
         return number_told(10);
-    }
-    let literal = literal_of(kind, synthetic, start, end);
+    };
     charset_told(charset_range(literal, source))
 }
 

@@ -3,10 +3,12 @@ ghost use Rattle.meaning.specs.Answers.{Meets};
 ghost use Rattle.valdrabus.specs.Numbers.{Tells, TellsPlace};
 ghost use Rattle.valdrabus.specs.Calls.{string_call, decimal_call, bits_call, temporal_call};
 
+use crate::known::known_literal;
 use crate::told::{Told, number_told, tell, tell_place, text_told};
-use admitting::literals::{is_known, literal_of, settings_of};
+use admitting::literals::settings_of;
 use questions::texts::{as_bit_text, as_decimal_text, as_str_in, as_temporal_text};
 
+// Stays: the C interface gives the numbers.
 fn string_called(
     kind: u32,
     synthetic: u32,
@@ -18,10 +20,9 @@ fn string_called(
 ) -> Told
     ensures { Meets (string_call kind synthetic start end source.now setting out.old) result out.new }
 {
-    if !is_known(kind, synthetic, setting) {
+    let Some(literal) = known_literal(kind, synthetic, start, end, setting) else {
         return number_told(10);
-    }
-    let literal = literal_of(kind, synthetic, start, end);
+    };
     text_told(as_str_in(literal, source, settings_of(setting), out))
 }
 
@@ -48,6 +49,7 @@ pub extern "C" fn valdrabus_as_str_in(
     tell_place(told, how, first, second, place)
 }
 
+// Stays: the C interface gives the numbers, and one function over the question would take them all, and the question besides.
 fn decimal_called(
     kind: u32,
     synthetic: u32,
@@ -58,10 +60,9 @@ fn decimal_called(
 ) -> Told
     ensures { Meets (decimal_call kind synthetic start end source.now out.old) result out.new }
 {
-    if !is_known(kind, synthetic, 0) {
+    let Some(literal) = known_literal(kind, synthetic, start, end, 0) else {
         return number_told(10);
-    }
-    let literal = literal_of(kind, synthetic, start, end);
+    };
     text_told(as_decimal_text(literal, source, out))
 }
 
@@ -86,6 +87,7 @@ pub extern "C" fn valdrabus_as_decimal_text(
     tell(told, how, first, second)
 }
 
+// Stays: the C interface gives the numbers, and one function over the question would take them all, and the question besides.
 fn bits_called(
     kind: u32,
     synthetic: u32,
@@ -96,10 +98,9 @@ fn bits_called(
 ) -> Told
     ensures { Meets (bits_call kind synthetic start end source.now out.old) result out.new }
 {
-    if !is_known(kind, synthetic, 0) {
+    let Some(literal) = known_literal(kind, synthetic, start, end, 0) else {
         return number_told(10);
-    }
-    let literal = literal_of(kind, synthetic, start, end);
+    };
     text_told(as_bit_text(literal, source, out))
 }
 
@@ -124,6 +125,7 @@ pub extern "C" fn valdrabus_as_bit_text(
     tell(told, how, first, second)
 }
 
+// Stays: the C interface gives the numbers, and one function over the question would take them all, and the question besides.
 fn temporal_called(
     kind: u32,
     synthetic: u32,
@@ -134,10 +136,9 @@ fn temporal_called(
 ) -> Told
     ensures { Meets (temporal_call kind synthetic start end source.now out.old) result out.new }
 {
-    if !is_known(kind, synthetic, 0) {
+    let Some(literal) = known_literal(kind, synthetic, start, end, 0) else {
         return number_told(10);
-    }
-    let literal = literal_of(kind, synthetic, start, end);
+    };
     text_told(as_temporal_text(literal, source, out))
 }
 

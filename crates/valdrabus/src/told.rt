@@ -7,10 +7,10 @@ ghost use Rattle.valdrabus.specs.Numbers.{text_told, range_told, charset_told, t
 
 use admitting::kinds::kind_code;
 use meaning::{
-    BitWriting, Charset, Identifier, LiteralExpected, Nullness, Range, Refusal, Span, Text, Truth,
-    Writing,
+    BitWritingError, IdentifierError, LiteralExpected, Part, Refusal, Span, Text, WritingError,
 };
 
+// Stays: the numbers that exports hand to C; of a boolean's question `how` is the value (`truth_told` of specs/Numbers).
 #[derive(Clone, Copy)]
 pub(crate) struct Told {
     pub number: u32,
@@ -54,14 +54,10 @@ pub(crate) fn number_told(number: u32) -> Told
 fn span_told(number: u32, span: Span) -> Told
     ensures { result ≡ span_told number span }
 {
-    let first = span.start as usize;
-    let second = span.end as usize;
     Told {
-        number,
-        how: 0,
-        first,
-        second,
-        place: 0,
+        first: span.start as usize,
+        second: span.end as usize,
+        ..number_told(number)
     }
 }
 
@@ -69,14 +65,9 @@ fn span_told(number: u32, span: Span) -> Told
 fn place_told(span: Span, place: usize) -> Told
     ensures { result ≡ place_told span place }
 {
-    let first = span.start as usize;
-    let second = span.end as usize;
     Told {
-        number: 6,
-        how: 0,
-        first,
-        second,
         place,
+        ..span_told(6, span)
     }
 }
 
@@ -85,11 +76,10 @@ fn borrowed_told(first: usize, second: usize) -> Told
     ensures { result ≡ borrowed_told first second }
 {
     Told {
-        number: 0,
         how: 1,
         first,
         second,
-        place: 0,
+        ..number_told(0)
     }
 }
 
@@ -98,11 +88,9 @@ pub(crate) fn written_told(second: usize) -> Told
     ensures { result ≡ written_told second }
 {
     Told {
-        number: 0,
         how: 2,
-        first: 0,
         second,
-        place: 0,
+        ..number_told(0)
     }
 }
 
@@ -111,11 +99,8 @@ fn room_told(second: usize) -> Told
     ensures { result ≡ room_told second }
 {
     Told {
-        number: 9,
-        how: 0,
-        first: 0,
         second,
-        place: 0,
+        ..number_told(9)
     }
 }
 
@@ -124,14 +109,10 @@ pub(crate) fn refusal_told(refusal: Refusal) -> Told
 {
     match refusal {
         Refusal::WrongKind(expected, kind) => {
-            let first = expected_code(expected) as usize;
-            let second = kind_code(kind) as usize;
             Told {
-                number: 1,
-                how: 0,
-                first,
-                second,
-                place: 0,
+                first: expected_code(expected) as usize,
+                second: kind_code(kind) as usize,
+                ..number_told(1)
             }
         }
         Refusal::MissingSource(span) => span_told(2, span),
@@ -146,95 +127,92 @@ pub(crate) fn refusal_told(refusal: Refusal) -> Told
     }
 }
 
-pub(crate) fn text_told(answer: Text) -> Told
+pub(crate) fn text_told(answer: Result<Text, Refusal>) -> Told
     ensures { result ≡ text_told answer }
 {
     match answer {
-        Text::Borrowed { start, end } => borrowed_told(start, end),
-        Text::Written { len } => written_told(len),
-        Text::Refused(refusal) => refusal_told(refusal),
+        Ok(Text::Borrowed { start, end }) => borrowed_told(start, end),
+        Ok(Text::Written { len }) => written_told(len),
+        Err(refusal) => refusal_told(refusal),
     }
 }
 
-pub(crate) fn range_told(answer: Range) -> Told
+pub(crate) fn range_told(answer: Result<Part, Refusal>) -> Told
     ensures { result ≡ range_told answer }
 {
     match answer {
-        Range::Found { start, end } => borrowed_told(start, end),
-        Range::Refused(refusal) => refusal_told(refusal),
+        Ok(part) => borrowed_told(part.start, part.end),
+        Err(refusal) => refusal_told(refusal),
     }
 }
 
-pub(crate) fn charset_told(answer: Charset) -> Told
+pub(crate) fn charset_told(answer: Result<Option<Part>, Refusal>) -> Told
     ensures { result ≡ charset_told answer }
 {
     match answer {
-        Charset::Named { start, end } => borrowed_told(start, end),
-        Charset::Unnamed => number_told(0),
-        Charset::Refused(refusal) => refusal_told(refusal),
+        Ok(Some(part)) => borrowed_told(part.start, part.end),
+        Ok(None) => number_told(0),
+        Err(refusal) => refusal_told(refusal),
     }
 }
 
 // A boolean's value stands where another answer says how.
-pub(crate) fn truth_told(answer: Truth) -> Told
+pub(crate) fn truth_told(answer: Result<bool, Refusal>) -> Told
     ensures { result ≡ truth_told answer }
 {
     match answer {
-        Truth::Value(value) => Told {
-            number: 0,
+        Ok(value) => Told {
             how: value as u32,
-            first: 0,
-            second: 0,
-            place: 0,
+            ..number_told(0)
         },
-        Truth::Refused(refusal) => refusal_told(refusal),
+        Err(refusal) => refusal_told(refusal),
     }
 }
 
-pub(crate) fn nullness_told(answer: Nullness) -> Told
+pub(crate) fn nullness_told(answer: Result<(), Refusal>) -> Told
     ensures { result ≡ nullness_told answer }
 {
     match answer {
-        Nullness::IsNull => number_told(0),
-        Nullness::Refused(refusal) => refusal_told(refusal),
+        Ok(()) => number_told(0),
+        Err(refusal) => refusal_told(refusal),
     }
 }
 
-pub(crate) fn identifier_told(answer: Identifier) -> Told
+pub(crate) fn identifier_told(answer: Result<Text, IdentifierError>) -> Told
     ensures { result ≡ identifier_told answer }
 {
     match answer {
-        Identifier::Borrowed { start, end } => borrowed_told(start, end),
-        Identifier::Written { len } => written_told(len),
-        Identifier::NotUtf8 => number_told(4),
-        Identifier::InvalidString => number_told(6),
-        Identifier::NoRoom { needed } => room_told(needed),
+        Ok(Text::Borrowed { start, end }) => borrowed_told(start, end),
+        Ok(Text::Written { len }) => written_told(len),
+        Err(IdentifierError::NotUtf8) => number_told(4),
+        Err(IdentifierError::InvalidString) => number_told(6),
+        Err(IdentifierError::NoRoom { needed }) => room_told(needed),
     }
 }
 
 // The writer's answer: how long the text is, or would be, stands second.
-pub(crate) fn writing_told(answer: Writing) -> Told
+pub(crate) fn writing_told(answer: Result<usize, WritingError>) -> Told
     ensures { result ≡ writing_told answer }
 {
     match answer {
-        Writing::Written { len } => written_told(len),
-        Writing::OverLimit => number_told(12),
-        Writing::NotUtf8 => number_told(4),
-        Writing::HoldsNul => number_told(11),
-        Writing::NoRoom { needed } => room_told(needed),
+        Ok(len) => written_told(len),
+        Err(WritingError::OverLimit) => number_told(12),
+        Err(WritingError::NotUtf8) => number_told(4),
+        Err(WritingError::HoldsNul) => number_told(11),
+        Err(WritingError::NoRoom { needed }) => room_told(needed),
     }
 }
 
 // [02 T-07] The same of a bit string.
 // Rules out: 12 for 16 (must-fail: numbers_mistaken).
-pub(crate) fn bit_writing_told(answer: BitWriting) -> Told
+pub(crate) fn bit_writing_told(answer: Result<usize, BitWritingError>) -> Told
     ensures { result ≡ bit_writing_told answer }
 {
     match answer {
-        BitWriting::Written { len } => written_told(len),
-        BitWriting::OverLimit => number_told(12),
-        BitWriting::BadBits => number_told(16),
-        BitWriting::NoRoom { needed } => room_told(needed),
+        Ok(len) => written_told(len),
+        Err(BitWritingError::OverLimit) => number_told(12),
+        Err(BitWritingError::BadBits) => number_told(16),
+        Err(BitWritingError::NoRoom { needed }) => room_told(needed),
     }
 }
 

@@ -4,20 +4,21 @@ ghost use Rattle.valdrabus.specs.Numbers.{Says};
 ghost use Rattle.valdrabus.specs.Calls.{i64_call, bool_call, null_call, is_null_call, Counts, Bare};
 
 use crate::counted::{Counted, integer_counted};
+use crate::known::known_literal;
 use crate::told::{Told, nullness_told, number_told, tell, truth_told};
 use admitting::literals::{is_known, literal_of};
 use questions::values::{as_bool, as_i64, as_null, is_null};
 
+// Stays: the C interface gives the numbers.
 fn i64_called(kind: u32, synthetic: u32, start: u32, end: u32, source: &[u8]) -> Counted
     ensures { result ≡ i64_call kind synthetic start end source.now }
 {
-    if !is_known(kind, synthetic, 0) {
+    let Some(literal) = known_literal(kind, synthetic, start, end, 0) else {
         return Counted {
             told: number_told(10),
             value: 0,
         };
-    }
-    let literal = literal_of(kind, synthetic, start, end);
+    };
     integer_counted(as_i64(literal, source))
 }
 
@@ -45,13 +46,14 @@ pub extern "C" fn valdrabus_as_i64(
     told.number
 }
 
+// Stays: the C interface gives the kind alone, and one function over the question would take it, and the question besides.
 fn bool_called(kind: u32) -> Told
     ensures { result ≡ bool_call kind }
 {
-    if !is_known(kind, 0, 0) {
+    let Some(literal) = known_literal(kind, 0, 0, 0, 0) else {
         return number_told(10);
-    }
-    truth_told(as_bool(literal_of(kind, 0, 0, 0)))
+    };
+    truth_told(as_bool(literal))
 }
 
 // A boolean literal's value, 1 or 0; 0 on a refusal. It reads no source.
@@ -69,13 +71,14 @@ pub extern "C" fn valdrabus_as_bool(
     tell(told, value, first, second)
 }
 
+// Stays: the C interface gives the kind alone, and one function over the question would take it, and the question besides.
 fn null_called(kind: u32) -> Told
     ensures { result ≡ null_call kind }
 {
-    if !is_known(kind, 0, 0) {
+    let Some(literal) = known_literal(kind, 0, 0, 0, 0) else {
         return number_told(10);
-    }
-    nullness_told(as_null(literal_of(kind, 0, 0, 0)))
+    };
+    nullness_told(as_null(literal))
 }
 
 // That a literal is NULL.

@@ -3,6 +3,7 @@ ghost use Rattle.std.specs.Prelude.{◌≡◌};
 ghost use Rattle.valdrabus.specs.Views.{view_call, Shows};
 
 // Which of source and buffer is shown (0 neither, 1 the source, 2 the buffer), and the range in it.
+// Stays: the numbers that `valdrabus_view` hands to C (`viewed` of specs/Views names them).
 #[derive(Clone, Copy)]
 pub(crate) struct View {
     pub which: u32,
@@ -10,6 +11,7 @@ pub(crate) struct View {
     pub until: usize,
 }
 
+// Stays: the C interface gives the answer as numbers, of any value, and `view_call` of specs/Views says which show a part.
 fn view_called(how: u32, first: usize, second: usize, source_len: usize, out_len: usize) -> View
     ensures { result ≡ view_call how first second source_len out_len }
 {

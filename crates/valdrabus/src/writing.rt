@@ -10,6 +10,7 @@ use meaning::{Form, PartSize};
 use writer::forms::write_form;
 use writer::literal::write_literal;
 
+// Stays: the C interface gives the setting as a number, and `write_call` of specs/Calls says which are known.
 fn write_called(value: &[u8], size: PartSize, setting: u32, out: &mut [u8]) -> Told
     ensures { Meets (write_call size value.now setting out.old) result out.new }
 {

@@ -4,8 +4,6 @@
 ghost use Rattle.std.specs.Prelude.{◌≡◌};
 ghost use Rattle.words.specs.Ending.{asked_of};
 
-use leaves::texts::starts_at;
-
 #[derive(Clone, Copy)]
 pub enum Asked {
     // no word: the program's work
@@ -21,13 +19,10 @@ pub enum Asked {
 pub fn asked_by(words: &[u8]) -> Asked
     ensures { result ≡ asked_of words.now }
 {
-    if words.len() == 0 {
+    if words.is_empty() {
         return Asked::Work;
     }
-    if words.len() != 7 {
-        return Asked::Other;
-    }
-    if starts_at(words, 0, b"--help\0") {
+    if words == b"--help\0".as_slice() {
         return Asked::Help;
     }
     Asked::Other

@@ -10,7 +10,7 @@ use borrow.Author.Tests.{ltb-false}
 use Rattle.meaning.specs.declared.Settings.{Settings}
 use Rattle.meaning.specs.declared.PartSize.{PartSize}
 use Rattle.meaning.specs.declared.PartSize.TheVariants.{Whole, AtMost}
-use Rattle.meaning.specs.declared.Writing.TheVariants.{Written, NoRoom}
+use Rattle.meaning.specs.declared.WritingError.TheVariants.{NoRoom}
 use Rattle.meaning.specs.Bytes.{has}
 use Rattle.meaning.specs.Chars.{utf8}
 use Rattle.meaning.specs.Answers.{Meets}
@@ -19,12 +19,13 @@ use Rattle.laws.proofs.writing.Writers.{Passed, writes_all, writes_none}
 use Rattle.laws.proofs.writing.WriterParts.{concat, parts_from_fills, parts_from_concat, Accepted, accepted_writes, limit_length, limit_size}
 use Rattle.laws.proofs.writing.WriterText.{costs, literal_length, literals_length, written_text_fits}
 use Rattle.laws.proofs.writing.PartEnds.{first_ends}
-use Rattle.writer.specs.declared.manners.Manner.TheVariants.{Plain}
+use Rattle.writer.specs.Manners.{Plain}
 use Rattle.writer.specs.declared.lengths.Measured.{Measured}
 use Rattle.writer.specs.Texts.{Spellable, PutBytes, measured_by}
 use Rattle.writer.specs.Parts.{others, limit_of, later_parts, Cuttable, FitsInParts}
 use Rattle.writer.proofs.PartWriting.{plain_text}
 use Rattle.writer.proofs.Refusing.{met}
+use Rattle.std.specs.Prelude.{Ok, Err}
 
 -- A NUL that no text can spell
 pub nul_spelled : (σ : Settings) (v : List ℕ) → σ.backslash ≡ true → false ≡ unwritable_nul σ v
@@ -100,18 +101,18 @@ module _ {σ : Settings} {size : PartSize} {v : List ℕ} (a : Accepted σ size 
       needed_small = omega (arith, needed, written_text_fits σ size v a)
 
       module _ (out : List ℕ) where
-        pub no_room : length out < m.len + 3 * k → Meets (write_question σ size v out) (NoRoom (m.len + 3 * k)) out
+        pub no_room : length out < m.len + 3 * k → Meets (write_question σ size v out) (Err (NoRoom (m.len + 3 * k))) out
         no_room h =
             rw needed
-            (met (write_question σ size v out) (NoRoom (length (written_text σ size v))) out
+            (met (write_question σ size v out) (Err (NoRoom (length (written_text σ size v)))) out
             (accepted_writes σ size v out a ∙ writes_none (written_text σ size v) out (omega (arith, needed))))
 
         module _ (h : m.len + 3 * k ≤ length out) where
           pub text_fits : FitsInParts w σ.backslash m.whole v (length out)
           text_fits = record { cuttable = cuttable; copied = λ x. ap (λ (y : Measured). y.whole) (sym em) ∙ x; room = omega (arith, needs) }
 
-          pub text_written : {n : ℕ} {after : List ℕ} → PutBytes text out n after → Meets (write_question σ size v out) (Written (m.len + 3 * k)) after
+          pub text_written : {n : ℕ} {after : List ℕ} → PutBytes text out n after → Meets (write_question σ size v out) (Ok (m.len + 3 * k)) after
           text_written p =
               rw (needed, p.buffer, text_is)
-              (met (write_question σ size v out) (Written (length (written_text σ size v))) (written_text σ size v ++ drop (length (written_text σ size v)) out)
+              (met (write_question σ size v out) (Ok (length (written_text σ size v))) (written_text σ size v ++ drop (length (written_text σ size v)) out)
               (accepted_writes σ size v out a ∙ writes_all (written_text σ size v) out (omega (arith, needed))))

@@ -4,7 +4,7 @@ use mathlib.Core.List.{List, [], ◌∷◌, ◌++◌, append-nil}
 use Prim.Native.Nat.{ℕ, suc, ◌+◌, ◌-◌, ◌*◌, ◌/◌, ◌%◌, ◌^◌, ◌≤◌, ◌<◌}
 use native.Mathlib.Nat.{div-one, mul-suc, mul-zero}
 use native.Mathlib.Omega.{arith}
-use lib.ListN.{length, take, drop, length-append, length-drop, length-take}
+use lib.ListN.{length, take, drop, length-append, length-drop}
 use lib.Seq.{sets, drop-cons, take-append-le, take-append-add, length-take-le}
 use Rattle.meaning.specs.declared.BitStringRadix.{BitStringRadix}
 use Rattle.meaning.specs.declared.BitStringRadix.TheVariants.{Binary, Hex}
@@ -12,7 +12,7 @@ use Rattle.meaning.specs.Bytes.{◌!◌}
 use Rattle.meaning.specs.Forms.{figure, figures}
 use Rattle.meaning.specs.Packing.{radix_bits}
 use Rattle.leaves.specs.Puts.{Puts}
-use Rattle.laws.proofs.basics.Laying.{Laid, laid_none, laid_same, laid_all, laid_lent, laid_rest, laid_more}
+use Rattle.laws.proofs.basics.Laying.{Laid, laid_none, laid_all, laid_rest, laid_more}
 use Rattle.laws.proofs.writing.Figures.{figures_length}
 use Rattle.writer.specs.Texts.{PutBytes}
 use Rattle.writer.specs.Bits.{per_byte, byte_digits, digits_by}
@@ -38,18 +38,6 @@ eight b =
 pub eight_put : (b : ℕ) (out : List ℕ) → 8 ≤ length out → PutBytes (figures 2 8 b) out 8 (sets out 0 (eight b))
 eight_put b out h = put_same (simp (bit_figure, div-one)) (put_stored_all (eight b) out h)
 
-pub pair_put : (r : BitStringRadix) (b x y : ℕ) → r ≡ Hex → b < 256 → x ≡ figure (b / 16) → y ≡ figure (b % 16)
-    → {out after : List ℕ} {n : ℕ} → PutBytes (x ∷ y ∷ []) out n after → PutBytes (byte_digits r b) out n after
-pair_put r b x y e h ex ey p =
-    let u : b / 16 ^ 1 % 16 ≡ b / 16 = omega arith in
-    let v : b / 16 ^ 0 % 16 ≡ b % 16 = omega arith in
-    rw e (put_same (rw (u, v, ex, ey)) p)
-
--- THE FIRST k digits of a byte: all are made, and so many are copied
-pub byte_most : (r : BitStringRadix) → per_byte r ≤ 8
-byte_most Binary = omega arith
-byte_most Hex = omega arith
-
 byte_some : (r : BitStringRadix) → 0 < per_byte r
 byte_some Binary = omega arith
 byte_some Hex = omega arith
@@ -57,6 +45,7 @@ byte_some Hex = omega arith
 length_byte : (r : BitStringRadix) (b : ℕ) → length (byte_digits r b) ≡ per_byte r
 length_byte r b = figures_length (2 ^ radix_bits r) (per_byte r) b
 
+-- THE FIRST k digits of a byte: all are made, and so many are copied
 module _ (r : BitStringRadix) (b k : ℕ) (h : k ≤ per_byte r) where
   length_first : length (take k (byte_digits r b)) ≡ k
   length_first = length-take-le k (byte_digits r b) (omega (arith, length_byte r b))
@@ -109,15 +98,6 @@ module _ {r : BitStringRadix} {n : ℕ} {t d out : List ℕ} {put at : ℕ} (g :
   abbrev text : List ℕ
   text = take n (digits_by r t)
 
-  pub digiting_part : put ≤ n
-  digiting_part = omega (arith, g.laid.part, length-take n (digits_by r t))
-
-  pub digiting_same : length out ≡ length d
-  digiting_same = laid_same g.laid
-
-  pub digiting_within : put ≤ length out
-  digiting_within = omega (arith, g.laid.part, g.laid.room, digiting_same)
-
   -- with no digit left
   pub digiting_end : n ≤ put → PutBytes text d put out
   digiting_end h =
@@ -148,9 +128,6 @@ module _ {r : BitStringRadix} {n : ℕ} {t d out : List ℕ} {put at : ℕ} (g :
       more : put < n
       more = omega (arith, byte_some r)
 
-      pub byte_inside : at < length t
-      byte_inside = inside more
-
       abbrev behind : List ℕ
       behind = take (n - put - w) (later more)
 
@@ -160,18 +137,9 @@ module _ {r : BitStringRadix} {n : ℕ} {t d out : List ℕ} {put at : ℕ} (g :
           let e : n - put ≡ length b + (n - put - w) = omega (arith, length_byte r (t ! at)) in
           left more ∙ ap (λ (j : ℕ). take j (b ++ later more)) e ∙ take-append-add b (later more) (n - put - w)
 
-      pub byte_lent : per_byte r ≤ length (take (length out - put) (drop put out))
-      byte_lent = omega (arith, length_byte r (t ! at), laid_lent g.laid (byte_digits r (t ! at)) behind whole)
-
       module _ (a : ℕ) (last : List ℕ) (q : PutBytes (byte_digits r (t ! at)) (take (length out - put) (drop put out)) a last) where
         counted : a ≡ w
         counted = q.answer ∙ length_byte r (t ! at) ∙ sym ew
-
-        pub byte_part : put + a ≤ n
-        byte_part = omega (arith, counted, digiting_part)
-
-        pub byte_less : n - (put + a) < n - put
-        byte_less = omega (arith, counted, byte_some r)
 
         pub digiting_on : Digiting r n t d (take put out ++ (last ++ drop (length out - put) (drop put out))) (put + a) (at + 1)
         digiting_on =
@@ -199,18 +167,12 @@ module _ {r : BitStringRadix} {n : ℕ} {t d out : List ℕ} {put at : ℕ} (g :
       pub first_inside : at < length t
       first_inside = inside h
 
-      pub first_few : n - put ≤ per_byte r
-      first_few = omega arith
-
       abbrev first : List ℕ
       first = take (n - put) (byte_digits r (t ! at))
 
       only : drop put text ≡ first ++ []
       only =
           left h ∙ take-append-le (n - put) (byte_digits r (t ! at)) (later h) (omega (arith, length_byte r (t ! at))) ∙ sym (append-nil first)
-
-      pub first_lent : n - put ≤ length (take (length out - put) (drop put out))
-      first_lent = omega (arith, length_first r (t ! at) (n - put) first_few, laid_lent g.laid first [] only)
 
       module _ (a : ℕ) (last : List ℕ) (q : PutBytes first (take (length out - put) (drop put out)) a last) where
         abbrev back : List ℕ
@@ -223,9 +185,3 @@ module _ {r : BitStringRadix} {n : ℕ} {t d out : List ℕ} {put at : ℕ} (g :
         digits_put =
             let l = laid_all ended (laid_rest g.laid first [] only (put + a) (ap (put +◌) q.answer)) in
             record { answer = l.0; buffer = l.1 }
-
-        pub digits_fit : put + a ≤ length d
-        digits_fit = omega (arith, ended.part, ended.room)
-
-        pub digits_same : length back ≡ length d
-        digits_same = laid_same ended

@@ -2,7 +2,7 @@
 use mathlib.Core.Path.{◌≡◌, refl, ap, sym, ◌∙◌}
 use mathlib.Core.Bool.{Bool, true, false, ◌||◌, not}
 use mathlib.Core.List.{List, [], ◌∷◌, append-nil}
-use Prim.Native.Nat.{ℕ, suc, ◌+◌, ◌-◌, ◌*◌, ◌/◌, ◌%◌, ◌^◌, ◌≤◌, ◌<◌}
+use Prim.Native.Nat.{ℕ, suc, ◌+◌, ◌-◌, ◌*◌, ◌/◌, ◌%◌, ◌^◌, ◌≤◌}
 use native.Mathlib.Nat.{add-zero}
 use native.Mathlib.Omega.{arith}
 use borrow.Author.Tests.{eq-eqb, ne_eqb, eqb-true, not-true, not-false}
@@ -42,12 +42,6 @@ module _ (t : List ℕ) (n : ℕ) (e : length t ≡ packed_length n) where
   module _ (h : n % 8 ≡ 0 → ⊥) where
     last_place : length t ≡ suc (n / 8)
     last_place = omega (arith, e, packed_more n h)
-
-    pub last_inside : 1 ≤ length t
-    last_inside = omega (arith, last_place)
-
-    pub last_read : length t - 1 < length t
-    last_read = omega (arith, last_place)
 
     -- the last byte, and its bits behind the count
     rest : drop (n / 8) t ≡ (t ! (n / 8)) ∷ []

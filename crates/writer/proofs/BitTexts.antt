@@ -10,7 +10,7 @@ use lib.Seq.{length-take-le}
 use Rattle.meaning.specs.declared.BitStringRadix.{BitStringRadix}
 use Rattle.meaning.specs.declared.BitStringRadix.TheVariants.{Binary, Hex}
 use Rattle.meaning.specs.declared.PartSize.TheVariants.{Whole}
-use Rattle.meaning.specs.declared.BitWriting.TheVariants.{Written, OverLimit, BadBits, NoRoom}
+use Rattle.meaning.specs.declared.BitWritingError.TheVariants.{OverLimit, BadBits, NoRoom}
 use Rattle.meaning.specs.Bytes.{quote}
 use Rattle.meaning.specs.Answers.{Meets}
 use Rattle.meaning.specs.Forms.{figure}
@@ -25,6 +25,7 @@ use Rattle.writer.proofs.Putting as putting
 use Rattle.writer.proofs.BitTests.{GoodBits, good_bits, packed_covers}
 use Rattle.writer.proofs.BitDigits.{length_digits}
 use Rattle.writer.proofs.Refusing.{met}
+use Rattle.std.specs.Prelude.{Ok, Err}
 
 -- what has passed the tests
 pub record BitsAccepted (r : BitStringRadix) (t : List ℕ) (b : ℕ) : Type 0 where
@@ -88,19 +89,16 @@ module _ (r : BitStringRadix) (n : ℕ) (t : List ℕ) (some : n ≤ length (dig
     pub literal_put : PutBytes (literal_by r n t) d (k + a + 1) (set back (k + a) quote)
     literal_put = putting.text_put opening digits (literal_by r n t) d literal_is fits opened q
 
-    pub literal_same : length (set back (k + a) quote) ≡ length d
-    literal_same = putting.text_same opening digits (literal_by r n t) d literal_is fits opened q
-
 -- REFUSED, in the order of the tests
 module _ (r : BitStringRadix) (t : List ℕ) (b : ℕ) (out : List ℕ) (x : Bool) (ex : x ≡ over_limit Whole t) where
-  pub over_limit_lem : x ≡ true → Meets (bit_write_question r t b out) OverLimit out
+  pub over_limit_lem : x ≡ true → Meets (bit_write_question r t b out) (Err OverLimit) out
   unfolding bit_write_question
-  over_limit_lem h = met (bit_write_question r t b out) OverLimit out (rw (sym ex ∙ h))
+  over_limit_lem h = met (bit_write_question r t b out) (Err OverLimit) out (rw (sym ex ∙ h))
 
   module _ (nx : x ≡ false) (y : Bool) (ey : y ≡ bad_bits r t b) where
-    pub bad_bits_lem : y ≡ true → Meets (bit_write_question r t b out) BadBits out
+    pub bad_bits_lem : y ≡ true → Meets (bit_write_question r t b out) (Err BadBits) out
     unfolding bit_write_question
-    bad_bits_lem h = met (bit_write_question r t b out) BadBits out (rw (sym ex ∙ nx, sym ey ∙ h))
+    bad_bits_lem h = met (bit_write_question r t b out) (Err BadBits) out (rw (sym ex ∙ nx, sym ey ∙ h))
 
     pub bits_accepted : y ≡ false → BitsAccepted r t b
     bits_accepted h = record { limit = sym ex ∙ nx; good = sym ey ∙ h }
@@ -133,16 +131,16 @@ module _ {r : BitStringRadix} {t : List ℕ} {b : ℕ} (c : BitsAccepted r t b) 
     unfolding bit_write_question
     writes = rw (c.limit, c.good)
 
-    pub no_room : length out < k + 3 → Meets (bit_write_question r t b out) (NoRoom (k + 3)) out
+    pub no_room : length out < k + 3 → Meets (bit_write_question r t b out) (Err (NoRoom (k + 3))) out
     no_room h =
         rw needed
-        (met (bit_write_question r t b out) (NoRoom (length (bit_literal r t b))) out
-        (writes ∙ placed_none Written NoRoom (bit_literal r t b) out (omega (arith, needed))))
+        (met (bit_write_question r t b out) (Err (NoRoom (length (bit_literal r t b)))) out
+        (writes ∙ placed_none Ok (λ n. Err (NoRoom n)) (bit_literal r t b) out (omega (arith, needed))))
 
     pub literal_written : k + 3 ≤ length out → {n : ℕ} {after : List ℕ} → PutBytes (literal_by r k t) out n after
-        → Meets (bit_write_question r t b out) (Written (k + 3)) after
+        → Meets (bit_write_question r t b out) (Ok (k + 3)) after
     literal_written h p =
         let u = bit_literal r t b in
         rw (needed, p.buffer, text_is)
-        (met (bit_write_question r t b out) (Written (length u)) (u ++ drop (length u) out)
-        (writes ∙ placed_all Written NoRoom u out (omega (arith, needed))))
+        (met (bit_write_question r t b out) (Ok (length u)) (u ++ drop (length u) out)
+        (writes ∙ placed_all Ok (λ n. Err (NoRoom n)) u out (omega (arith, needed))))

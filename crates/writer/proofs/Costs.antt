@@ -15,9 +15,7 @@ use Rattle.meaning.specs.Forms.{letter_of, is_doubled}
 use Rattle.laws.proofs.basics.Tests.{and_left, and_right}
 use Rattle.laws.proofs.writing.WriterText.{cost, cost_most}
 use Rattle.laws.proofs.writing.FormUnits.{form_cost}
-use Rattle.writer.specs.declared.manners.Manner.{Manner}
-use Rattle.writer.specs.declared.manners.Manner.TheVariants.{Plain, Escape, Unicode}
-use Rattle.writer.specs.Manners.{cost_by}
+use Rattle.writer.specs.Manners.{Manner, Plain, Escape, Unicode, cost_by}
 
 -- A TEST of every number below n
 abbrev every : (ℕ → Bool) → ℕ → Bool

@@ -2,7 +2,7 @@
 use mathlib.Core.Path.{◌≡◌, refl, ap, sym, ◌∙◌}
 use mathlib.Core.List.{List, ◌∷◌}
 use Prim.Native.Nat.{ℕ, suc, ◌+◌, ◌-◌, ◌/◌, ◌%◌, ◌^◌, ◌≤◌, ◌<◌}
-use native.Mathlib.Nat.{pow-zero, pow-suc, div-one, div-div-eq-div-mul, mod-lt, lt_of_lt_of_le}
+use native.Mathlib.Nat.{pow-zero, pow-suc, div-one, div-div-eq-div-mul}
 use native.Mathlib.Omega.{arith}
 use borrow.Author.Tests.{lt-ltb, le-ltb}
 use lib.ListN.{length, take, drop, set, length-set}
@@ -17,9 +17,6 @@ figure_decimal d h = rw (lt-ltb d 10 h)
 pub figure_letter : (d : ℕ) → 10 ≤ d → 55 + d ≡ figure d
 unfolding figure
 figure_letter d h = rw (le-ltb d 10 h) (omega arith)
-
-pub digit_low : (β n : ℕ) → 1 ≤ β → β ≤ 16 → n % β < 16
-digit_low β n some low = lt_of_lt_of_le (mod-lt n some) low
 
 -- THE LOOP: all but the first `left` places are filled
 pub record Figuring (c β : ℕ) (d out : List ℕ) (rest left : ℕ) : Type 0 where
@@ -56,9 +53,3 @@ module _ {c β : ℕ} {d out : List ℕ} {rest left : ℕ} (v : Figuring c β d 
             ∙ ap (λ (n : ℕ). r ∷ drop n out) s ∙ ap (r ∷◌) v.put
             ∙ ap (◌∷ figures β k c) (e ∙ ap (λ (n : ℕ). figure (n % β)) v.to_come));
       }
-
-  pub figuring_end : left ≤ 0 → out ≡ figures β (length d) c
-  figuring_end h =
-      let z : left ≡ 0 = omega arith in
-      let s : length d - left ≡ length d = omega arith in
-      ap (λ (n : ℕ). drop n out) (sym z) ∙ v.put ∙ ap (λ (n : ℕ). figures β n c) s

@@ -6,8 +6,8 @@ use mathlib.Core.List.{List, [], ◌∷◌, ◌++◌, append-nil}
 use Prim.Native.Nat.{ℕ, zero, suc, ◌+◌, ◌-◌, ◌*◌, ◌≤◌, ◌<◌}
 use native.Mathlib.Omega.{arith}
 use lib.Dec.{eqb, leb}
-use lib.ListN.{length, get_or, take, drop, length-append, length-take, length-drop, take-append-drop}
-use lib.Seq.{take-suc, take_all, take-length, drop-length, drop-drop, get_or-drop}
+use lib.ListN.{length, get_or, take, drop, length-append, length-take, take-append-drop}
+use lib.Seq.{take-suc, take-length, drop-length, drop-drop}
 use borrow.Author.Tests.{leb-true, ne_eqb, not-true}
 use Rattle.meaning.specs.declared.Form.{Form}
 use Rattle.meaning.specs.declared.Form.TheVariants as Form'
@@ -23,11 +23,8 @@ use Rattle.laws.proofs.writing.WriterText.{cost, costs, spells_length}
 use Rattle.laws.proofs.writing.FormUnits.{form_cost, form_costs}
 use Rattle.laws.proofs.writing.FormSpelling.{units_of}
 use Rattle.laws.proofs.writing.FormText as FormText'
-use Rattle.writer.specs.declared.manners.Manner.{Manner}
-use Rattle.writer.specs.declared.manners.Manner.TheVariants.{Plain, Escape, Unicode}
-use Rattle.writer.specs.declared.manners.Kept.{Kept}
+use Rattle.writer.specs.Manners.{Manner, Plain, Escape, Unicode, manner_of, kept_by, keeps, step_by, cost_by, costs_by, opening_by, units_by, text_by}
 use Rattle.writer.specs.declared.lengths.Measured.{Measured}
-use Rattle.writer.specs.Manners.{manner_of, kept_by, keeps, step_by, cost_by, costs_by, opening_by, units_by, text_by}
 use Rattle.writer.specs.Texts.{Spellable, all_kept, measured_by}
 use Rattle.writer.proofs.Steps.{kept_step}
 use Rattle.writer.proofs.Costs.{byte_cost_most}
@@ -41,37 +38,21 @@ costs_append : (m : Manner) (u v : List ℕ) → costs_by m (u ++ v) ≡ costs_b
 costs_append m [] v = omega arith
 costs_append m (b ∷ u) v = omega (arith, costs_append m u v)
 
--- A BLOCK of n bytes: the first j cost c
-pub record Summing (m : Manner) (n : ℕ) (s : List ℕ) (at c j : ℕ) : Type 0 where
-  pub inside : j ≤ n
-  pub room : at + n ≤ length s
-  pub sum : c ≡ costs_by m (take j (drop at s))
+-- A BLOCK: its first j bytes cost c
+pub record Summing (m : Manner) (s : List ℕ) (c j : ℕ) : Type 0 where
+  pub inside : j ≤ length s
+  pub sum : c ≡ costs_by m (take j s)
 
-pub summing_start : (m : Manner) (n : ℕ) (s : List ℕ) (at : ℕ) → at + n ≤ length s → Summing m n s at 0 0
-summing_start m n s at h = record { inside = omega arith; room = h; sum = refl }
+module _ {m : Manner} {s : List ℕ} {c j : ℕ} (v : Summing m s c j) where
+  pub summing_more : j < length s → (k : ℕ) → k ≡ cost_by m (get_or s j 0) → c + k ≤ 8 * length s
+  summing_more h k e = omega (arith, v.sum, bytes_most m (take j s), length-take j s, byte_cost_most m (get_or s j 0))
 
-module _ {m : Manner} {n : ℕ} {s : List ℕ} {at c j : ℕ} (v : Summing m n s at c j) where
-  pub summing_small : c ≤ 8 * j
-  summing_small = omega (arith, v.sum, bytes_most m (take j (drop at s)), length-take j (drop at s))
-
-  pub summing_more : j < n → (k : ℕ) → k ≡ cost_by m (get_or s (at + j) 0) → c + k ≤ 8 * n
-  summing_more h k e = omega (arith, summing_small, byte_cost_most m (get_or s (at + j) 0))
-
-  pub summing_on : j < n → (k : ℕ) → k ≡ cost_by m (get_or s (at + j) 0) → Summing m n s at (c + k) (j + 1)
+  pub summing_on : j < length s → (k : ℕ) → k ≡ cost_by m (get_or s j 0) → Summing m s (c + k) (j + 1)
   summing_on h k e =
-      let b = get_or s (at + j) 0 in
-      let l : j < length (drop at s) = omega (arith, v.room, length-drop at s) in
+      let b = get_or s j 0 in
       let z : suc j ≡ j + 1 = omega arith in
-      let t : take (j + 1) (drop at s) ≡ take j (drop at s) ++ (b ∷ []) =
-      ap (λ (i : ℕ). take i (drop at s)) (sym z) ∙ take-suc (drop at s) j 0 l ∙ ap (λ (x : ℕ). take j (drop at s) ++ (x ∷ [])) (get_or-drop at s j 0) in
-      record {
-        inside = omega arith;
-        room = v.room;
-        sum = omega (arith, v.sum, ap (costs_by m) t, costs_append m (take j (drop at s)) (b ∷ []));
-      }
-
-  pub summing_end : n ≤ j → c ≡ costs_by m (take n (drop at s))
-  summing_end h = let z : j ≡ n = omega (arith, v.inside) in v.sum ∙ ap (λ (k : ℕ). costs_by m (take k (drop at s))) z
+      let t : take (j + 1) s ≡ take j s ++ (b ∷ []) = ap (λ (i : ℕ). take i s) (sym z) ∙ take-suc s j 0 h in
+      record { inside = omega arith; sum = omega (arith, v.sum, ap (costs_by m) t, costs_append m (take j s) (b ∷ [])) }
 
 -- BLOCK BY BLOCK: what is counted, with what the rest costs, is what all cost
 pub record Adding (m : Manner) (v : List ℕ) (c at : ℕ) : Type 0 where
@@ -93,13 +74,8 @@ module _ {m : Manner} {v : List ℕ} {c at : ℕ} (a : Adding m v c at) where
   pub adding_on : 16 ≤ length v - at → (k : ℕ) → k ≡ costs_by m (take 16 (drop at v)) → Adding m v (c + k) (at + 16)
   adding_on h k e = record { inside = omega (arith, a.inside); left = omega (arith, a.left, split 16) }
 
-  pub adding_last : (k : ℕ) → k ≡ costs_by m (take (length v - at) (drop at v)) → c + k ≤ 8 * length v
-  adding_last k e = adding_small (length v - at) k e
-
-  pub adding_end : (k : ℕ) → k ≡ costs_by m (take (length v - at) (drop at v)) → c + k ≡ costs_by m v
-  adding_end k e =
-      let z : take (length v - at) (drop at v) ≡ drop at v = take_all (length v - at) (drop at v) (omega (arith, length-drop at v)) in
-      omega (arith, a.left, ap (costs_by m) z)
+  pub adding_end : (k : ℕ) → k ≡ costs_by m (drop at v) → c + k ≡ costs_by m v
+  adding_end k e = omega (arith, a.left)
 
 -- THE SPELLING between quote marks is the definition's
 plain_kept : (bs : Bool) (b : ℕ) → keeps (kept_by (Plain bs)) b ≡ true → spell bs b ≡ b ∷ []
@@ -193,19 +169,16 @@ text_length : (m : Manner) (v : List ℕ) → length (text_by m v) ≡ length (o
 unfolding text_by
 text_length m v = omega (arith, length-append (opening_by m) (units_by m v ++ (quote ∷ [])), length-append (units_by m v) (quote ∷ []))
 
-module _ (m : Manner) (v : List ℕ) (s : Spellable m v) (o : ℕ) (eo : o ≡ length (opening_by m)) (k : Kept) (ek : k ≡ kept_by m) where
-  module _ (x : Bool) (ex : x ≡ passes (keeps k) (length v) v) where
-    tested : x ≡ all_kept m v
-    tested = ex ∙ ap (λ (j : Kept). passes (keeps j) (length v) v) ek
-
+module _ (m : Manner) (v : List ℕ) (s : Spellable m v) (o : ℕ) (eo : o ≡ length (opening_by m)) where
+  module _ (x : Bool) (ex : x ≡ passes (keeps (kept_by m)) (length v) v) where
     pub measured_whole : x ≡ true → ◌≡◌ {A = Measured} (record { len = o + 1 + length v; whole = true }) (measured_by m v)
     measured_whole h =
-        let y : all_kept m v ≡ true = sym tested ∙ h in
+        let y : all_kept m v ≡ true = sym ex ∙ h in
         let l : o + 1 + length v ≡ length (text_by m v) = omega (arith, text_length m v, ap length (kept_units m v y)) in
         cc
 
     pub measured_units : x ≡ false → (c : ℕ) → c ≡ costs_by m v → ◌≡◌ {A = Measured} (record { len = o + 1 + c; whole = false }) (measured_by m v)
     measured_units h c ec =
-        let y : all_kept m v ≡ false = sym tested ∙ h in
+        let y : all_kept m v ≡ false = sym ex ∙ h in
         let l : o + 1 + c ≡ length (text_by m v) = omega (arith, text_length m v, units_length m v s) in
         cc

@@ -11,13 +11,11 @@ use Rattle.leaves.specs.Blocks.{passes}
 use Rattle.leaves.specs.Puts.{Puts}
 use Rattle.leaves.proofs.Scans.{passes_append}
 use Rattle.laws.proofs.basics.Tests.{and_left, and_right}
-use Rattle.laws.proofs.basics.Laying.{Laid, laid_none, laid_same, laid_all, laid_part, laid_lent, laid_rest, laid_more}
+use Rattle.laws.proofs.basics.Laying.{Laid, laid_none, laid_all, laid_lent, laid_rest, laid_more}
 use Rattle.laws.proofs.writing.PartEnds.{parts_behind}
-use Rattle.writer.specs.declared.manners.Manner.{Manner}
-use Rattle.writer.specs.declared.manners.Manner.TheVariants.{Plain}
-use Rattle.writer.specs.Manners.{kept_by, keeps, text_by}
+use Rattle.writer.specs.Manners.{Manner, Plain, kept_by, keeps, text_by}
 use Rattle.writer.specs.Texts.{all_kept, Fits, PutBytes}
-use Rattle.writer.specs.Parts.{first_part, Cuttable, FitsInParts}
+use Rattle.writer.specs.Parts.{first_part, FitsInParts}
 use Rattle.writer.proofs.Putting.{put_all, laid_first}
 use Rattle.writer.proofs.Measuring.{plain_units}
 use Rattle.writer.proofs.Parting.{PartIs, part_is, behind_some, behind_none}
@@ -74,18 +72,6 @@ module _ {w : ℕ} {bs whole : Bool} {v d out : List ℕ} {n from end : ℕ} (m 
 
   abbrev text : List ℕ
   text = text_by (Plain bs) part
-
-  pub writing_ordered : from ≤ end
-  writing_ordered = m.here.ordered
-
-  pub writing_inside : end ≤ length v
-  writing_inside = m.here.next.inside
-
-  pub writing_next : Cuttable w end v
-  writing_next = m.here.next
-
-  pub writing_room : n ≤ length out
-  writing_room = omega (arith, m.laid.part, m.laid.room, laid_same m.laid)
 
   front : drop n (literals bs (parts_from w w v)) ≡ text ++ behind_literal bs (parts_behind w (drop end v))
   front = m.rest ∙ ap (literals bs) m.here.are ∙ literals_front bs part (parts_behind w (drop end v))
@@ -150,9 +136,6 @@ module _ {w : ℕ} {bs whole : Bool} {v d out : List ℕ} {n from end : ℕ} (m 
       pub last_few : n + r ≤ length d
       last_few = few [] [] left_last r last p
 
-      pub last_same : length (take n out ++ (last ++ drop (length out - n) (drop n out))) ≡ length d
-      last_same = laid_same (laid' [] [] left_last r last p)
-
       pub all_put : PutBytes (literals bs (parts_from w w v)) d (n + r) (take n out ++ (last ++ drop (length out - n) (drop n out)))
       all_put =
           let z = laid_all (laid' [] [] left_last r last p) (behind [] [] left_last r last p) in
@@ -171,18 +154,12 @@ module _ {m : Manner} {x : Bool} {v : List ℕ} (g d : List ℕ) (f : Fits m x v
     only : drop n (text_by m v ++ g) ≡ g ++ []
     only = begun.1 ∙ sym (append-nil g)
 
-    pub text_within : n ≤ length out
-    text_within = omega (arith, begun.0.part, begun.0.room, laid_same begun.0)
-
     module _ {a : ℕ} {last : List ℕ} (q : Puts g (take (length out - n) (drop n out)) a last) where
       put : PutBytes g (take (length out - n) (drop n out)) a last
       put = put_all q (laid_lent begun.0 g [] only)
 
       both : Laid (text_by m v ++ g) d (take n out ++ (last ++ drop (length out - n) (drop n out))) (n + a)
       both = laid_more begun.0 g [] only a last put.answer put.buffer
-
-      pub both_few : n + a ≤ length d
-      both_few = omega (arith, both.part, both.room)
 
       pub both_put : PutBytes (text_by m v ++ g) d (n + a) (take n out ++ (last ++ drop (length out - n) (drop n out)))
       both_put =

@@ -127,6 +127,3 @@ module _ {w : ℕ} {v : List ℕ} {count end : ℕ} (m : Counted w v count end) 
 
   pub counted_onward : end < length v → (r : ℕ) → r ≡ end + length (first_part w (drop end v)) → end < r
   counted_onward h r e = (part_is m.cuttable r e).onward h
-
-  pub counted_end : length v ≤ end → count ≡ length (later_parts w v)
-  counted_end h = omega (arith, m.left, ap length (behind_none w end v h))

@@ -16,8 +16,6 @@ use Rattle.meaning.specs.Forms.{figure, figures, unicode_figures}
 use Rattle.laws.proofs.writing.Figures.{figures_length}
 use Rattle.laws.proofs.basics.Laying.{Laid, laid_same, laid_all, laid_lent, laid_rest, laid_more, laid_inside, laid_byte}
 use Rattle.leaves.specs.Puts.{Puts}
-use Rattle.writer.specs.declared.manners.Manner.{Manner}
-use Rattle.writer.specs.Manners.{opening_by}
 use Rattle.writer.specs.Texts.{PutBytes}
 
 -- BY STORES
@@ -27,17 +25,10 @@ stored p out h = sets-eq p out 0 (rw zero-add h) ∙ rw zero-add
 pub put_stored_all : (p out : List ℕ) → length p ≤ length out → PutBytes p out (length p) (sets out 0 p)
 put_stored_all p out h = record { answer = refl; buffer = stored p out h }
 
-pub put_stored : (a b : ℕ) (out : List ℕ) → 2 ≤ length out → PutBytes (a ∷ b ∷ []) out 2 (set (set out 0 a) 1 b)
-put_stored a b out h = put_stored_all (a ∷ b ∷ []) out h
-
 -- BY `put_bytes`, where there is room
 pub put_all : {t out : List ℕ} {r : ℕ} {after : List ℕ} → Puts t out r after → length t ≤ length out → PutBytes t out r after
 unfolding filled
 put_all {t} {out} p h = record { answer = p.answer ∙ rw (le-leb (length t) (length out) h); buffer = p.buffer ∙ rw (le-leb (length t) (length out) h) }
-
-pub put_opening : {m w : Manner} {out : List ℕ} {r : ℕ} {after : List ℕ} → m ≡ w → length (opening_by m) ≤ length out → Puts (opening_by w) out r after
-    → PutBytes (opening_by m) out r after
-put_opening e h p = rw e (put_all p (rw e at h))
 
 -- THE FIRST PIECE of a text, put into all of the buffer; s is behind it
 pub laid_first : (b s t d : List ℕ) → t ≡ b ++ s → length t ≤ length d → {r : ℕ} {after : List ℕ} → PutBytes b d r after
@@ -123,9 +114,6 @@ module _ (p : List ℕ) (β w c : ℕ) (t out last : List ℕ) (e : t ≡ p ++ f
 
     pub put_figured : PutBytes t out (m + w) (take m front ++ (last ++ drop w (drop m front)))
     put_figured = record { answer = sym long; buffer = buffer_is }
-
-    pub figured_same : length (take m front ++ (last ++ drop w (drop m front))) ≡ length out
-    figured_same = ap length buffer_is ∙ omega (arith, length-append t (drop (length t) out), length-drop (length t) out)
 
 -- a number in U&
 pub unicode_four : (c : ℕ) → c ≤ 0xFFFF → unicode_figures c ≡ 92 ∷ figures 16 4 c

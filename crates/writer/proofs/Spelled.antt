@@ -21,11 +21,10 @@ use Rattle.laws.proofs.basics.Tests.{or_left, or_right}
 use Rattle.laws.proofs.utf8.Utf8.{low_lead}
 use Rattle.laws.proofs.writing.FormText.{letter_none}
 use Rattle.scalars.specs.Scalars.{scalar_from, scalar_of}
-use Rattle.writer.specs.declared.manners.Manner.{Manner}
-use Rattle.writer.specs.declared.manners.Manner.TheVariants.{Plain, Escape, Unicode}
+use Rattle.writer.specs.Manners.{Manner, Plain, Escape, Unicode, kept_by, keeps, given, unit_by, letter_for}
 use Rattle.writer.specs.declared.manners.Kept.{Kept}
-use Rattle.writer.specs.Manners.{kept_by, keeps, given, unit_by, letter_for}
-use Rattle.writer.specs.Texts.{UnitAt, PutBytes}
+use Rattle.writer.specs.Texts.{UnitAt, OtherAt, PutBytes}
+use Rattle.std.specs.Prelude.{Some, None}
 use Rattle.writer.proofs.Putting.{put_same, unicode_low}
 use Rattle.writer.proofs.Steps.{escape_keeps, unicode_keeps, doubled_lead}
 
@@ -76,20 +75,9 @@ plain_nul false b h e =
     absurd (false≢true (sym h ∙ keeps_wide (kept_by (Plain false)) b (omega arith) refl q q))
 
 -- E's letters
-letter_some : (b : ℕ) → 0 < letter_of escape_table b
-letter_some b = go (eqb 8 b) (eqb 12 b) (eqb 10 b) (eqb 13 b) (eqb 9 b)
-  where
-    go : (p q r s t : Bool) → 0 < (if p then 98 else if q then 102 else if r then 110 else if s then 114 else if t then 116 else 256)
-    go true q r s t = omega arith
-    go false true r s t = omega arith
-    go false false true s t = omega arith
-    go false false false true t = omega arith
-    go false false false false true = omega arith
-    go false false false false false = omega arith
-
-pub letter_other : (b : ℕ) → (b ≡ 8 → ⊥) → (b ≡ 9 → ⊥) → (b ≡ 10 → ⊥) → (b ≡ 12 → ⊥) → (b ≡ 13 → ⊥) → 0 ≡ letter_for b
+pub letter_other : (b : ℕ) → (b ≡ 8 → ⊥) → (b ≡ 9 → ⊥) → (b ≡ 10 → ⊥) → (b ≡ 12 → ⊥) → (b ≡ 13 → ⊥) → None ≡ letter_for b
 unfolding letter_for
-letter_other b p q r s t = sym (ap (λ (n : ℕ). if ltb n 256 then n else 0) (letter_none b p q r s t))
+letter_other b p q r s t = sym (ap (λ (n : ℕ). if ltb n 256 then Some n else None) (letter_none b p q r s t))
 
 -- A CHARACTER, b its first byte
 module _ (b : ℕ) (t : List ℕ) where
@@ -103,26 +91,26 @@ module _ (b : ℕ) (t : List ℕ) where
   unit_nul bs h e = rw h (plain_nul bs b h e)
 
   -- E: the letter, or octal digits
-  unit_letter : (l : ℕ) → l ≡ letter_for b → 0 < l → twice b ≡ false → unit_by Escape (b ∷ t) ≡ 92 ∷ l ∷ []
+  unit_letter : (l : ℕ) → letter_for b ≡ Some l → twice b ≡ false → unit_by Escape (b ∷ t) ≡ 92 ∷ l ∷ []
   unfolding escape_form letter_for
-  unit_letter l e some f = rw (twice_doubled b false f) (go (ltb (letter_of escape_table b) 256) e)
+  unit_letter l e f = rw (twice_doubled b false f) (go (ltb (letter_of escape_table b) 256) e)
     where
-      go : (x : Bool) → l ≡ (if x then letter_of escape_table b else 0)
+      go : (x : Bool) → (if x then Some (letter_of escape_table b) else None) ≡ Some l
           → given (if x then give 0 (backslash ∷ letter_of escape_table b ∷ []) else if ltb b 0x20 then give 0 (backslash ∷ figures 8 3 b) else keep)
           ≡ 92 ∷ l ∷ []
-      go true e = rw e
-      go false e = absurd (omega arith)
+      go true e = let z : letter_of escape_table b ≡ l = cc in rw z
+      go false e = let z : ◌≡◌ {A = ℕ} 0 1 = cc in absurd (omega arith)
 
-  unit_octal : (l : ℕ) → l ≡ letter_for b → l ≤ 0 → keeps (kept_by Escape) b ≡ false → twice b ≡ false → unit_by Escape (b ∷ t) ≡ 92 ∷ figures 8 3 b
+  unit_octal : letter_for b ≡ None → keeps (kept_by Escape) b ≡ false → twice b ≡ false → unit_by Escape (b ∷ t) ≡ 92 ∷ figures 8 3 b
   unfolding escape_form letter_for
-  unit_octal l e none h f = rw (twice_doubled b false f) (go (ltb (letter_of escape_table b) 256) (ltb b 0x20) refl refl e)
+  unit_octal e h f = rw (twice_doubled b false f) (go (ltb (letter_of escape_table b) 256) (ltb b 0x20) refl e)
     where
-      go : (x y : Bool) → ltb (letter_of escape_table b) 256 ≡ x → ltb b 0x20 ≡ y → l ≡ (if x then letter_of escape_table b else 0)
+      go : (x y : Bool) → ltb b 0x20 ≡ y → (if x then Some (letter_of escape_table b) else None) ≡ None
           → given (if x then give 0 (backslash ∷ letter_of escape_table b ∷ []) else if y then give 0 (backslash ∷ figures 8 3 b) else keep)
           ≡ 92 ∷ figures 8 3 b
-      go true y ex ey e = absurd (omega (arith, letter_some b))
-      go false true ex ey e = refl
-      go false false ex ey e =
+      go true y ey e = let z : ◌≡◌ {A = ℕ} 0 1 = cc in absurd (omega arith)
+      go false true ey e = refl
+      go false false ey e =
           absurd (false≢true (sym h ∙ escape_keeps b ∙ rw (twice_doubled b false f, le-leb 0x20 b (ltb-false b 0x20 ey))))
 
   -- U&: its number
@@ -148,24 +136,23 @@ module _ {m : Manner} {v : List ℕ} {at n : ℕ} (u : UnitAt m v at n) where
   pub at_doubled : twice (v ! at) ≡ true → unit_by m (drop at v) ≡ v ! at ∷ v ! at ∷ []
   at_doubled e = ap (unit_by m) front ∙ unit_doubled (v ! at) (drop (suc at) v) m u.changed e
 
-  module _ (e : twice (v ! at) ≡ false) where
-    pub at_nul : (bs : Bool) → m ≡ Plain bs → unit_by m (drop at v) ≡ 92 ∷ 48 ∷ []
-    at_nul bs is = rw (is, front) (unit_nul (v ! at) (drop (suc at) v) bs (rw is at u.changed) e)
-
-    module _ (is : m ≡ Escape) (l : ℕ) (letter : l ≡ letter_for (v ! at)) where
-      pub at_letter : 0 < l → unit_by m (drop at v) ≡ 92 ∷ l ∷ []
-      at_letter some = rw (is, front) (unit_letter (v ! at) (drop (suc at) v) l letter some e)
-
-      pub at_octal : l ≤ 0 → unit_by m (drop at v) ≡ 92 ∷ figures 8 3 (v ! at)
-      at_octal none = rw (is, front) (unit_octal (v ! at) (drop (suc at) v) l letter none (rw is at u.changed) e)
-
-    pub at_scalar : m ≡ Unicode → (c : ℕ) → c ≡ scalar_of (drop at v) → unit_by m (drop at v) ≡ unicode_figures c
-    at_scalar is c ec =
-        rw (is, ec, front) (unit_scalar (v ! at) (drop (suc at) v) (rw is at u.changed) e (u.begins is))
-
   -- there is room for it
   pub at_room : {s : List ℕ} → unit_by m (drop at v) ≡ s → length s ≤ n
   at_room e = rw e at u.room
+
+-- AND NOT DOUBLED, in each manner
+module _ {v : List ℕ} {at n : ℕ} where
+  pub at_nul : {bs : Bool} → OtherAt (Plain bs) v at n → unit_by (Plain bs) (drop at v) ≡ 92 ∷ 48 ∷ []
+  at_nul {bs} o = ap (unit_by (Plain bs)) (front o.unit) ∙ unit_nul (v ! at) (drop (suc at) v) bs o.unit.changed o.single
+
+  pub at_letter : OtherAt Escape v at n → (l : ℕ) → letter_for (v ! at) ≡ Some l → unit_by Escape (drop at v) ≡ 92 ∷ l ∷ []
+  at_letter o l e = ap (unit_by Escape) (front o.unit) ∙ unit_letter (v ! at) (drop (suc at) v) l e o.single
+
+  pub at_octal : OtherAt Escape v at n → letter_for (v ! at) ≡ None → unit_by Escape (drop at v) ≡ 92 ∷ figures 8 3 (v ! at)
+  at_octal o e = ap (unit_by Escape) (front o.unit) ∙ unit_octal (v ! at) (drop (suc at) v) e o.unit.changed o.single
+
+  pub at_scalar : OtherAt Unicode v at n → unit_by Unicode (drop at v) ≡ unicode_figures (scalar_of (drop at v))
+  at_scalar o = rw (front o.unit) (unit_scalar (v ! at) (drop (suc at) v) o.unit.changed o.single (o.unit.begins refl))
 
 -- A CHARACTER BY ITS NUMBER; an ASCII one is its own, of which two digits are zeros
 low_figures : (v : List ℕ) (at : ℕ) → at < length v → v ! at < 128 → unicode_figures (scalar_of (drop at v)) ≡ 92 ∷ 48 ∷ 48 ∷ figures 16 2 (v ! at)
@@ -180,10 +167,3 @@ module _ (v : List ℕ) (at : ℕ) (h : at < length v) where
   pub low_put : v ! at < 128 → (out : List ℕ) (r : ℕ) (after : List ℕ) → PutBytes (92 ∷ 48 ∷ 48 ∷ figures 16 2 (v ! at)) out r after
       → PutBytes (unicode_figures (scalar_of (drop at v))) out r after
   low_put l out r after p = put_same (low_figures v at h l) p
-
-pub number_room : (v : List ℕ) (at c n : ℕ) → c ≡ scalar_of (drop at v) → length (unicode_figures (scalar_of (drop at v))) ≤ n → length (unicode_figures c) ≤ n
-number_room v at c n e r = rw e r
-
-pub number_put : (v : List ℕ) (at c : ℕ) → c ≡ scalar_of (drop at v) → (out : List ℕ) (r : ℕ) (after : List ℕ) → PutBytes (unicode_figures c) out r after
-    → PutBytes (unicode_figures (scalar_of (drop at v))) out r after
-number_put v at c e out r after p = rw (← e) p

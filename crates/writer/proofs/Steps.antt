@@ -18,9 +18,7 @@ use Rattle.laws.proofs.basics.Tests.{and_left, and_right, within_bounds}
 use Rattle.laws.proofs.utf8.Utf8.{low_lead}
 use Rattle.laws.proofs.writing.Spellings.{twice}
 use Rattle.laws.proofs.writing.FormText.{no_letter}
-use Rattle.writer.specs.declared.manners.Manner.{Manner}
-use Rattle.writer.specs.declared.manners.Manner.TheVariants.{Plain, Escape, Unicode}
-use Rattle.writer.specs.Manners.{kept_by, keeps, step_by, given, unit_by, unit_width}
+use Rattle.writer.specs.Manners.{Manner, Plain, Escape, Unicode, kept_by, keeps, step_by, given, unit_by, unit_width}
 
 -- WHICH BYTES A FORM KEEPS, by the definitions' tests
 pub escape_keeps : (b : ℕ) → keeps (kept_by Escape) b ≡ (leb 0x20 b && not (is_doubled b))

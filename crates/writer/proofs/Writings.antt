@@ -20,11 +20,8 @@ use Rattle.laws.proofs.basics.Tests.{and_left, and_right}
 use Rattle.laws.proofs.utf8.Utf8.{pushes_broken, low_lead}
 use Rattle.laws.proofs.walking.Walks.{walk_drop}
 use Rattle.laws.proofs.writing.WriterParts.{first_fits}
-use Rattle.laws.proofs.basics.Laying.{Laid, laid_none, laid_same, laid_all, laid_lent, laid_rest, laid_more}
-use Rattle.writer.specs.declared.manners.Manner.{Manner}
-use Rattle.writer.specs.declared.manners.Manner.TheVariants.{Plain, Escape, Unicode}
-use Rattle.writer.specs.declared.manners.Kept.{Kept}
-use Rattle.writer.specs.Manners.{kept_by, keeps, step_by, unit_by, unit_width, opening_by, units_by, text_by}
+use Rattle.laws.proofs.basics.Laying.{Laid, laid_same, laid_all, laid_lent, laid_rest, laid_more}
+use Rattle.writer.specs.Manners.{Manner, Plain, Escape, Unicode, kept_by, keeps, step_by, unit_by, unit_width, opening_by, units_by, text_by}
 use Rattle.writer.specs.Texts.{Fits, UnitAt, PutBytes}
 use Rattle.writer.proofs.Steps.{changed_step}
 use Rattle.writer.proofs.Putting as putting
@@ -116,9 +113,6 @@ pub record Spelling (m : Manner) (v d out : List ℕ) (n at : ℕ) : Type 0 wher
   pub laid : Laid (units_by m v) d out n
   pub rest : drop n (units_by m v) ≡ units_by m (drop at v)
 
-pub spelling_start : (m : Manner) (v d : List ℕ) → utf8 v ≡ true → length (units_by m v) ≤ length d → Spelling m v d d 0 0
-spelling_start m v d u h = record { inside = omega arith; valid = λ e. u; laid = laid_none (units_by m v) d h; rest = refl }
-
 module _ {m : Manner} {v d out : List ℕ} {n at : ℕ} (p : Spelling m v d out n at) where
   pub spelling_same : length out ≡ length d
   spelling_same = laid_same p.laid
@@ -137,10 +131,7 @@ module _ {m : Manner} {v d out : List ℕ} {n at : ℕ} (p : Spelling m v d out 
     here = drop-cons v at 0 h
 
     -- A RUN of bytes that stand for themselves, as it is counted
-    module _ (k : Kept) (ek : k ≡ kept_by m) (r : ℕ) (er : r ≡ span (keeps k) (drop at v)) where
-      counted : r ≡ span (keeps (kept_by m)) (drop at v)
-      counted = er ∙ ap (λ (j : Kept). span (keeps j) (drop at v)) ek
-
+    module _ (r : ℕ) (counted : r ≡ span (keeps (kept_by m)) (drop at v)) where
       passed : passes (keeps (kept_by m)) r (drop at v) ≡ true
       passed = rw counted (span_passes (keeps (kept_by m)) (drop at v))
 
@@ -173,9 +164,6 @@ module _ {m : Manner} {v d out : List ℕ} {n at : ℕ} (p : Spelling m v d out 
               laid = laid_more p.laid run s copied a last b.answer b.buffer;
               rest = laid_rest p.laid run s copied (n + a) (ap (n +◌) b.answer);
             }
-
-        pub run_fits : n + a ≤ length d
-        run_fits = let q = spelling_run in omega (arith, q.laid.part, q.laid.room)
 
     -- A UNIT, where a byte does not stand for itself
     module _ (x : keeps (kept_by m) (v ! at) ≡ false) where
@@ -220,9 +208,6 @@ module _ {m : Manner} {v d out : List ℕ} {n at : ℕ} (p : Spelling m v d out 
               rest = laid_rest p.laid b s spelled (n + a) (ap (n +◌) q.answer);
             })
 
-        pub unit_fits : n + a ≤ length d
-        unit_fits = let q = spelling_unit wide refl in omega (arith, q.laid.part, q.laid.room)
-
 -- A VALUE THAT IS COPIED WHOLE
 pub copied_whole : {m : Manner} {x : Bool} {v out : List ℕ} → Fits m x v (units_by m v) (length out) → x ≡ true
     → {a : ℕ} {after : List ℕ} → Puts v out a after → PutBytes (units_by m v) out a after
@@ -233,9 +218,12 @@ copied_whole {m} {x} {v} {out} f h {a} {after} q =
 
 -- THE TEXT: the opening, the spelling, the mark
 module _ {m : Manner} {x : Bool} {v : List ℕ} (d : List ℕ) (f : Fits m x v (text_by m v) (length d)) where
-  pub opening_room : length (opening_by m) ≤ length d
+  opening_room : length (opening_by m) ≤ length d
   unfolding text_by
   opening_room = omega (arith, f.room, length-append (opening_by m) (units_by m v ++ (quote ∷ [])))
+
+  pub opened : {o : List ℕ} → o ≡ opening_by m → {n : ℕ} {out : List ℕ} → Puts o d n out → PutBytes (opening_by m) d n out
+  opened e p = put_all (rw e at p) opening_room
 
   text_is : text_by m v ≡ opening_by m ++ (units_by m v ++ (quote ∷ []))
   unfolding text_by

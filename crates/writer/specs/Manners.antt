@@ -1,6 +1,6 @@
 -- How a value is spelled, between quote marks at a setting or by a form: the bytes that stand for themselves, the step of one character, what each byte costs,
 -- and the text. Assumes nothing.
-use Rattle.std.specs.Prelude.{Bool, true, false, ◌&&◌, ◌||◌, not, List, [], ◌∷◌, ◌++◌, ℕ, ◌+◌, eqb, leb, ltb}
+use Rattle.std.specs.Prelude.{Bool, true, false, ◌&&◌, ◌||◌, not, List, [], ◌∷◌, ◌++◌, ℕ, ◌+◌, eqb, leb, ltb, Option, Some, None}
 use Rattle.meaning.specs.declared.Form.{Form}
 use Rattle.meaning.specs.declared.Form.TheVariants as Form'
 use Rattle.meaning.specs.Bytes.{quote, backslash}
@@ -12,9 +12,13 @@ use Rattle.meaning.specs.Writer.{spell}
 use Rattle.meaning.specs.Forms.{letter_of, form_step, form_opening}
 use Rattle.laws.proofs.writing.WriterText.{cost}
 use Rattle.laws.proofs.writing.FormUnits.{form_cost}
-use Rattle.writer.specs.declared.manners.Manner.{Manner}
-use Rattle.writer.specs.declared.manners.Manner.TheVariants.{Plain, Escape, Unicode}
 use Rattle.writer.specs.declared.manners.Kept.{Kept}
+
+-- between quote marks at a setting, or by a form
+pub data Manner : Type 0 where
+  Plain : Bool → Manner
+  Escape : Manner
+  Unicode : Manner
 
 abbrev pub manner_of : Form → Manner
 manner_of Form'.Escape = Escape
@@ -49,9 +53,9 @@ unit_width (Plain bs) b = 1
 unit_width Escape b = 1
 unit_width Unicode b = width b
 
--- E's letter for a byte; 0: it has none
-unfoldable pub letter_for : ℕ → ℕ
-letter_for b = if ltb (letter_of escape_table b) 256 then letter_of escape_table b else 0
+-- E's letter for a byte, where it has one
+unfoldable pub letter_for : ℕ → Option ℕ
+letter_for b = if ltb (letter_of escape_table b) 256 then Some (letter_of escape_table b) else None
 
 abbrev pub cost_by : Manner → ℕ → ℕ
 cost_by (Plain bs) b = cost bs b

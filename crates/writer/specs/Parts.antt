@@ -4,7 +4,7 @@ use Rattle.meaning.specs.declared.PartSize.{PartSize}
 use Rattle.meaning.specs.declared.PartSize.TheVariants.{Whole, AtMost}
 use Rattle.meaning.specs.Chars.{utf8}
 use Rattle.meaning.specs.Writer.{literals, parts_from}
-use Rattle.writer.specs.declared.manners.Manner.TheVariants.{Plain}
+use Rattle.writer.specs.Manners.{Plain}
 use Rattle.writer.specs.Texts.{all_kept}
 
 -- a part that takes every value whole

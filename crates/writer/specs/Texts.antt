@@ -1,10 +1,10 @@
 -- What is asked of a value before it is measured and written, and what is put into a buffer. Assumes nothing.
-use Rattle.std.specs.Prelude.{Bool, true, false, not, ◌≡◌, List, ◌++◌, ℕ, ◌≤◌, ◌<◌, length, drop}
-use Rattle.meaning.specs.Bytes.{◌!◌, has}
+use Rattle.std.specs.Prelude.{Bool, true, false, not, ◌||◌, ◌≡◌, List, ◌++◌, ℕ, ◌≤◌, ◌<◌, length, drop, eqb}
+use Rattle.meaning.specs.Bytes.{◌!◌, has, quote, backslash}
 use Rattle.meaning.specs.Chars.{utf8, width}
 use Rattle.leaves.specs.Blocks.{passes}
-use Rattle.writer.specs.declared.manners.Manner.{Manner}
-use Rattle.writer.specs.declared.manners.Manner.TheVariants.{Plain, Escape, Unicode}
+use Rattle.writer.specs.Manners.{Manner}
+use Rattle.writer.specs.Manners.{Plain, Escape, Unicode}
 use Rattle.writer.specs.declared.lengths.Measured.{Measured}
 use Rattle.writer.specs.Manners.{kept_by, keeps, unit_by, text_by}
 
@@ -39,6 +39,11 @@ pub record UnitAt (m : Manner) (v : List ℕ) (at n : ℕ) : Type 0 where
   pub changed : keeps (kept_by m) (v ! at) ≡ false
   pub begins : m ≡ Unicode → 0 < width (v ! at)
   pub room : length (unit_by m (drop at v)) ≤ n
+
+-- and it is none of the two bytes that are doubled
+pub record OtherAt (m : Manner) (v : List ℕ) (at n : ℕ) : Type 0 where
+  pub unit : UnitAt m v at n
+  pub single : (eqb (v ! at) quote || eqb (v ! at) backslash) ≡ false
 
 -- bytes are put at a buffer's start, and counted
 pub record PutBytes (t out : List ℕ) (n : ℕ) (after : List ℕ) : Type 0 where

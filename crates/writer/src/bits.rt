@@ -11,7 +11,7 @@ use crate::figures::figure;
 use crate::literal::is_over_limit;
 use crate::units::put_two;
 use leaves::puts::put_bytes;
-use meaning::{BitStringRadix, BitWriting, PartSize};
+use meaning::{BitStringRadix, BitWritingError, PartSize};
 
 // The bit count rounded up to bytes. By division, since a sum could wrap.
 // Rules out: a rounding that wraps; rounding down (must-fail: low_bit_first, whole_bytes_only).
@@ -75,6 +75,7 @@ fn digit_count(bits: u64, radix: BitStringRadix) -> u64
 fn per_byte(radix: BitStringRadix) -> usize
     ensures { result ≡ per_byte radix }
 {
+    // Stays: a radix has several numbers, and a From for usize would not say which is meant.
     match radix {
         BitStringRadix::Binary => 8,
         BitStringRadix::Hex => 2,
@@ -85,6 +86,7 @@ fn per_byte(radix: BitStringRadix) -> usize
 fn letter_of(radix: BitStringRadix) -> u8
     ensures { result ≡ radix_letter radix }
 {
+    // Stays: a radix has several numbers, and a From for u8 would not say which is meant.
     match radix {
         BitStringRadix::Binary => 66,
         BitStringRadix::Hex => 88,
@@ -92,6 +94,7 @@ fn letter_of(radix: BitStringRadix) -> u8
 }
 
 // The eight binary digits of a byte. Divisors that are no variables are compiled to shifts.
+// Stays: `put_two` puts bytes as they are; and Display's `{:08b}` writes to a Formatter, not to a lent buffer.
 // Rules out: the low bit first (must-fail: low_bit_first).
 fn put_eight(byte: u8, out: &mut [u8]) -> usize
     requires { 8 ≤ length out.old }
@@ -121,6 +124,7 @@ fn put_byte(byte: u8, radix: BitStringRadix, out: &mut [u8]) -> usize
 }
 
 // The first n digits of a byte: all are made, and so many are copied.
+// Stays: n counts digits of the byte, and the buffer goes on behind them.
 fn put_first(byte: u8, n: usize, radix: BitStringRadix, out: &mut [u8]) -> usize
     requires { (n ≤ per_byte radix) × (n ≤ length out.old) }
     ensures { PutBytes (take n (byte_digits radix byte)) out.old result out.new }
@@ -138,6 +142,7 @@ fn put_digits(bytes: &[u8], n: usize, radix: BitStringRadix, out: &mut [u8]) -> 
     let each = per_byte(radix);
     let mut put: usize = 0;
     let mut at: usize = 0;
+    // Stays: a `for` over the bytes, with the last one's digits in it, has two ends and takes 3 to 8 times as long (X, 64 KiB: 130 µs for 16).
     while each <= n - put {
         put += put_byte(bytes[at], radix, &mut out[put..]);
         at += 1;
@@ -149,6 +154,7 @@ fn put_digits(bytes: &[u8], n: usize, radix: BitStringRadix, out: &mut [u8]) -> 
 }
 
 // Letter, mark, the first n digits, mark.
+// Stays: n counts digits, of which a byte holds two or eight, and the buffer goes on behind them.
 // Rules out: another mark (must-fail: further_bytes_passed_over).
 fn put_literal(bytes: &[u8], n: usize, radix: BitStringRadix, out: &mut [u8]) -> usize
     requires { (n ≤ length (digits_by radix bytes.now)) × (n + 3 ≤ length out.old) }
@@ -167,20 +173,20 @@ pub fn write_bit_literal(
     bits: u64,
     radix: BitStringRadix,
     out: &mut [u8],
-) -> BitWriting
+) -> Result<usize, BitWritingError>
     ensures { Meets (bit_write_question radix bytes.now bits out.old) result out.new }
 {
     if is_over_limit(bytes, PartSize::Whole) {
-        return BitWriting::OverLimit;
+        return Err(BitWritingError::OverLimit);
     }
     if are_bad(bytes, bits, radix) {
-        return BitWriting::BadBits;
+        return Err(BitWritingError::BadBits);
     }
     let n = digit_count(bits, radix) as usize;
     let len = n + 3;
     if out.len() < len {
-        return BitWriting::NoRoom { needed: len };
+        return Err(BitWritingError::NoRoom { needed: len });
     }
     put_literal(bytes, n, radix, out);
-    BitWriting::Written { len }
+    Ok(len)
 }

@@ -3,6 +3,7 @@ ghost use Rattle.std.specs.Prelude.{◌≡◌, ◌≤◌, ◌<◌, length};
 ghost use Rattle.meaning.specs.Forms as forms;
 
 // The byte of a digit below 16.
+// Stays: `char::from_digit` gives lower case, and a char in an Option.
 // Rules out: lower-case letters.
 pub(crate) fn figure(digit: u32) -> u8
     requires { digit < 16 }
@@ -21,10 +22,8 @@ pub(crate) fn put_figures(number: u32, base: u32, out: &mut [u8])
     ensures { out.new ≡ forms.figures base (length out.old) number }
 {
     let mut rest = number;
-    let mut left = out.len();
-    while 0 < left {
-        left -= 1;
-        out[left] = figure(rest % base);
-        rest = rest / base;
+    for place in (0..out.len()).rev() {
+        out[place] = figure(rest % base);
+        rest /= base;
     }
 }

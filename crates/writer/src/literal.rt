@@ -4,10 +4,10 @@ ghost use Rattle.meaning.specs.Answers.{Meets};
 ghost use Rattle.meaning.specs.Writer.{over_limit, unwritable_nul, write_question};
 
 use crate::lengths::measure;
-use crate::manners::Manner;
 use crate::parts::{count_later, part_limit, write_parts};
+use crate::plain::Plain;
 use leaves::texts::string_literal_embeds_nul;
-use meaning::{PartSize, Settings, Writing};
+use meaning::{PartSize, Settings, WritingError};
 use utf8::check::is_utf8;
 
 // Whether a value is too long to be written, or the parts are too small.
@@ -33,26 +33,34 @@ fn holds_unwritable_nul(value: &[u8], settings: Settings) -> bool
 }
 
 // Writes a value as a plain literal, or as several of so many value bytes, and says how long the text is; or refuses it, and leaves the buffer as lent.
+// Stays: a public function keeps its parameters, which `write_question` of specs/Writer takes apart.
 // Rules out: a text written without room; another length in 9 (must-fail: room_mistaken, size_for_length).
-pub fn write_literal(value: &[u8], size: PartSize, settings: Settings, out: &mut [u8]) -> Writing
+pub fn write_literal(
+    value: &[u8],
+    size: PartSize,
+    settings: Settings,
+    out: &mut [u8],
+) -> Result<usize, WritingError>
     ensures { Meets (write_question settings size value.now out.old) result out.new }
 {
     if is_over_limit(value, size) {
-        return Writing::OverLimit;
+        return Err(WritingError::OverLimit);
     }
     if !is_utf8(value) {
-        return Writing::NotUtf8;
+        return Err(WritingError::NotUtf8);
     }
     if holds_unwritable_nul(value, settings) {
-        return Writing::HoldsNul;
+        return Err(WritingError::HoldsNul);
     }
-    let backslash = settings.backslash;
+    let plain = Plain {
+        backslash: settings.backslash,
+    };
     let limit = part_limit(size);
-    let measured = measure(value, Manner::Plain { backslash });
+    let measured = measure(value, &plain);
     let len = measured.len + 3 * count_later(value, limit);
     if out.len() < len {
-        return Writing::NoRoom { needed: len };
+        return Err(WritingError::NoRoom { needed: len });
     }
-    write_parts(value, limit, backslash, measured.whole, out);
-    Writing::Written { len }
+    write_parts(value, limit, plain, measured.whole, out);
+    Ok(len)
 }

@@ -3,25 +3,25 @@ ghost use Rattle.std.specs.Prelude.{◌≡◌, [], ◌∷◌, ◌≤◌, ◌<◌
 ghost use Rattle.meaning.specs.Bytes.{backslash};
 ghost use Rattle.meaning.specs.Forms.{figures, unicode_figures};
 ghost use Rattle.scalars.specs.Scalars.{scalar_of};
-ghost use Rattle.writer.specs.Manners.{letter_for, unit_by, unit_width};
+ghost use Rattle.writer.specs.Manners.{letter_for, unit_by};
 ghost use Rattle.writer.specs.Texts.{PutBytes, UnitAt};
 
 use crate::figures::put_figures;
-use crate::manners::Manner;
-use scalars::reading::{scalar_at, utf8_width};
+use crate::manners::Spelling;
+use scalars::reading::scalar_at;
 
-// E's letter for a byte; 0: it has none.
-// Rules out: 0B by a letter; 0C without its own.
-fn escape_letter(byte: u8) -> u8
+// E's letter for a byte, where it has one.
+// Rules out: 0B by a letter; 0C without its own (must-fail: another_byte_or_limit, no_plus_sign).
+pub(crate) fn escape_letter(byte: u8) -> Option<u8>
     ensures { result ≡ letter_for byte }
 {
     match byte {
-        8 => 98,
-        9 => 116,
-        10 => 110,
-        12 => 102,
-        13 => 114,
-        _ => 0,
+        8 => Some(98),
+        9 => Some(116),
+        10 => Some(110),
+        12 => Some(102),
+        13 => Some(114),
+        _ => None,
     }
 }
 
@@ -35,7 +35,7 @@ pub(crate) fn put_two(first: u8, second: u8, out: &mut [u8]) -> usize
 }
 
 // A backslash and three octal digits.
-fn put_octal(byte: u8, out: &mut [u8]) -> usize
+pub(crate) fn put_octal(byte: u8, out: &mut [u8]) -> usize
     requires { 4 ≤ length out.old }
     ensures { PutBytes (backslash ∷ figures 8 3 byte) out.old result out.new }
 {
@@ -73,7 +73,7 @@ fn put_low(byte: u8, out: &mut [u8]) -> usize
 }
 
 // The number of the character at a place. An ASCII one, as most control characters are, is put without looking further.
-fn put_character(value: &[u8], at: usize, out: &mut [u8]) -> usize
+pub(crate) fn put_character(value: &[u8], at: usize, out: &mut [u8]) -> usize
     requires { (at < length value.now) × (length (unicode_figures (scalar_of (drop at value.now))) ≤ length out.old) }
     ensures { PutBytes (unicode_figures (scalar_of (drop at value.now))) out.old result out.new }
 {
@@ -84,36 +84,15 @@ fn put_character(value: &[u8], at: usize, out: &mut [u8]) -> usize
     put_scalar(scalar_at(value, at), out)
 }
 
-// Puts the spelling of the character at a place at the buffer's start, and says how long it is.
-// Rules out: a quote mark by a backslash; the byte spelled in place of the character.
-pub(crate) fn put_unit(value: &[u8], at: usize, manner: Manner, out: &mut [u8]) -> usize
-    requires { UnitAt manner value.now at (length out.old) }
-    ensures { PutBytes (unit_by manner (drop at value.now)) out.old result out.new }
+// Puts the spelling of the character at a place at the buffer's start, and says how long it is. Each way doubles the quote mark, and a backslash that it spells.
+// Rules out: a quote mark by a backslash; one not doubled (must-fail: quote_by_a_backslash, quote_not_doubled).
+pub(crate) fn put_unit<S: Spelling>(value: &[u8], at: usize, spelling: &S, out: &mut [u8]) -> usize
+    requires { UnitAt (S.manner spelling.now) value.now at (length out.old) }
+    ensures { PutBytes (unit_by (S.manner spelling.now) (drop at value.now)) out.old result out.new }
 {
     let byte = value[at];
     if (byte == 39) | (byte == 92) {
         return put_two(byte, byte, out);
     }
-    match manner {
-        Manner::Plain { backslash: _ } => put_two(92, 48, out),
-        Manner::Escape => {
-            let letter = escape_letter(byte);
-            if 0 < letter {
-                return put_two(92, letter, out);
-            }
-            put_octal(byte, out)
-        }
-        Manner::Unicode => put_character(value, at, out),
-    }
-}
-
-// How many bytes of the value the character at a byte has: in U& all of its own, elsewhere each byte is spelled alone.
-pub(crate) fn unit_width(byte: u8, manner: Manner) -> usize
-    ensures { result ≡ unit_width manner byte }
-{
-    match manner {
-        Manner::Plain { backslash: _ } => 1,
-        Manner::Escape => 1,
-        Manner::Unicode => utf8_width(byte),
-    }
+    spelling.put_other(value, at, out)
 }

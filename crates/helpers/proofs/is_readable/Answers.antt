@@ -1,16 +1,12 @@
 -- `helpers::is_readable` meets its contract: what is not refused goes to its end. Assumes nothing.
-use Rattle.helpers.proofs.Validity.{reads_borrowed, reads_written, reads_short, reads_refused}
-use borrow.Author.Rules.{rules}
+use Rattle.helpers.proofs.Validity.{reads_text, reads_short, reads_refused}
 use Rattle.helpers.proofs.is_readable.Goals as goal
 
-pub returns-in-Borrowed : goal.returns-in-Borrowed
-returns-in-Borrowed c = search reads_borrowed
+pub returns-in-Ok : goal.returns-in-Ok
+returns-in-Ok c = search reads_text
 
-pub returns-in-Written : goal.returns-in-Written
-returns-in-Written c = search reads_written
+pub returns-in-Err-At : goal.returns-in-Err-At
+returns-in-Err-At c = let e = rw c.in-Err-At.field-0-is at c.in-Err-At.is in search (reads_refused, e)
 
-pub returns-in-Refused : goal.returns-in-Refused
-returns-in-Refused c = search reads_refused
-
-pub returns-in-NoRoom : goal.returns-in-NoRoom
-returns-in-NoRoom c = search reads_short
+pub returns-in-Err-NoRoom : goal.returns-in-Err-NoRoom
+returns-in-Err-NoRoom c = let e = rw c.in-Err-NoRoom.field-0-is at c.in-Err-NoRoom.is in search (reads_short, e)

@@ -4,7 +4,6 @@ use native.Mathlib.Omega.{arith}
 use lib.ListN.{length}
 use Rattle.laws.proofs.questions.Ranges.{Bounds}
 use Rattle.helpers.proofs.Validity.{escape_outside, escape_within, escape_body}
-use borrow.Author.Rules.{rules}
 use Rattle.helpers.proofs.postgres_escape_string_is_valid.Goals as goal
 
 pub overflow_sub-until : goal.overflow_sub-until

@@ -1,5 +1,4 @@
 -- `helpers::uescape_argument_is_legal` meets its contract. Assumes nothing.
-use borrow.Author.Rules.{rules}
 use Rattle.helpers.proofs.Validity.{argument_legal, argument_illegal}
 use Rattle.helpers.proofs.uescape_argument_is_legal.Goals as goal
 

@@ -18,9 +18,6 @@ use Rattle.meaning.specs.declared.Refusal.TheVariants.{WrongKind, MissingSource,
 use Rattle.meaning.specs.declared.Text.{Text}
 use Rattle.meaning.specs.declared.Text.TheVariants as Text'
 use Rattle.meaning.specs.declared.CalendarDay.{CalendarDay}
-use Rattle.meaning.specs.declared.Day.{Day}
-use Rattle.meaning.specs.declared.Day.TheVariants as Day'
-use Rattle.meaning.specs.declared.Dated.TheVariants as Dated'
 use Rattle.meaning.specs.Bytes.{part, has}
 use Rattle.std.specs.Prelude.{if◌then◌else◌}
 use Rattle.meaning.specs.Chars.{utf8}
@@ -35,6 +32,8 @@ use Rattle.laws.proofs.questions.Answered.{told_shows}
 use Rattle.laws.proofs.questions.Ranges.{temporal_inside, span_range}
 use Rattle.laws.proofs.places.Told.{temporal_reads}
 use Rattle.laws.proofs.dates.Spelt.{no_date, no_day_lem, spelled_date, date_spelled}
+use Rattle.std.specs.Prelude.{Result, Ok, Err}
+use Rattle.std.specs.Prelude.{Option, Some, None}
 
 -- THE TEXT'S VALUE decides
 module _ (l : Literal) (S t : List ℕ) (k : is_date_kind l.kind ≡ true) (h : Spans l S t) (u : utf8 t ≡ true) where
@@ -46,19 +45,19 @@ module _ (l : Literal) (S t : List ℕ) (k : is_date_kind l.kind ≡ true) (h : 
   date_value v e = date_asked ∙ ap (dated_as l.span) e
 
 -- a day is a value's; 14 is a value's that is no date; 6 is a reading's
-on_day : (s : Span) (d : Day) (c : CalendarDay) → dated_on s d ≡ Dated'.On c → d ≡ Day'.On c
-on_day s (Day'.On e) c h = ap Day'.On (cc)
-on_day s Day'.InvalidDate c h = let z : ◌≡◌ {A = ℕ} 0 1 = cc in absurd (omega arith)
+on_day : (s : Span) (d : Option CalendarDay) (c : CalendarDay) → dated_on s d ≡ Ok c → d ≡ Some c
+on_day s (Some e) c h = ap Some (cc)
+on_day s None c h = let z : ◌≡◌ {A = ℕ} 0 1 = cc in absurd (omega arith)
 
-pub on_value : (s : Span) (x : Value) (c : CalendarDay) → dated_as s x ≡ Dated'.On c → (v : List ℕ) × (x ≡ means v) × (day_in v ≡ Day'.On c)
+pub on_value : (s : Span) (x : Value) (c : CalendarDay) → dated_as s x ≡ Ok c → (v : List ℕ) × (x ≡ means v) × (day_in v ≡ Some c)
 on_value s (means v) c h = (v, refl, on_day s (day_in v) c h)
 on_value s (fails p) c h = let z : ◌≡◌ {A = ℕ} 0 1 = cc in absurd (omega arith)
 
-fourteen_day : (s sp : Span) (d : Day) → dated_on s d ≡ Dated'.Refused (InvalidDate sp) → (sp ≡ s) × (d ≡ Day'.InvalidDate)
-fourteen_day s sp (Day'.On e) h = let z : ◌≡◌ {A = ℕ} 0 1 = cc in absurd (omega arith)
-fourteen_day s sp Day'.InvalidDate h = (cc, refl)
+fourteen_day : (s sp : Span) (d : Option CalendarDay) → dated_on s d ≡ Err (InvalidDate sp) → (sp ≡ s) × (d ≡ None)
+fourteen_day s sp (Some e) h = let z : ◌≡◌ {A = ℕ} 0 1 = cc in absurd (omega arith)
+fourteen_day s sp None h = (cc, refl)
 
-fourteen_value : (s sp : Span) (x : Value) → dated_as s x ≡ Dated'.Refused (InvalidDate sp)
+fourteen_value : (s sp : Span) (x : Value) → dated_as s x ≡ Err (InvalidDate sp)
     → (sp ≡ s) × (v : List ℕ) × (x ≡ means v) × (is_date v ≡ false)
 fourteen_value s sp (means v) h = let w = fourteen_day s sp (day_in v) h in (w.0, v, refl, no_day_lem v w.1)
 fourteen_value s sp (fails p) h = let z : ◌≡◌ {A = ℕ} 0 1 = cc in absurd (omega arith)
@@ -71,7 +70,7 @@ DayOf t c =
     × (c ≡ calendar_day c.year c.month c.day)
 
 module _ (l : Literal) (S t : List ℕ) (k : is_date_kind l.kind ≡ true) (h : Spans l S t) (u : utf8 t ≡ true) where
-  pub date_on : (c : CalendarDay) → (date_question l S ≡ Dated'.On c) ↔ DayOf t c
+  pub date_on : (c : CalendarDay) → (date_question l S ≡ Ok c) ↔ DayOf t c
   date_on c = (
     λ e.
         let w = on_value l.span (value_of t (temporal off t)) c (sym (date_asked l S t k h u) ∙ e) in
@@ -80,26 +79,26 @@ module _ (l : Literal) (S t : List ℕ) (k : is_date_kind l.kind ≡ true) (h : 
     λ d.
         date_value l S t k h u (spelled_day c.year c.month c.day) d.1
         ∙ ap (dated_on l.span) (spelled_date c.year c.month c.day d.0)
-        ∙ ap Dated'.On (sym d.2),
+        ∙ ap Ok (sym d.2),
   )
 
   pub date_fourteen : (sp : Span)
-      → (date_question l S ≡ Dated'.Refused (InvalidDate sp))
+      → (date_question l S ≡ Err (InvalidDate sp))
       ↔ ((sp ≡ l.span) × (v : List ℕ) × (value_of t (temporal off t) ≡ means v) × (is_date v ≡ false))
   date_fourteen sp = (
     λ e. fourteen_value l.span sp (value_of t (temporal off t)) (sym (date_asked l S t k h u) ∙ e),
     λ w.
         date_value l S t k h u w.1 w.2 ∙ ap (dated_on l.span) (no_date w.1 w.3)
-        ∙ ap (λ (s : Span). Dated'.Refused (InvalidDate s)) (sym w.0),
+        ∙ ap (λ (s : Span). Err (InvalidDate s)) (sym w.0),
   )
 
 -- whatever was asked: a day that is answered is one of the calendar's, with its number
-pub date_day : (l : Literal) (S : List ℕ) (c : CalendarDay) → date_question l S ≡ Dated'.On c
+pub date_day : (l : Literal) (S : List ℕ) (c : CalendarDay) → date_question l S ≡ Ok c
     → (is_day c.year c.month c.day ≡ true) × (c ≡ calendar_day c.year c.month c.day)
 unfolding date_question
 date_day l S c e = go (tested (is_date_kind l.kind) Expected.Date l S) e
   where
-    go : (x : Tested) → dated_by l.span x ≡ Dated'.On c → (is_day c.year c.month c.day ≡ true) × (c ≡ calendar_day c.year c.month c.day)
+    go : (x : Tested) → dated_by l.span x ≡ Ok c → (is_day c.year c.month c.day ≡ true) × (c ≡ calendar_day c.year c.month c.day)
     go (barred r) h = let z : ◌≡◌ {A = ℕ} 0 1 = cc in absurd (omega arith)
     go (passes t) h =
         let w = on_value l.span (value_of t (temporal off t)) c h in
@@ -109,7 +108,7 @@ date_day l S c e = go (tested (is_date_kind l.kind) Expected.Date l S) e
 -- joined or not, in quotes or between dollar signs: the same value gives the same day
 pub date_same_value : (l l' : Literal) (S S' t t' : List ℕ) → is_date_kind l.kind ≡ true → is_date_kind l'.kind ≡ true → Spans l S t → Spans l' S' t'
     → utf8 t ≡ true → utf8 t' ≡ true → value_of t (temporal off t) ≡ value_of t' (temporal off t') → (c : CalendarDay)
-    → (date_question l S ≡ Dated'.On c) ↔ (date_question l' S' ≡ Dated'.On c)
+    → (date_question l S ≡ Ok c) ↔ (date_question l' S' ≡ Ok c)
 date_same_value l l' S S' t t' k k' h h' u u' e c =
     let a = date_on l S t k h u c in
     let b = date_on l' S' t' k' h' u' c in (
@@ -123,38 +122,38 @@ date_temporal k h = rw (eqb-true (kind_code k) 8 h)
 
 -- refuses the same before the value is there: all but 9, which the date question doesn't know, and 14, which the temporal question doesn't
 shared : (s : Span) (f : ℕ) (out t : List ℕ) (a : Answer) (r : Refusal) → refusal_number r ≤ 8
-    → (dated_as s (value_of t a) ≡ Dated'.Refused r) ↔ ((told_as (InvalidString s) f out a).answer ≡ Text'.Refused r)
+    → (dated_as s (value_of t a) ≡ Err r) ↔ ((told_as (InvalidString s) f out a).answer ≡ Err r)
 shared s f out t a r n = go a
   where
-    day : (d : Day) → dated_on s d ≡ Dated'.Refused r → ⊥
-    day (Day'.On e) h = let z : ◌≡◌ {A = ℕ} 0 1 = cc in omega arith
-    day Day'.InvalidDate h = let z : r ≡ InvalidDate s = cc in let m = ap refusal_number z in omega arith
+    day : (d : Option CalendarDay) → dated_on s d ≡ Err r → ⊥
+    day (Some e) h = let z : ◌≡◌ {A = ℕ} 0 1 = cc in omega arith
+    day None h = let z : r ≡ InvalidDate s = cc in let m = ap refusal_number z in omega arith
 
-    room : (x : Bool) (m : ℕ) → (if x then Text'.Written m else Text'.Refused (NoRoom m)) ≡ Text'.Refused r → ⊥
+    room : (x : Bool) (m : ℕ) → (if x then Ok (Text'.Written m) else Err (NoRoom m)) ≡ Err r → ⊥
     room true m h = let z : ◌≡◌ {A = ℕ} 0 1 = cc in omega arith
     room false m h = let z : r ≡ NoRoom m = cc in let k = ap refusal_number z in omega arith
 
-    go : (a : Answer) → (dated_as s (value_of t a) ≡ Dated'.Refused r) ↔ ((told_as (InvalidString s) f out a).answer ≡ Text'.Refused r)
+    go : (a : Answer) → (dated_as s (value_of t a) ≡ Err r) ↔ ((told_as (InvalidString s) f out a).answer ≡ Err r)
     go (borrowed g u) = (λ h. absurd (day (day_in (part g u t)) h), λ h. let z : ◌≡◌ {A = ℕ} 0 1 = cc in absurd (omega arith))
     go (written v) = (λ h. absurd (day (day_in v) h), λ h. absurd (room (leb (length v) (length out)) (length v) h))
-    go (refused p) = (λ h. ap Text'.Refused (cc), λ h. ap Dated'.Refused (cc))
+    go (refused p) = (λ h. ap Err (cc), λ h. ap Err (cc))
 
 module _ (l : Literal) (S out : List ℕ) (k : is_date_kind l.kind ≡ true) where
-  pub date_shared : (r : Refusal) → refusal_number r ≤ 8 → (date_question l S ≡ Dated'.Refused r) ↔ ((temporal_question l S out).answer ≡ Text'.Refused r)
+  pub date_shared : (r : Refusal) → refusal_number r ≤ 8 → (date_question l S ≡ Err r) ↔ ((temporal_question l S out).answer ≡ Err r)
   unfolding date_question temporal_question tested
   date_shared r n = rw (k, date_temporal l.kind k) (go (source_text l S))
     where
       go : (x : Tested)
-          → (dated_by l.span x ≡ Dated'.Refused r) ↔ ((told (temporal off) InvalidString l out x).answer ≡ Text'.Refused r)
+          → (dated_by l.span x ≡ Err r) ↔ ((told (temporal off) InvalidString l out x).answer ≡ Err r)
       go (passes t) = shared l.span l.span.start out t (temporal off t) r n
-      go (barred q) = (λ h. ap Text'.Refused (cc), λ h. ap Dated'.Refused (cc))
+      go (barred q) = (λ h. ap Err (cc), λ h. ap Err (cc))
 
   -- so 6, at the same place, with every buffer; and the tests 2 to 4
   pub date_six : (sp : Span) (p : ℕ)
-      → (date_question l S ≡ Dated'.Refused (InvalidString sp p)) ↔ ((temporal_question l S out).answer ≡ Text'.Refused (InvalidString sp p))
+      → (date_question l S ≡ Err (InvalidString sp p)) ↔ ((temporal_question l S out).answer ≡ Err (InvalidString sp p))
   date_six sp p = date_shared (InvalidString sp p) (omega arith)
 
-  pub date_barred : (r : Refusal) → refusal_number r ≤ 4 → (date_question l S ≡ Dated'.Refused r) ↔ ((temporal_question l S out).answer ≡ Text'.Refused r)
+  pub date_barred : (r : Refusal) → refusal_number r ≤ 4 → (date_question l S ≡ Err r) ↔ ((temporal_question l S out).answer ≡ Err r)
   date_barred r n = date_shared r (omega arith)
 
 -- WHAT IT SHOWS decides
@@ -166,7 +165,7 @@ date_temporal_shown l S out k n = go l.synthetic (bad_span l.span S) (utf8 t) re
     t : List ℕ
     t = part l.span.start l.span.end S
 
-    o : Outcome Text
+    o : Outcome (Result Text Refusal)
     o = temporal_question l S out
 
     go : (x y z : Bool) → l.synthetic ≡ x → bad_span l.span S ≡ y → utf8 t ≡ z
@@ -181,7 +180,7 @@ date_temporal_shown l S out k n = go l.synthetic (bad_span l.span S) (utf8 t) re
         (rw q (told_shows (InvalidString l.span) l.span.start l.span.end S out (span_range l.span S f) (temporal off t) (temporal_inside off t) (rw q at n)))
 
 -- another kind is told that a date was expected
-pub date_wrong_kind : (l : Literal) (S : List ℕ) → is_date_kind l.kind ≡ false → date_question l S ≡ Dated'.Refused (WrongKind Expected.Date l.kind)
+pub date_wrong_kind : (l : Literal) (S : List ℕ) → is_date_kind l.kind ≡ false → date_question l S ≡ Err (WrongKind Expected.Date l.kind)
 unfolding date_question tested
 date_wrong_kind l S k = rw k
 
@@ -196,9 +195,9 @@ date_numbers_lem l S = kind (is_date_kind l.kind)
     s : Span
     s = l.span
 
-    day : (d : Day) → has (dated_number (dated_on s d)) date_numbers ≡ true
-    day (Day'.On c) = refl
-    day Day'.InvalidDate = refl
+    day : (d : Option CalendarDay) → has (dated_number (dated_on s d)) date_numbers ≡ true
+    day (Some c) = refl
+    day None = refl
 
     value : (x : Value) → has (dated_number (dated_as s x)) date_numbers ≡ true
     value (means v) = day (day_in v)

@@ -8,13 +8,13 @@ use native.Mathlib.Omega.{arith}
 use lib.Dec.{eqb, ltb}
 use borrow.Author.Tests.{ltb-true, ltb-false}
 use Rattle.meaning.specs.declared.CalendarDay.{CalendarDay}
-use Rattle.meaning.specs.declared.Day.TheVariants as Day'
 use Rattle.meaning.specs.Bytes.{has, within}
 use Rattle.std.specs.Prelude.{if◌then◌else◌}
 use Rattle.meaning.specs.Dates.{is_leap, length_by, month_length, year_length, before, day_number, is_day, calendar_day, Fall, seek, month_found, year_found, date_of}
 use Rattle.meaning.specs.Dates.{last_day, day_question}
 use Rattle.laws.proofs.basics.Tests.{and_left, and_right, within_yes, within_below, within_above, within_bounds}
 use Rattle.laws.proofs.dates.Counting.{within_unit, seek_unit, Finds, seek_first}
+use Rattle.std.specs.Prelude.{Some, None}
 
 -- a day: its year, month and day, each counted from 1
 pub record IsDay (y m d : ℕ) : Type 0 where
@@ -175,19 +175,19 @@ back_number n a b =
     year_numbers n (seek year_length 9998 1 n) (seek_first year_length 9998 n a (subst (λ (k : ℕ). n ≤ k) (sym years_together) b))
 
 -- THE QUESTION. Every number from 1 to 3652059 is a day's, and no other
-pub day_found : (n : ℕ) → 1 ≤ n → n ≤ last_day → day_question n ≡ Day'.On (date_of n)
+pub day_found : (n : ℕ) → 1 ≤ n → n ≤ last_day → day_question n ≡ Some (date_of n)
 unfolding day_question
 day_found n a b = rw (within_yes 1 last_day n a b)
 
-pub day_outside : (n : ℕ) → (n ≡ 0) ⊎ (last_day < n) → day_question n ≡ Day'.InvalidDate
+pub day_outside : (n : ℕ) → (n ≡ 0) ⊎ (last_day < n) → day_question n ≡ None
 unfolding day_question
 day_outside n (inl e) = rw (within_below 1 last_day n (omega arith))
 day_outside n (inr l) = rw (within_above 1 last_day n l)
 
-pub day_back : (y m d : ℕ) → is_day y m d ≡ true → day_question (day_number y m d) ≡ Day'.On (calendar_day y m d)
+pub day_back : (y m d : ℕ) → is_day y m d ≡ true → day_question (day_number y m d) ≡ Some (calendar_day y m d)
 day_back y m d h =
     let bounds = number_within y m d h in
-    day_found (day_number y m d) bounds.0 bounds.1 ∙ ap Day'.On (number_back y m d h)
+    day_found (day_number y m d) bounds.0 bounds.1 ∙ ap Some (number_back y m d h)
 
 -- the day told is the calendar's, and has that number
 abbrev Told : ℕ → CalendarDay → Type 0
@@ -196,12 +196,12 @@ Told n c = (is_day c.year c.month c.day ≡ true) × (c ≡ calendar_day c.year 
 told : (n : ℕ) (c : CalendarDay) → date_of n ≡ c → Numbers n c → Told n c
 told n c same h = (h.0, sym same ∙ ap date_of (sym h.1) ∙ number_back c.year c.month c.day h.0, h.2)
 
-pub day_only : (n : ℕ) (c : CalendarDay) → day_question n ≡ Day'.On c
+pub day_only : (n : ℕ) (c : CalendarDay) → day_question n ≡ Some c
     → (is_day c.year c.month c.day ≡ true) × (c ≡ calendar_day c.year c.month c.day) × (c.number ≡ n)
 unfolding day_question
 day_only n c e = go (within 1 last_day n) refl e
   where
-    go : (x : Bool) → within 1 last_day n ≡ x → (if x then Day'.On (date_of n) else Day'.InvalidDate) ≡ Day'.On c → Told n c
+    go : (x : Bool) → within 1 last_day n ≡ x → (if x then Some (date_of n) else None) ≡ Some c → Told n c
     go true t u =
         let bounds = within_bounds 1 last_day n t in
         let same : date_of n ≡ c = cc in

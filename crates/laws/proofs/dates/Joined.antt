@@ -1,5 +1,6 @@
 -- [02 T-05] "Joined segments count as one value": where a text's token is two texts joined, its value is the one's followed by the other's, and the day is
 -- that value's. So DATE 'a' 'b' and DATE 'ab' are the same day. Assumes nothing.
+use Rattle.std.specs.Prelude.{Ok}
 use mathlib.Core.Logic.{◌↔◌, inl}
 use mathlib.Core.Path.{◌≡◌, refl, ap, sym, ◌∙◌, subst}
 use mathlib.Core.Bool.{Bool, true, false, ◌&&◌, not}
@@ -14,8 +15,6 @@ use lib.Seq.{get_or-take, take_all, take-append_seam, drop-length, drop-cons, dr
 use Rattle.meaning.specs.declared.Literal.{Literal}
 use Rattle.meaning.specs.declared.LiteralKind.TheVariants as Kind
 use Rattle.meaning.specs.declared.CalendarDay.{CalendarDay}
-use Rattle.meaning.specs.declared.Day.TheVariants as Day'
-use Rattle.meaning.specs.declared.Dated.TheVariants as Dated'
 use Rattle.meaning.specs.Bytes.{◌!◌, part, ascii, has, quote, within, is_letter, is_decimal, starts_tag, in_tag, is_mark, digit, all_digits}
 use Rattle.meaning.specs.Chars.{lead, utf8, is_space}
 use Rattle.meaning.specs.Cutting.{off}
@@ -32,6 +31,7 @@ use Rattle.laws.proofs.joining.Parts.{is_quote}
 use Rattle.laws.proofs.questions.Asked.{Spans}
 use Rattle.laws.proofs.writing.Unchanged.{back_means, literal_whole, literal_back}
 use Rattle.laws.proofs.dates.Asked.{date_value, date_same_value}
+use Rattle.std.specs.Prelude.{Some}
 
 -- A TOKEN that is A and B, joined
 module _ (t : List ℕ) (f u : ℕ) (A G B v w : List ℕ) (k : temporal_token t ≡ token f u) (p : part f u t ≡ A ++ (G ++ B)) where
@@ -201,7 +201,7 @@ module _ (w a g b : List ℕ) (h : TwoOf w a g b) where
   -- so of two literals, wherever they stand
   pub same_day : (l l' : Literal) (S S' : List ℕ) → is_date_kind l.kind ≡ true → is_date_kind l'.kind ≡ true
       → Spans l S (w ++ (quoted a ++ (g ++ quoted b))) → Spans l' S' (w ++ quoted (a ++ b)) → utf8 (w ++ (quoted a ++ (g ++ quoted b))) ≡ true
-      → utf8 (w ++ quoted (a ++ b)) ≡ true → (c : CalendarDay) → (date_question l S ≡ Dated'.On c) ↔ (date_question l' S' ≡ Dated'.On c)
+      → utf8 (w ++ quoted (a ++ b)) ≡ true → (c : CalendarDay) → (date_question l S ≡ Ok c) ↔ (date_question l' S' ≡ Ok c)
   same_day l l' S S' k k' s s' u u' =
       date_same_value l l' S S' (w ++ (quoted a ++ (g ++ quoted b))) (w ++ quoted (a ++ b)) k k' s s' u u' (two_means ∙ sym one_means)
 
@@ -226,12 +226,12 @@ date_itself = (record { no_quote = refl; no_dollar = refl; no_e = refl }, refl)
 abbrev pub second_of_january : CalendarDay
 second_of_january = record { year = 2024; month = 1; day = 2; number = 738887 }
 
-is_second : day_in (ascii "2024-01-02") ≡ Day'.On second_of_january
+is_second : day_in (ascii "2024-01-02") ≡ Some second_of_january
 unfolding day_in is_date is_ten_bytes is_day month_length year_length is_leap calendar_day day_number within digit all_digits
 is_second = refl
 
-pub both_second : (date_question (all_of (ascii "DATE '2024-' '01-02'")) (ascii "DATE '2024-' '01-02'") ≡ Dated'.On second_of_january)
-    × (date_question (all_of (ascii "DATE '2024-01-02'")) (ascii "DATE '2024-01-02'") ≡ Dated'.On second_of_january)
+pub both_second : (date_question (all_of (ascii "DATE '2024-' '01-02'")) (ascii "DATE '2024-' '01-02'") ≡ Ok second_of_january)
+    × (date_question (all_of (ascii "DATE '2024-01-02'")) (ascii "DATE '2024-01-02'") ≡ Ok second_of_january)
 unfolding bad_span cuts_character within utf8 lead
 both_second =
     let two : List ℕ = ascii "DATE '2024-' '01-02'" in

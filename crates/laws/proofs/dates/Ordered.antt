@@ -1,5 +1,6 @@
 -- [02 T-05] "later dates have larger numbers", of what is answered: of two literals, the one with the smaller number is the earlier day (`date_order`). And the
 -- ten bytes of an earlier day are the smaller ones, byte by byte (`earlier_below`). Assumes nothing.
+use Rattle.std.specs.Prelude.{Ok}
 use mathlib.Core.Logic.{◌⊎◌, inl, inr, ◌↔◌}
 use mathlib.Core.Path.{◌≡◌, refl, ap, sym, ◌∙◌}
 use mathlib.Core.Bool.{Bool, true, false, ◌&&◌, ◌||◌, false≢true}
@@ -12,7 +13,6 @@ use lib.Dec.{eqb, ltb}
 use lib.ListN.{length}
 use Rattle.meaning.specs.declared.Literal.{Literal}
 use Rattle.meaning.specs.declared.CalendarDay.{CalendarDay}
-use Rattle.meaning.specs.declared.Dated.TheVariants as Dated'
 use Rattle.meaning.specs.Bytes.{digit, number}
 use Rattle.meaning.specs.Forms.{figures}
 use Rattle.meaning.specs.Dates.{day_number, is_day, calendar_day, spelled_day, date_question}
@@ -140,7 +140,7 @@ earlier_below y m d y' m' d' h h' = (λ e. go (later_larger y m d y' m' d' h h' 
         absurd (omega arith)
 
 -- OF TWO ANSWERS: their days' order and their numbers' order are the same
-module _ (l l' : Literal) (S S' : List ℕ) (c c' : CalendarDay) (e : date_question l S ≡ Dated'.On c) (e' : date_question l' S' ≡ Dated'.On c') where
+module _ (l l' : Literal) (S S' : List ℕ) (c c' : CalendarDay) (e : date_question l S ≡ Ok c) (e' : date_question l' S' ≡ Ok c') where
   pub date_order : Earlier c.year c.month c.day c'.year c'.month c'.day ↔ (c.number < c'.number)
   unfolding calendar_day
   date_order =

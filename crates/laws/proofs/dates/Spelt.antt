@@ -13,7 +13,6 @@ use lib.Dec.{eqb}
 use lib.ListN.{length, take, drop, length-drop, take-append-drop}
 use lib.Seq.{take_all, drop-cons, drop-drop, length-take-le}
 use Rattle.meaning.specs.declared.CalendarDay.{CalendarDay}
-use Rattle.meaning.specs.declared.Day.TheVariants as Day'
 use Rattle.meaning.specs.Bytes.{◌!◌, part, has, within, digit, number, all_digits}
 use Rattle.std.specs.Prelude.{if◌then◌else◌}
 use Rattle.meaning.specs.Forms.{figure, figures}
@@ -24,6 +23,7 @@ use Rattle.laws.proofs.dates.Calendar.{is_day_lem}
 use Rattle.laws.proofs.basics.Enclosed.{has_append}
 use Rattle.laws.proofs.writing.FormUnits.{Every}
 use Rattle.laws.proofs.writing.Figures.{figures_bytes, figures_length, figures_digits, figures_number}
+use Rattle.std.specs.Prelude.{Some, None}
 
 -- WHAT A DAY'S NUMBERS ARE. A month has 31 days at the most
 month_most : (y m : ℕ) → month_length y m ≤ 31
@@ -177,39 +177,39 @@ unfolding is_date
 date_length v h = (ten_bytes v (and_left (is_ten_bytes v) (is_day (digits_in 0 4 v) (digits_in 5 7 v) (digits_in 8 10 v)) h)).ten
 
 -- what is no date is no day
-pub no_date : (v : List ℕ) → is_date v ≡ false → day_in v ≡ Day'.InvalidDate
+pub no_date : (v : List ℕ) → is_date v ≡ false → day_in v ≡ None
 unfolding day_in
 no_date v h = rw h
 
-pub no_day_lem : (v : List ℕ) → day_in v ≡ Day'.InvalidDate → is_date v ≡ false
+pub no_day_lem : (v : List ℕ) → day_in v ≡ None → is_date v ≡ false
 unfolding day_in
 no_day_lem v h = go (is_date v) _ h
   where
-    go : (x : Bool) (k : CalendarDay) → (if x then Day'.On k else Day'.InvalidDate) ≡ Day'.InvalidDate → x ≡ false
+    go : (x : Bool) (k : CalendarDay) → (if x then Some k else None) ≡ None → x ≡ false
     go true k e = let z : ◌≡◌ {A = ℕ} 0 1 = cc in absurd (omega arith)
     go false k e = refl
 
 -- so any value of another length
-pub other_length : (v : List ℕ) → (length v ≡ 10 → ⊥) → day_in v ≡ Day'.InvalidDate
+pub other_length : (v : List ℕ) → (length v ≡ 10 → ⊥) → day_in v ≡ None
 other_length v h = go (is_date v) refl
   where
-    go : (x : Bool) → is_date v ≡ x → day_in v ≡ Day'.InvalidDate
+    go : (x : Bool) → is_date v ≡ x → day_in v ≡ None
     go true e = absurd (h (date_length v e))
     go false e = no_date v e
 
 -- the ten bytes of a day are accepted, as that day
-pub spelled_date : (y m d : ℕ) → is_day y m d ≡ true → day_in (spelled_day y m d) ≡ Day'.On (calendar_day y m d)
+pub spelled_date : (y m d : ℕ) → is_day y m d ≡ true → day_in (spelled_day y m d) ≡ Some (calendar_day y m d)
 unfolding day_in is_date
 spelled_date y m d h =
     let s = spelled_digits y m d (day_fits y m d h) in
     rw (spelled_ten y m d, s.0, s.1, s.2, h)
 
 -- and what is accepted is the ten bytes of the day that it is accepted as
-day_by : (x : Bool) (c k : CalendarDay) → (if x then Day'.On k else Day'.InvalidDate) ≡ Day'.On c → (x ≡ true) × (c ≡ k)
+day_by : (x : Bool) (c k : CalendarDay) → (if x then Some k else None) ≡ Some c → (x ≡ true) × (c ≡ k)
 day_by true c k e = (refl, cc)
 day_by false c k e = let z : ◌≡◌ {A = ℕ} 0 1 = cc in absurd (omega arith)
 
-pub date_spelled : (v : List ℕ) (c : CalendarDay) → day_in v ≡ Day'.On c
+pub date_spelled : (v : List ℕ) (c : CalendarDay) → day_in v ≡ Some c
     → (is_day c.year c.month c.day ≡ true)
     × (v ≡ spelled_day c.year c.month c.day)
     × (c ≡ calendar_day c.year c.month c.day)
@@ -226,7 +226,7 @@ pub spelled_same : (y m d y' m' d' : ℕ) → is_day y m d ≡ true → is_day y
     → (y ≡ y') × (m ≡ m') × (d ≡ d')
 unfolding calendar_day
 spelled_same y m d y' m' d' h h' e =
-    let on : Day'.On (calendar_day y m d) ≡ Day'.On (calendar_day y' m' d') = sym (spelled_date y m d h) ∙ ap day_in e ∙ spelled_date y' m' d' h' in
+    let on : Some (calendar_day y m d) ≡ Some (calendar_day y' m' d') = sym (spelled_date y m d h) ∙ ap day_in e ∙ spelled_date y' m' d' h' in
     let same : calendar_day y m d ≡ calendar_day y' m' d' = cc in
     (ap (λ (c : CalendarDay). c.year) same, ap (λ (c : CalendarDay). c.month) same, ap (λ (c : CalendarDay). c.day) same)
 

@@ -23,6 +23,7 @@ use Rattle.laws.proofs.joining.Joining.{White}
 use Rattle.laws.proofs.utf8.WhiteUtf8.{white_utf8}
 use Rattle.laws.proofs.joining.Ready.{joining_off}
 use Rattle.laws.proofs.cutting.ClauseRefused.{joining_on_whole}
+use Rattle.std.specs.Prelude.{Ok}
 
 -- a text that is accepted and means v
 pub record Accepts (σ : Settings) (t v : List ℕ) : Type 0 where
@@ -51,7 +52,7 @@ join_read σ A G B v w a g b m = go σ.backslash refl
 -- a text of which a value is written, where there is room
 pub told_written : (l : Literal) (S t v : List ℕ) (σ : Settings) (out : List ℕ) → is_string l.kind ≡ true → Spans l S t → utf8 t ≡ true
     → read σ t ≡ written v → length v ≤ length out
-    → string_question l S σ out ≡ record { answer = Written (length v); buffer = v ++ drop (length v) out }
+    → string_question l S σ out ≡ record { answer = Ok (Written (length v)); buffer = v ++ drop (length v) out }
 unfolding filled
 told_written l S t v σ out k h u e r =
     rw (string_question_reads l S t σ out k h u, e, T→true (leb (length v) (length out)) (le→leb (length v) (length out) r))
@@ -59,7 +60,7 @@ told_written l S t v σ out k h u e r =
 -- THE LAW, over the string question
 pub joining_law : (σ : Settings) (A G B v w : List ℕ) → Complete σ A v → Gap G → Complete σ B w → is_mark (B ! 0) ≡ true
     → (l : Literal) (S out : List ℕ) → is_string l.kind ≡ true → Spans l S (A ++ (G ++ B)) → length (v ++ w) ≤ length out
-    → string_question l S σ out ≡ record { answer = Written (length (v ++ w)); buffer = (v ++ w) ++ drop (length (v ++ w)) out }
+    → string_question l S σ out ≡ record { answer = Ok (Written (length (v ++ w))); buffer = (v ++ w) ++ drop (length (v ++ w)) out }
 joining_law σ A G B v w a g b m l S out k h r =
     told_written l S (A ++ (G ++ B)) (v ++ w) σ out k h (utf8_join A G B a.accepts.valid (white_utf8 G g.white) b.accepts.valid)
     (join_read σ A G B v w a g b m) r

@@ -15,7 +15,7 @@ use lib.Seq.{length-take-le}
 use Rattle.meaning.specs.declared.Settings.{Settings}
 use Rattle.meaning.specs.declared.Literal.{Literal}
 use Rattle.meaning.specs.declared.Refusal.TheVariants.{InvalidString, NoRoom}
-use Rattle.meaning.specs.declared.Text.TheVariants.{Written, Refused}
+use Rattle.meaning.specs.declared.Text.TheVariants.{Written}
 use Rattle.meaning.specs.Answers.{text_number}
 use Rattle.meaning.specs.Bytes.{◌!◌, is_mark}
 use Rattle.std.specs.Prelude.{if◌then◌else◌}
@@ -32,6 +32,7 @@ use Rattle.laws.proofs.writing.Written.{lone}
 use Rattle.laws.proofs.joining.Joining.{value_written}
 use Rattle.laws.proofs.joining.JoiningLaw.{told_written}
 use Rattle.laws.proofs.cutting.Openings.{segment_fits}
+use Rattle.std.specs.Prelude.{Ok, Err}
 
 -- a text that is one segment
 pub record Whole (σ : Settings) (s : List ℕ) : Type 0 where
@@ -154,11 +155,11 @@ module _ (σ : Settings) (t : List ℕ) (several : Several σ t) where
     pub complete_written : (vs : List (List ℕ)) → Each (λ s. utf8 s ≡ true) (segments_of (cut σ t))
         → Values (meaning σ) (segments_of (cut σ t)) vs → length (flatten vs) ≤ length out
         → string_question l S σ out
-        ≡ record { answer = Written (length (flatten vs)); buffer = flatten vs ++ drop (length (flatten vs)) out }
+        ≡ record { answer = Ok (Written (length (flatten vs))); buffer = flatten vs ++ drop (length (flatten vs)) out }
     complete_written vs u h room = told_written l S t (flatten vs) σ out kind spans (complete_utf8.1 u) (complete_read vs h) room
 
     by_room_lem : (v : List ℕ) (x : Bool) → leb (length v) (length out) ≡ x
-        → text_number (if x then Written (length v) else Refused (NoRoom (length v))) ≡ 0 → length v ≤ length out
+        → text_number (if x then Ok (Written (length v)) else Err (NoRoom (length v))) ≡ 0 → length v ≤ length out
     by_room_lem v true e k = leb-true (length v) (length out) e
     by_room_lem v false e k = absurd (omega arith)
 

@@ -30,6 +30,7 @@ use Rattle.laws.proofs.joining.Segments.{Whole, Accepted, AllAccepted, Several}
 use Rattle.laws.proofs.joining.Segments as Rule
 use Rattle.laws.proofs.walking.Walks.{walk_drop, graft}
 use Rattle.laws.proofs.walking.Courses.{graft_ended}
+use Rattle.std.specs.Prelude.{Ok}
 
 -- behind the first segment, each with the white space before it
 pub record Further (σ : Settings) : Type 0 where
@@ -136,7 +137,7 @@ module _ (σ : Settings) (s : List ℕ) (p : Further σ) (ps : List (Further σ)
     pub segments_written : (vs : List (List ℕ)) → Each (λ t. utf8 t ≡ true) (segments s (p ∷ ps))
         → Values (meaning σ) (segments s (p ∷ ps)) vs → length (flatten vs) ≤ length out
         → string_question l S σ out
-        ≡ record { answer = Written (length (flatten vs)); buffer = flatten vs ++ drop (length (flatten vs)) out }
+        ≡ record { answer = Ok (Written (length (flatten vs))); buffer = flatten vs ++ drop (length (flatten vs)) out }
     segments_written = rw segments_are at (Rule.complete_written σ (strung s (p ∷ ps) tail) segments_several l S out kind spans)
 
     pub segments_question : (text_number (string_question l S σ out).answer ≡ 0) ↔ AllAccepted σ (segments s (p ∷ ps)) (length out)

@@ -10,10 +10,8 @@ use Rattle.meaning.specs.declared.Literal.{Literal}
 use Rattle.meaning.specs.declared.Refusal.{Refusal}
 use Rattle.meaning.specs.declared.Text.{Text}
 use Rattle.meaning.specs.declared.Text.TheVariants as Text'
-use Rattle.meaning.specs.declared.PackedBits.{PackedBits}
-use Rattle.meaning.specs.declared.PackedBits.TheVariants as Packed'
-use Rattle.meaning.specs.declared.BitWriting.{BitWriting}
-use Rattle.meaning.specs.declared.BitWriting.TheVariants as BitWriting'
+use Rattle.meaning.specs.declared.BitWritingError.{BitWritingError}
+use Rattle.meaning.specs.declared.BitWritingError.TheVariants as BitWritingError'
 use Rattle.meaning.specs.Bytes.{◌!◌}
 use Rattle.meaning.specs.Reading.{means}
 use Rattle.meaning.specs.Answers.{Outcome, Meets, refusal_number, text_number, shown}
@@ -29,6 +27,10 @@ use Rattle.laws.proofs.packing.Segment.{bit_text}
 use Rattle.laws.proofs.packing.Asked.{PackedAs, packed_written, packed_refuses, packed_shown_lem}
 use Rattle.laws.proofs.packing.RoundTrip.{bytes_round_trip, OneUpper, literal_round_trip}
 use Rattle.laws.proofs.packing.Joined.{Run, runs, run_digits, packed_joined}
+use Rattle.std.specs.Prelude.{Result, Err}
+use Rattle.std.specs.Prelude.{Ok}
+use Rattle.meaning.specs.declared.PackedBits.{PackedBits}
+use Rattle.meaning.specs.Answers.{packed_at}
 
 -- A CALL of the packed question on the text t, of the kind of a radix: what went in, and what came out
 pub record PackedCall (r : BitStringRadix) (t : List ℕ) : Type 0 where
@@ -37,14 +39,14 @@ pub record PackedCall (r : BitStringRadix) (t : List ℕ) : Type 0 where
   pub lent : List ℕ
   pub kind : literal.kind ≡ Kind.BitString r
   pub spans : Spans literal source t
-  pub result : PackedBits
+  pub result : Result PackedBits Refusal
   pub after : List ℕ
   pub contract : Meets (packed_question literal source lent) result after
 
 -- A CALL of the reverse
 pub record BitWriterCall (r : BitStringRadix) (bytes : List ℕ) (n : ℕ) : Type 0 where
   pub lent : List ℕ
-  pub result : BitWriting
+  pub result : Result ℕ BitWritingError
   pub after : List ℕ
   pub contract : Meets (bit_write_question r bytes n lent) result after
 
@@ -54,33 +56,33 @@ met {A} o p r d m e = (m.answer ∙ ap (λ (x : Outcome A). x.answer) e, m.buffe
 
 -- "bytes and count come back through either literal, read with the kind of its letter": what a call of the reverse wrote, packed in a span of any source
 pub bytes_calls : (r : BitStringRadix) (bytes : List ℕ) (n : ℕ) → ((i : ℕ) → bytes ! i < 256) → (w : BitWriterCall r bytes n) (m : ℕ)
-    → w.result ≡ BitWriting'.Written m → (c : PackedCall r (take m w.after)) → length bytes ≤ length c.lent
-    → (c.result ≡ Packed'.Written (length bytes) n) × (c.after ≡ bytes ++ drop (length bytes) c.lent)
+    → w.result ≡ Ok m → (c : PackedCall r (take m w.after)) → length bytes ≤ length c.lent
+    → (c.result ≡ Ok (packed_at (length bytes) n)) × (c.after ≡ bytes ++ drop (length bytes) c.lent)
 bytes_calls r bytes n below w m e c room =
     met _ _ c.result c.after c.contract
     (bytes_round_trip r bytes n w.lent m below (sym w.contract.answer ∙ e) c.literal c.source c.lent c.kind
     (rw w.contract.buffer at c.spans) room)
 
 -- "a literal of just one segment, [..] comes back as it was": the bytes and the count that a call packed, written again
-pub literal_calls : (r : BitStringRadix) (t : List ℕ) → OneUpper r t → (c : PackedCall r t) (len n : ℕ) → c.result ≡ Packed'.Written len n
+pub literal_calls : (r : BitStringRadix) (t : List ℕ) → OneUpper r t → (c : PackedCall r t) (len n : ℕ) → c.result ≡ Ok (packed_at len n)
     → len ≤ 268435456 → (w : BitWriterCall r (take len c.after) n) → length t ≤ length w.lent
-    → (w.result ≡ BitWriting'.Written (length t)) × (w.after ≡ t ++ drop (length t) w.lent)
+    → (w.result ≡ Ok (length t)) × (w.after ≡ t ++ drop (length t) w.lent)
 literal_calls r t one c len n e limit w room =
     met _ _ w.result w.after w.contract
     (rw c.contract.buffer
     (literal_round_trip r c.literal c.source t c.lent len n c.kind c.spans one (sym c.contract.answer ∙ e) limit w.lent room))
 
 -- what a call packed, bit by bit
-pub packed_calls : {r : BitStringRadix} {t : List ℕ} (c : PackedCall r t) (len n : ℕ) → c.result ≡ Packed'.Written len n
+pub packed_calls : {r : BitStringRadix} {t : List ℕ} (c : PackedCall r t) (len n : ℕ) → c.result ≡ Ok (packed_at len n)
     → PackedAs r t c.lent len n c.after
 packed_calls {r} {t} c len n e =
     rw c.contract.buffer
     (packed_written r c.literal c.source t c.lent c.kind c.spans len n (sym c.contract.answer ∙ e))
 
 -- "Refusals: packing as for bits": a call of the bits question on the same literal, with whatever buffer
-module _ {r : BitStringRadix} {t : List ℕ} (c : PackedCall r t) (lent : List ℕ) (x : Text) (after : List ℕ)
+module _ {r : BitStringRadix} {t : List ℕ} (c : PackedCall r t) (lent : List ℕ) (x : Result Text Refusal) (after : List ℕ)
     (m : Meets (bits_question c.literal c.source lent) x after) where
-  pub refuses_calls : (q : Refusal) → refusal_number q ≤ 8 → (c.result ≡ Packed'.Refused q) ↔ (x ≡ Text'.Refused q)
+  pub refuses_calls : (q : Refusal) → refusal_number q ≤ 8 → (c.result ≡ Err q) ↔ (x ≡ Err q)
   refuses_calls q n = rw (c.contract.answer, m.answer) (packed_refuses c.literal c.source c.lent lent q n)
 
   -- and the digits that it shows are packed

@@ -11,8 +11,8 @@ use lib.Dec.{eqb, leb, ltb}
 use lib.ListN.{length, take, drop, length-append, length-map}
 use lib.Seq.{take_at}
 use Rattle.meaning.specs.declared.BitStringRadix.{BitStringRadix}
-use Rattle.meaning.specs.declared.BitWriting.{BitWriting}
-use Rattle.meaning.specs.declared.BitWriting.TheVariants.{Written, OverLimit, BadBits, NoRoom}
+use Rattle.meaning.specs.declared.BitWritingError.{BitWritingError}
+use Rattle.meaning.specs.declared.BitWritingError.TheVariants.{OverLimit, BadBits, NoRoom}
 use Rattle.meaning.specs.Bytes.{has, quote, all_zero}
 use Rattle.std.specs.Prelude.{if◌then◌else◌}
 use Rattle.meaning.specs.Answers.{Outcome, bit_writing_number, filled}
@@ -23,6 +23,7 @@ use Rattle.laws.proofs.basics.Tests.{or_left, or_right}
 use Rattle.laws.proofs.writing.WriterParts.{whole_within, whole_over}
 use Rattle.laws.proofs.packing.Gathered.{units, length_gather}
 use Rattle.laws.proofs.packing.Digits.{radix_some, bytes_length}
+use Rattle.std.specs.Prelude.{Result, Ok, Err}
 
 -- WHAT IS NO 16: "the byte count [is] the bit count rounded up to bytes", "X only when the count is a multiple of four", no unused bit is set
 pub record Fine (r : BitStringRadix) (bytes : List ℕ) (n : ℕ) : Type 0 where
@@ -47,11 +48,11 @@ fine_bits r bytes n = (
 
 -- THE ORDER: each test where those before it pass
 module _ (r : BitStringRadix) (bytes : List ℕ) (n : ℕ) (out : List ℕ) where
-  pub bit_over : 268435456 < length bytes → bit_write_question r bytes n out ≡ record { answer = OverLimit; buffer = out }
+  pub bit_over : 268435456 < length bytes → bit_write_question r bytes n out ≡ record { answer = Err OverLimit; buffer = out }
   unfolding bit_write_question
   bit_over h = rw (whole_over bytes h)
 
-  pub bit_bad : length bytes ≤ 268435456 → bad_bits r bytes n ≡ true → bit_write_question r bytes n out ≡ record { answer = BadBits; buffer = out }
+  pub bit_bad : length bytes ≤ 268435456 → bad_bits r bytes n ≡ true → bit_write_question r bytes n out ≡ record { answer = Err BadBits; buffer = out }
   unfolding bit_write_question
   bit_bad h b = rw (whole_within bytes h, b)
 
@@ -61,26 +62,26 @@ module _ (r : BitStringRadix) (bytes : List ℕ) (n : ℕ) (out : List ℕ) wher
 
 -- the literal is put where there is room; where there is none, its whole length is asked for
 module _ (t out : List ℕ) where
-  pub bit_writes_all : length t ≤ length out → bit_writes t out ≡ record { answer = Written (length t); buffer = t ++ drop (length t) out }
+  pub bit_writes_all : length t ≤ length out → bit_writes t out ≡ record { answer = Ok (length t); buffer = t ++ drop (length t) out }
   unfolding filled
   bit_writes_all h = rw (le-leb (length t) (length out) h)
 
-  pub bit_writes_none : length out < length t → bit_writes t out ≡ record { answer = NoRoom (length t); buffer = out }
+  pub bit_writes_none : length out < length t → bit_writes t out ≡ record { answer = Err (NoRoom (length t)); buffer = out }
   unfolding filled
   bit_writes_none h = rw (lt-leb (length t) (length out) h)
 
-abbrev tried : Bool → Bool → Bool → List ℕ → List ℕ → Outcome BitWriting
+abbrev tried : Bool → Bool → Bool → List ℕ → List ℕ → Outcome (Result ℕ BitWritingError)
 tried x y z t out =
-    if x || false then record { answer = OverLimit; buffer = out }
-    else if y then record { answer = BadBits; buffer = out }
-    else record { answer = if z then Written (length t) else NoRoom (length t); buffer = filled t out }
+    if x || false then record { answer = Err OverLimit; buffer = out }
+    else if y then record { answer = Err BadBits; buffer = out }
+    else record { answer = if z then Ok (length t) else Err (NoRoom (length t)); buffer = filled t out }
 
 -- so what an answer says of the bytes and the count
-abbrev pub Answers : BitStringRadix → List ℕ → ℕ → List ℕ → BitWriting → Type 0
-Answers r bytes n out (Written m) = (length bytes ≤ 268435456) × Fine r bytes n × (m ≡ length (bit_literal r bytes n)) × (m ≤ length out)
-Answers r bytes n out OverLimit = 268435456 < length bytes
-Answers r bytes n out BadBits = (length bytes ≤ 268435456) × (bad_bits r bytes n ≡ true)
-Answers r bytes n out (NoRoom m) = (length bytes ≤ 268435456) × Fine r bytes n × (m ≡ length (bit_literal r bytes n)) × (length out < m)
+abbrev pub Answers : BitStringRadix → List ℕ → ℕ → List ℕ → Result ℕ BitWritingError → Type 0
+Answers r bytes n out (Ok m) = (length bytes ≤ 268435456) × Fine r bytes n × (m ≡ length (bit_literal r bytes n)) × (m ≤ length out)
+Answers r bytes n out (Err OverLimit) = 268435456 < length bytes
+Answers r bytes n out (Err BadBits) = (length bytes ≤ 268435456) × (bad_bits r bytes n ≡ true)
+Answers r bytes n out (Err (NoRoom m)) = (length bytes ≤ 268435456) × Fine r bytes n × (m ≡ length (bit_literal r bytes n)) × (length out < m)
 
 pub bit_answers : (r : BitStringRadix) (bytes : List ℕ) (n : ℕ) (out : List ℕ) → Answers r bytes n out (bit_write_question r bytes n out).answer
 unfolding bit_write_question over_limit
@@ -104,21 +105,21 @@ pub bit_numbers : (r : BitStringRadix) (bytes : List ℕ) (n : ℕ) (out : List 
     → has (bit_writing_number (bit_write_question r bytes n out).answer) reverse_numbers ≡ true
 bit_numbers r bytes n out = go (bit_write_question r bytes n out).answer
   where
-    go : (a : BitWriting) → has (bit_writing_number a) reverse_numbers ≡ true
-    go (Written m) = refl
-    go OverLimit = refl
-    go BadBits = refl
-    go (NoRoom m) = refl
+    go : (a : Result ℕ BitWritingError) → has (bit_writing_number a) reverse_numbers ≡ true
+    go (Ok m) = refl
+    go (Err OverLimit) = refl
+    go (Err BadBits) = refl
+    go (Err (NoRoom m)) = refl
 
 -- WHAT IS WRITTEN is the literal, and the buffer begins with it
-module _ (r : BitStringRadix) (bytes : List ℕ) (n : ℕ) (out : List ℕ) (m : ℕ) (e : (bit_write_question r bytes n out).answer ≡ Written m) where
+module _ (r : BitStringRadix) (bytes : List ℕ) (n : ℕ) (out : List ℕ) (m : ℕ) (e : (bit_write_question r bytes n out).answer ≡ Ok m) where
   pub bit_accepted : (length bytes ≤ 268435456) × Fine r bytes n × (m ≡ length (bit_literal r bytes n)) × (m ≤ length out)
   bit_accepted = rw e at (bit_answers r bytes n out)
 
   pub bit_written : (bit_write_question r bytes n out).buffer ≡ bit_literal r bytes n ++ drop m out
   bit_written =
       let a = bit_accepted in
-      ap (λ (o : Outcome BitWriting). o.buffer)
+      ap (λ (o : Outcome (Result ℕ BitWritingError)). o.buffer)
       (bit_writes_lem r bytes n out a.0 a.1 ∙ bit_writes_all (bit_literal r bytes n) out (rw a.2 at a.3))
       ∙ ap (λ (k : ℕ). bit_literal r bytes n ++ drop k out) (sym a.2)
 

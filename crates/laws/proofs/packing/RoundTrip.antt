@@ -14,8 +14,7 @@ use Rattle.meaning.specs.declared.BitStringRadix.TheVariants.{Binary, Hex}
 use Rattle.meaning.specs.declared.LiteralKind.TheVariants as Kind
 use Rattle.meaning.specs.declared.Span.{Span}
 use Rattle.meaning.specs.declared.Literal.{Literal}
-use Rattle.meaning.specs.declared.PackedBits.TheVariants as Packed'
-use Rattle.meaning.specs.declared.BitWriting.TheVariants as BitWriting'
+use Rattle.meaning.specs.declared.BitWritingError.TheVariants as BitWritingError'
 use Rattle.meaning.specs.Bytes.{◌!◌, quote, within}
 use Rattle.meaning.specs.Cutting.{off, segment}
 use Rattle.meaning.specs.Reading.{means}
@@ -31,6 +30,8 @@ use Rattle.laws.proofs.packing.Digits.{low_upper, figures_digits, figures_upper,
 use Rattle.laws.proofs.packing.Segment.{bit_text, bit_text_segment, bit_text_means, bit_text_utf8, bits_shape}
 use Rattle.laws.proofs.packing.Asked.{packed_value, PackedAs, packed_written, packed_bytes, packed_count}
 use Rattle.laws.proofs.packing.Reverse.{Fine, bit_accepted, bit_wrote, bit_writes_lem, bit_writes_all}
+use Rattle.std.specs.Prelude.{Ok}
+use Rattle.meaning.specs.Answers.{packed_at}
 
 -- "a literal of just one segment", which its text is (D07-8), "with an upper-case letter equal to its kind, upper-case digits": no byte is a lower-case letter
 pub record OneUpper (r : BitStringRadix) (t : List ℕ) : Type 0 where
@@ -40,7 +41,7 @@ pub record OneUpper (r : BitStringRadix) (t : List ℕ) : Type 0 where
 
 -- FROM BYTES. Digits whose bits pack into given bytes
 packs_all : (s : Span) (k : ℕ) (d v t bytes : List ℕ) (n : ℕ) → bits_in k v ≡ t → pack_bits t ≡ bytes → length t ≡ n → length bytes ≤ length d
-    → packs_as s k d (means v) ≡ record { answer = Packed'.Written (length bytes) n; buffer = bytes ++ drop (length bytes) d }
+    → packs_as s k d (means v) ≡ record { answer = Ok (packed_at (length bytes) n); buffer = bytes ++ drop (length bytes) d }
 unfolding filled
 packs_all s k d v t bytes n e f g h = rw (e, f, g, le-leb (length bytes) (length d) h)
 
@@ -81,7 +82,7 @@ module _ (r : BitStringRadix) (bytes : List ℕ) (n : ℕ) where
   -- bytes are numbers below 256, as lent bytes are; the count is one that gives no 16
   module _ (below : (i : ℕ) → bytes ! i < 256) (fine : Fine r bytes n) where
     pub literal_packs : (l : Literal) (S d : List ℕ) → l.kind ≡ Kind.BitString r → Spans l S (bit_literal r bytes n) → length bytes ≤ length d
-        → packed_question l S d ≡ record { answer = Packed'.Written (length bytes) n; buffer = bytes ++ drop (length bytes) d }
+        → packed_question l S d ≡ record { answer = Ok (packed_at (length bytes) n); buffer = bytes ++ drop (length bytes) d }
     unfolding bit_digits bit_literal
     literal_packs l S d k h room =
         let ds : List ℕ = bit_digits r bytes n in
@@ -93,9 +94,9 @@ module _ (r : BitStringRadix) (bytes : List ℕ) (n : ℕ) where
 
 -- "bytes and count come back through either literal, read with the kind of its letter"
 pub bytes_round_trip : (r : BitStringRadix) (bytes : List ℕ) (n : ℕ) (out : List ℕ) (m : ℕ) → ((i : ℕ) → bytes ! i < 256)
-    → (bit_write_question r bytes n out).answer ≡ BitWriting'.Written m
+    → (bit_write_question r bytes n out).answer ≡ Ok m
     → (l : Literal) (S d : List ℕ) → l.kind ≡ Kind.BitString r → Spans l S (take m (bit_write_question r bytes n out).buffer) → length bytes ≤ length d
-    → packed_question l S d ≡ record { answer = Packed'.Written (length bytes) n; buffer = bytes ++ drop (length bytes) d }
+    → packed_question l S d ≡ record { answer = Ok (packed_at (length bytes) n); buffer = bytes ++ drop (length bytes) d }
 bytes_round_trip r bytes n out m below e l S d k h room =
     literal_packs r bytes n below (bit_accepted r bytes n out m e).1 l S d k (rw (bit_wrote r bytes n out m e) at h) room
 
@@ -127,9 +128,9 @@ module _ (r : BitStringRadix) (t out : List ℕ) (len n : ℕ) (after : List ℕ
 
 -- it "comes back as it was", where its packed bytes are "within the limit"
 pub literal_round_trip : (r : BitStringRadix) (l : Literal) (S t d : List ℕ) (len n : ℕ) → l.kind ≡ Kind.BitString r → Spans l S t → OneUpper r t
-    → (packed_question l S d).answer ≡ Packed'.Written len n → len ≤ 268435456 → (e : List ℕ) → length t ≤ length e
+    → (packed_question l S d).answer ≡ Ok (packed_at len n) → len ≤ 268435456 → (e : List ℕ) → length t ≤ length e
     → bit_write_question r (take len (packed_question l S d).buffer) n e
-    ≡ record { answer = BitWriting'.Written (length t); buffer = t ++ drop (length t) e }
+    ≡ record { answer = Ok (length t); buffer = t ++ drop (length t) e }
 literal_round_trip r l S t d len n k h one answered limit e room =
     let a = packed_written r l S t d k h len n answered in
     let after : List ℕ = (packed_question l S d).buffer in

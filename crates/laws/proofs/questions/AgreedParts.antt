@@ -16,10 +16,6 @@ use Rattle.meaning.specs.declared.Literal.{Literal}
 use Rattle.meaning.specs.declared.LiteralExpected.{LiteralExpected}
 use Rattle.meaning.specs.declared.Refusal.{Refusal}
 use Rattle.meaning.specs.declared.Refusal.TheVariants.{WrongKind, MissingSource, InvalidSourceRange, NotUtf8, InvalidMoney}
-use Rattle.meaning.specs.declared.Range.{Range}
-use Rattle.meaning.specs.declared.Range.TheVariants as Range'
-use Rattle.meaning.specs.declared.Charset.{Charset}
-use Rattle.meaning.specs.declared.Charset.TheVariants as Charset'
 use Rattle.meaning.specs.Bytes.{◌!◌, part}
 use Rattle.std.specs.Prelude.{if◌then◌else◌}
 use Rattle.meaning.specs.Chars.{utf8}
@@ -34,6 +30,9 @@ use Rattle.laws.proofs.questions.Views.{shown_fits, shown_none}
 use Rattle.laws.proofs.questions.Sources as Sources'
 use Rattle.laws.proofs.questions.Sources.{Agree}
 use Rattle.laws.proofs.questions.Ranges.{Bounds, part_inside, span_range}
+use Rattle.std.specs.Prelude.{Result, Ok, Err}
+use Rattle.meaning.specs.declared.Part.{Part}
+use Rattle.std.specs.Prelude.{Option, Some, None}
 
 -- of two slices, each a part of its own source
 pub record SameShown (s s' r r' : Bor (List ℕ)) : Type 0 where
@@ -46,14 +45,14 @@ pub record Within (s : Span) (f u : ℕ) : Type 0 where
   pub ends : u ≤ s.end
 
 -- an answer's range
-abbrev RangeIn : Span → Range → Type 0
-RangeIn s (Range'.Found f u) = Within s f u
-RangeIn s (Range'.Refused w) = Unit {0}
+abbrev RangeIn : Span → Result Part Refusal → Type 0
+RangeIn s (Ok π) = Within s π.start π.end
+RangeIn s (Err w) = Unit {0}
 
-abbrev NameIn : Span → Charset → Type 0
-NameIn s (Charset'.Named f u) = Within s f u
-NameIn s Charset'.Unnamed = Unit {0}
-NameIn s (Charset'.Refused w) = Unit {0}
+abbrev NameIn : Span → Result (Option Part) Refusal → Type 0
+NameIn s (Ok (Some π)) = Within s π.start π.end
+NameIn s (Ok None) = Unit {0}
+NameIn s (Err w) = Unit {0}
 
 -- the name of a charset ends at a mark
 pub charset_inside : (t : List ℕ) → charset_end t ≤ length t
@@ -156,16 +155,16 @@ module _ (l : Literal) (s s' : Bor (List ℕ)) (a : Agree l s.now s'.now) (r r' 
           record { bytes = m.bytes ∙ same_bytes f u w p ∙ sym m'.bytes; offset = (f, m.place, m'.place) }
       go false o = let p = leb-false f u o in none_agrees (shown_none f u s r h (inl p)) (shown_none f u s' r' h' (inl p))
 
-  range_agrees : (q q' : Range) → q ≡ q' → RangeIn l.span q → IsPart (range_shown s.now q) (range_place s q) r
+  range_agrees : (q q' : Result Part Refusal) → q ≡ q' → RangeIn l.span q → IsPart (range_shown s.now q) (range_place s q) r
       → IsPart (range_shown s'.now q') (range_place s' q') r' → SameShown s s' r r'
-  range_agrees (Range'.Found f u) q' e i h h' = part_agrees f u i h (rw (← e) at h')
-  range_agrees (Range'.Refused w) q' e i h h' = none_agrees h (rw (← e) at h')
+  range_agrees (Ok π) q' e i h h' = part_agrees π.start π.end i h (rw (← e) at h')
+  range_agrees (Err w) q' e i h h' = none_agrees h (rw (← e) at h')
 
-  name_agrees : (q q' : Charset) → q ≡ q' → NameIn l.span q → IsPart (charset_shown s.now q) (charset_place s q) r
+  name_agrees : (q q' : Result (Option Part) Refusal) → q ≡ q' → NameIn l.span q → IsPart (charset_shown s.now q) (charset_place s q) r
       → IsPart (charset_shown s'.now q') (charset_place s' q') r' → SameShown s s' r r'
-  name_agrees (Charset'.Named f u) q' e i h h' = part_agrees f u i h (rw (← e) at h')
-  name_agrees Charset'.Unnamed q' e i h h' = none_agrees h (rw (← e) at h')
-  name_agrees (Charset'.Refused w) q' e i h h' = none_agrees h (rw (← e) at h')
+  name_agrees (Ok (Some π)) q' e i h h' = part_agrees π.start π.end i h (rw (← e) at h')
+  name_agrees (Ok None) q' e i h h' = none_agrees h (rw (← e) at h')
+  name_agrees (Err w) q' e i h h' = none_agrees h (rw (← e) at h')
 
   -- the three questions
   pub source_text_agrees : IsPart (range_shown s.now (source_question l s.now)) (range_place s (source_question l s.now)) r

@@ -13,7 +13,7 @@ use Rattle.meaning.specs.declared.Literal.{Literal}
 use Rattle.meaning.specs.declared.Refusal.{Refusal}
 use Rattle.meaning.specs.declared.Refusal.TheVariants.{WrongKind, MissingSource, InvalidSourceRange, NotUtf8, InvalidInteger, InvalidString}
 use Rattle.meaning.specs.declared.Refusal.TheVariants.{InvalidBitString, InvalidMoney, NoRoom, InvalidDate}
-use Rattle.meaning.specs.declared.Text.TheVariants.{Written, Refused}
+use Rattle.meaning.specs.declared.Text.TheVariants.{Written}
 use Rattle.meaning.specs.Bytes.{◌!◌, part, is_mark}
 use Rattle.std.specs.Prelude.{if◌then◌else◌}
 use Rattle.meaning.specs.Chars.{utf8}
@@ -24,6 +24,7 @@ use Rattle.meaning.specs.Questions.{is_string, told_as, string_question}
 use Rattle.laws.proofs.questions.Asked.{Spans, string_question_reads, string_question_not_utf8}
 use Rattle.laws.proofs.joining.JoiningLaw.{Accepts, Gap, joining_law}
 use Rattle.laws.proofs.questions.Ranges.{Bounds, AnswerIn, read_inside, part_inside, span_range, part_shown_range, filled_shows}
+use Rattle.std.specs.Prelude.{Ok, Err}
 
 -- no refusal has the number 0
 refusal_some : (r : Refusal) → 0 < refusal_number r
@@ -47,8 +48,8 @@ told_shows bad s e S out r (borrowed f u) i k =
     ap means (sym (part_shown_range (s + f) (s + u) S (record { ordered = omega arith; inside = omega arith }) ∙ part_inside s e f u S i))
 told_shows bad s e S out r (written w) i k = go (leb (length w) (length out)) refl k
   where
-    go : (x : Bool) → leb (length w) (length out) ≡ x → text_number (if x then Written (length w) else Refused (NoRoom (length w))) ≡ 0
-        → means w ≡ means (shown S (filled w out) (if x then Written (length w) else Refused (NoRoom (length w))))
+    go : (x : Bool) → leb (length w) (length out) ≡ x → text_number (if x then Ok (Written (length w)) else Err (NoRoom (length w))) ≡ 0
+        → means w ≡ means (shown S (filled w out) (if x then Ok (Written (length w)) else Err (NoRoom (length w))))
     go true h k = ap means (sym (filled_shows w out (leb-true (length w) (length out) h)))
     go false h k = absurd (omega arith)
 told_shows bad s e S out r (refused p) i k = absurd (omega (arith, refusal_some (bad p)))
@@ -83,6 +84,6 @@ answered_as_accepts σ t v a = rw a.shows at (answered_accepts a.literal a.sourc
 pub joining_answered : (σ : Settings) (A G B v w : List ℕ) → AnsweredAs σ A v → complete σ A ≡ true → Gap G → AnsweredAs σ B w → complete σ B ≡ true
     → is_mark (B ! 0) ≡ true
     → (l : Literal) (S out : List ℕ) → is_string l.kind ≡ true → Spans l S (A ++ (G ++ B)) → length (v ++ w) ≤ length out
-    → string_question l S σ out ≡ record { answer = Written (length (v ++ w)); buffer = (v ++ w) ++ drop (length (v ++ w)) out }
+    → string_question l S σ out ≡ record { answer = Ok (Written (length (v ++ w))); buffer = (v ++ w) ++ drop (length (v ++ w)) out }
 joining_answered σ A G B v w a ca g b cb m =
     joining_law σ A G B v w (record { accepts = answered_as_accepts σ A v a; whole = ca }) g (record { accepts = answered_as_accepts σ B w b; whole = cb }) m

@@ -7,11 +7,11 @@ use Rattle.meaning.specs.declared.Settings.{Settings}
 use Rattle.meaning.specs.declared.LiteralExpected.{LiteralExpected}
 use Rattle.meaning.specs.declared.Literal.{Literal}
 use Rattle.meaning.specs.declared.Refusal.TheVariants.{NotUtf8, InvalidString}
-use Rattle.meaning.specs.declared.Text.TheVariants.{Refused}
 use Rattle.meaning.specs.Bytes.{part}
 use Rattle.meaning.specs.Chars.{utf8}
 use Rattle.meaning.specs.Reading.{read}
 use Rattle.meaning.specs.Questions.{passes, bad_span, source_text, tested, is_string, told_as, string_question}
+use Rattle.std.specs.Prelude.{Err}
 
 -- the literal stands in the source, and its span holds the text t
 pub record Spans (l : Literal) (S t : List ℕ) : Type 0 where
@@ -36,6 +36,6 @@ string_question_reads l S t σ out k h u = rw (k, tested_passes _ l S t h u)
 
 -- on one that is not UTF-8 it gives 4
 pub string_question_not_utf8 : (l : Literal) (S t : List ℕ) (σ : Settings) (out : List ℕ) → is_string l.kind ≡ true → Spans l S t → utf8 t ≡ false
-    → (string_question l S σ out).answer ≡ Refused (NotUtf8 l.span)
+    → (string_question l S σ out).answer ≡ Err (NotUtf8 l.span)
 unfolding string_question tested source_text
 string_question_not_utf8 l S t σ out k h u = rw (k, h.real, h.fits, h.text, u)

@@ -29,6 +29,8 @@ use Rattle.laws.proofs.questions.Fits.{TextFits, string_fits}
 use Rattle.laws.proofs.questions.BlockCalls.{Admitted, answered_admitted, call_is, call_written, block_leaves, lengths_told, call_taken}
 use Rattle.laws.proofs.questions.BlockCalls.{call_item, call_bytes, call_out_told, call_out_buffer, call_begins}
 use Rattle.laws.proofs.questions.BlockSplits.{moved_starts, first_admitted, second_admitted, block_split}
+use Rattle.std.specs.Prelude.{Result, Ok, Err}
+use Rattle.meaning.specs.declared.Refusal.{Refusal}
 
 -- A CALL of the block: what went in, and what came out
 pub record BlockCall (items S : List ℕ) : Type 0 where
@@ -55,21 +57,21 @@ four_shown source out f =
     else []
 
 -- of an answer whose bytes stand in the buffer from b on
-four_shows : (S after d : List ℕ) (b e m : ℕ) → b + m ≤ length after → length d ≡ m → (r : Text) → TextFits e m r
+four_shows : (S after d : List ℕ) (b e m : ℕ) → b + m ≤ length after → length d ≡ m → (r : Result Text Refusal) → TextFits e m r
     → part b (b + takes r) after ≡ take (takes r) d → four_shown S after (four_of b r) ≡ shown S d r
-four_shows S after d b e m l k (Text'.Borrowed f u) t p = let z : f + (u - f) ≡ u = omega arith in ap (λ (v : ℕ). part_shown f v S) z
-four_shows S after d b e m l k (Text'.Written n) t p =
+four_shows S after d b e m l k (Ok (Text'.Borrowed f u)) t p = let z : f + (u - f) ≡ u = omega arith in ap (λ (v : ℕ). part_shown f v S) z
+four_shows S after d b e m l k (Ok (Text'.Written n)) t p =
     part_shown_range b (b + n) after (record { ordered = omega arith; inside = omega arith })
     ∙ p
     ∙ sym (part_shown_range 0 n d (record { ordered = omega arith; inside = omega arith }) ∙ ap (λ (v : ℕ). take v d) (sub-zero n))
-four_shows S after d b e m l k (Text'.Refused x) t p = ap (four_shown S after) (refused_told x)
+four_shows S after d b e m l k (Err x) t p = ap (four_shown S after) (refused_told x)
 
 -- WHERE THE ROOM BEGINS behind the first n numbers of a call's answers
 abbrev pub room_from : {items S : List ℕ} → BlockCall items S → ℕ → ℕ
 room_from c n = lengths_told (take n c.told)
 
 -- the item whose four is the next one got the answer r and the buffer d of a single call: what is told of it, its bytes, and what it shows
-pub record Returned {items S : List ℕ} (c : BlockCall items S) (n : ℕ) (r : Text) (d : List ℕ) : Type 0 where
+pub record Returned {items S : List ℕ} (c : BlockCall items S) (n : ℕ) (r : Result Text Refusal) (d : List ℕ) : Type 0 where
   pub told : take 4 (drop n c.told) ≡ numbers_of (four_of (room_from c n) r ∷ [])
   pub bytes : part (room_from c n) (room_from c n + takes r) c.after ≡ take (takes r) d
   pub shows : four_shown S c.after (four_of (room_from c n) r) ≡ shown S d r
@@ -106,7 +108,7 @@ module _ (a : List ℕ) (k g s e : ℕ) (b S : List ℕ) (f : length a % 4 ≡ 0
   bytes_are =
       ap (part n (n + (item_asked S n (drop n c.lent) i).took)) c.contract.buffer ∙ call_bytes a k g s e b S c.answers c.lent f admitted
 
-  pub block_calls : is_known k 0 g ≡ true → (r : Text) (d : List ℕ)
+  pub block_calls : is_known k 0 g ≡ true → (r : Result Text Refusal) (d : List ℕ)
       → Meets (string_question (literal_of k 0 s e) S (settings_of g) (drop begins c.lent)) r d → Returned c (length a) r d
   block_calls known r d m = record {
     told = told_is ∙ ap (λ (x : Asked). numbers_of (x.told ∷ [])) asked ∙ ap (λ (m : ℕ). numbers_of (four_of m r ∷ [])) (sym begins_is);
@@ -124,7 +126,7 @@ module _ (a : List ℕ) (k g s e : ℕ) (b S : List ℕ) (f : length a % 4 ≡ 0
       asked =
           item_known S n (drop n c.lent) i known
           ∙ ap (λ (m : ℕ). asked_as n (string_question (literal_of k 0 s e) S (settings_of g) (drop m c.lent))) (sym begins_is)
-          ∙ ap₂ (λ (x : Text) (y : List ℕ). record { told = four_of n x; took = takes x; room = y }) (sym m.answer) (sym m.buffer)
+          ∙ ap₂ (λ (x : Result Text Refusal) (y : List ℕ). record { told = four_of n x; took = takes x; room = y }) (sym m.answer) (sym m.buffer)
 
       bytes : part begins (begins + takes r) c.after ≡ take (takes r) d
       bytes =

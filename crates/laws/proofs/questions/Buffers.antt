@@ -20,15 +20,11 @@ use Rattle.meaning.specs.declared.Refusal.{Refusal}
 use Rattle.meaning.specs.declared.Refusal.TheVariants.{InvalidInteger, InvalidString, InvalidBitString, NoRoom}
 use Rattle.meaning.specs.declared.Text.{Text}
 use Rattle.meaning.specs.declared.Text.TheVariants as Text'
-use Rattle.meaning.specs.declared.Identifier.{Identifier}
-use Rattle.meaning.specs.declared.Identifier.TheVariants as Identifier'
-use Rattle.meaning.specs.declared.Writing.{Writing}
-use Rattle.meaning.specs.declared.Writing.TheVariants as Writing'
+use Rattle.meaning.specs.declared.WritingError.{WritingError}
+use Rattle.meaning.specs.declared.WritingError.TheVariants as WritingError'
 use Rattle.meaning.specs.declared.BitStringRadix.{BitStringRadix}
-use Rattle.meaning.specs.declared.PackedBits.{PackedBits}
-use Rattle.meaning.specs.declared.PackedBits.TheVariants as Packed'
-use Rattle.meaning.specs.declared.BitWriting.{BitWriting}
-use Rattle.meaning.specs.declared.BitWriting.TheVariants as BitWriting'
+use Rattle.meaning.specs.declared.BitWritingError.{BitWritingError}
+use Rattle.meaning.specs.declared.BitWritingError.TheVariants as BitWritingError'
 use Rattle.meaning.specs.Bytes.{has}
 use Rattle.std.specs.Prelude.{if◌then◌else◌}
 use Rattle.meaning.specs.Chars.{utf8}
@@ -45,6 +41,11 @@ use Rattle.meaning.specs.Forms.{form_text, form_question}
 use Rattle.meaning.specs.Packing.{bits_per, bits_in, pack_bits, packs_as, packed_by, packed_question, bit_literal, bad_bits, bit_writes, bit_write_question}
 use Rattle.laws.proofs.basics.Tests.{true→T}
 use Rattle.laws.proofs.writing.Writers.{tried}
+use Rattle.std.specs.Prelude.{Result, Ok, Err}
+use Rattle.meaning.specs.declared.IdentifierError.{IdentifierError}
+use Rattle.meaning.specs.declared.IdentifierError.TheVariants as IdentifierError'
+use Rattle.meaning.specs.declared.PackedBits.{PackedBits}
+use Rattle.meaning.specs.Answers.{packed_at}
 
 -- the buffer begins with n bytes of a value, and goes on as it was lent
 pub record Filled (n : ℕ) (out after : List ℕ) : Type 0 where
@@ -65,34 +66,34 @@ module _ {n : ℕ} {out after : List ℕ} (f : Filled n out after) where
   filled_length = rw f.bytes (omega (arith, length-append f.value (drop n out), length-drop n out, f.size, f.room))
 
 -- what each case of an answer says of the buffer
-abbrev pub TextLeaves : List ℕ → Text → List ℕ → Type 0
-TextLeaves out (Text'.Borrowed f u) after = after ≡ out
-TextLeaves out (Text'.Written n) after = Filled n out after
-TextLeaves out (Text'.Refused r) after = after ≡ out
+abbrev pub TextLeaves : List ℕ → Result Text Refusal → List ℕ → Type 0
+TextLeaves out (Ok (Text'.Borrowed f u)) after = after ≡ out
+TextLeaves out (Ok (Text'.Written n)) after = Filled n out after
+TextLeaves out (Err r) after = after ≡ out
 
-abbrev pub IdentifierLeaves : List ℕ → Identifier → List ℕ → Type 0
-IdentifierLeaves out (Identifier'.Borrowed f u) after = after ≡ out
-IdentifierLeaves out (Identifier'.Written n) after = Filled n out after
-IdentifierLeaves out Identifier'.NotUtf8 after = after ≡ out
-IdentifierLeaves out Identifier'.InvalidString after = after ≡ out
-IdentifierLeaves out (Identifier'.NoRoom n) after = after ≡ out
+abbrev pub IdentifierLeaves : List ℕ → Result Text IdentifierError → List ℕ → Type 0
+IdentifierLeaves out (Ok (Text'.Borrowed f u)) after = after ≡ out
+IdentifierLeaves out (Ok (Text'.Written n)) after = Filled n out after
+IdentifierLeaves out (Err IdentifierError'.NotUtf8) after = after ≡ out
+IdentifierLeaves out (Err IdentifierError'.InvalidString) after = after ≡ out
+IdentifierLeaves out (Err (IdentifierError'.NoRoom n)) after = after ≡ out
 
-abbrev pub WritingLeaves : List ℕ → Writing → List ℕ → Type 0
-WritingLeaves out (Writing'.Written n) after = Filled n out after
-WritingLeaves out Writing'.OverLimit after = after ≡ out
-WritingLeaves out Writing'.NotUtf8 after = after ≡ out
-WritingLeaves out Writing'.HoldsNul after = after ≡ out
-WritingLeaves out (Writing'.NoRoom n) after = after ≡ out
+abbrev pub WritingLeaves : List ℕ → Result ℕ WritingError → List ℕ → Type 0
+WritingLeaves out (Ok n) after = Filled n out after
+WritingLeaves out (Err WritingError'.OverLimit) after = after ≡ out
+WritingLeaves out (Err WritingError'.NotUtf8) after = after ≡ out
+WritingLeaves out (Err WritingError'.HoldsNul) after = after ≡ out
+WritingLeaves out (Err (WritingError'.NoRoom n)) after = after ≡ out
 
-abbrev pub PackedLeaves : List ℕ → PackedBits → List ℕ → Type 0
-PackedLeaves out (Packed'.Written n b) after = Filled n out after
-PackedLeaves out (Packed'.Refused r) after = after ≡ out
+abbrev pub PackedLeaves : List ℕ → Result PackedBits Refusal → List ℕ → Type 0
+PackedLeaves out (Ok π) after = Filled π.len out after
+PackedLeaves out (Err r) after = after ≡ out
 
-abbrev pub BitWritingLeaves : List ℕ → BitWriting → List ℕ → Type 0
-BitWritingLeaves out (BitWriting'.Written n) after = Filled n out after
-BitWritingLeaves out BitWriting'.OverLimit after = after ≡ out
-BitWritingLeaves out BitWriting'.BadBits after = after ≡ out
-BitWritingLeaves out (BitWriting'.NoRoom n) after = after ≡ out
+abbrev pub BitWritingLeaves : List ℕ → Result ℕ BitWritingError → List ℕ → Type 0
+BitWritingLeaves out (Ok n) after = Filled n out after
+BitWritingLeaves out (Err BitWritingError'.OverLimit) after = after ≡ out
+BitWritingLeaves out (Err BitWritingError'.BadBits) after = after ≡ out
+BitWritingLeaves out (Err (BitWritingError'.NoRoom n)) after = after ≡ out
 
 -- a value that is put where there is room for it, and one that is not
 module _ (v out : List ℕ) where
@@ -113,7 +114,7 @@ module _ (v out : List ℕ) where
 pub told_as_leaves : (bad : ℕ → Refusal) (s : ℕ) (out : List ℕ) (a : Answer) → TextLeaves out (told_as bad s out a).answer (told_as bad s out a).buffer
 told_as_leaves bad s out (borrowed f u) = refl
 told_as_leaves bad s out (written v) =
-    leaves_by v out (λ (r : Text). TextLeaves out r) (Text'.Written (length v)) (Text'.Refused (NoRoom (length v))) (λ d h. h) refl
+    leaves_by v out (λ (r : Result Text Refusal). TextLeaves out r) (Ok (Text'.Written (length v))) (Err (NoRoom (length v))) (λ d h. h) refl
     (leb (length v) (length out)) refl
 told_as_leaves bad s out (refused p) = refl
 
@@ -145,7 +146,7 @@ module _ (l : Literal) (S out : List ℕ) where
 identifier_as_leaves : (out : List ℕ) (a : Answer) → IdentifierLeaves out (identifier_as out a).answer (identifier_as out a).buffer
 identifier_as_leaves out (borrowed f u) = refl
 identifier_as_leaves out (written v) =
-    leaves_by v out (λ (r : Identifier). IdentifierLeaves out r) (Identifier'.Written (length v)) (Identifier'.NoRoom (length v)) (λ d h. h) refl
+    leaves_by v out (λ (r : Result Text IdentifierError). IdentifierLeaves out r) (Ok (Text'.Written (length v))) (Err (IdentifierError'.NoRoom (length v))) (λ d h. h) refl
     (leb (length v) (length out)) refl
 identifier_as_leaves out (refused p) = refl
 
@@ -153,8 +154,8 @@ pub identifier_leaves : (t out : List ℕ) → IdentifierLeaves out (identifier_
 unfolding identifier_question
 identifier_leaves t out = go (utf8 t)
   where
-    go : (x : Bool) → IdentifierLeaves out (if x then identifier_as out (ident t) else record { answer = Identifier'.NotUtf8; buffer = out }).answer
-        (if x then identifier_as out (ident t) else record { answer = Identifier'.NotUtf8; buffer = out }).buffer
+    go : (x : Bool) → IdentifierLeaves out (if x then identifier_as out (ident t) else record { answer = Err IdentifierError'.NotUtf8; buffer = out }).answer
+        (if x then identifier_as out (ident t) else record { answer = Err IdentifierError'.NotUtf8; buffer = out }).buffer
     go true = identifier_as_leaves out (ident t)
     go false = refl
 
@@ -164,7 +165,7 @@ tried_leaves true y z t out = refl
 tried_leaves false false z t out = refl
 tried_leaves false true true t out = refl
 tried_leaves false true false t out =
-    leaves_by t out (λ (r : Writing). WritingLeaves out r) (Writing'.Written _) (Writing'.NoRoom _) (λ d h. h) refl (leb (length t) (length out)) refl
+    leaves_by t out (λ (r : Result ℕ WritingError). WritingLeaves out r) (Ok _) (Err (WritingError'.NoRoom _)) (λ d h. h) refl (leb (length t) (length out)) refl
 
 pub writing_leaves : (σ : Settings) (size : PartSize) (v out : List ℕ)
     → WritingLeaves out (write_question σ size v out).answer (write_question σ size v out).buffer
@@ -178,7 +179,7 @@ form_leaves f v out = tried_leaves (over_limit Whole v) (utf8 v) (has 0 v) (form
 -- packed bytes, and their reverse
 packs_as_leaves : (s : Span) (k : ℕ) (out : List ℕ) (x : Value) → PackedLeaves out (packs_as s k out x).answer (packs_as s k out x).buffer
 packs_as_leaves s k out (means v) =
-    leaves_by (pack_bits (bits_in k v)) out (λ (r : PackedBits). PackedLeaves out r) (Packed'.Written _ _) (Packed'.Refused (NoRoom _)) (λ d h. h) refl
+    leaves_by (pack_bits (bits_in k v)) out (λ (r : Result PackedBits Refusal). PackedLeaves out r) (Ok (packed_at _ _)) (Err (NoRoom _)) (λ d h. h) refl
     (leb (length (pack_bits (bits_in k v))) (length out)) refl
 packs_as_leaves s k out (fails p) = refl
 
@@ -197,12 +198,12 @@ unfolding bit_write_question
 bit_writing_leaves r bytes n out = go (over_limit Whole bytes) (bad_bits r bytes n) (bit_literal r bytes n)
   where
     go : (x y : Bool) (t : List ℕ)
-        → BitWritingLeaves out (if x then record { answer = BitWriting'.OverLimit; buffer = out }
-        else if y then record { answer = BitWriting'.BadBits; buffer = out } else bit_writes t out).answer
-        (if x then record { answer = BitWriting'.OverLimit; buffer = out }
-        else if y then record { answer = BitWriting'.BadBits; buffer = out } else bit_writes t out).buffer
+        → BitWritingLeaves out (if x then record { answer = Err BitWritingError'.OverLimit; buffer = out }
+        else if y then record { answer = Err BitWritingError'.BadBits; buffer = out } else bit_writes t out).answer
+        (if x then record { answer = Err BitWritingError'.OverLimit; buffer = out }
+        else if y then record { answer = Err BitWritingError'.BadBits; buffer = out } else bit_writes t out).buffer
     go true y t = refl
     go false true t = refl
     go false false t =
-        leaves_by t out (λ (r : BitWriting). BitWritingLeaves out r) (BitWriting'.Written _) (BitWriting'.NoRoom _) (λ d h. h) refl
+        leaves_by t out (λ (r : Result ℕ BitWritingError). BitWritingLeaves out r) (Ok _) (Err (BitWritingError'.NoRoom _)) (λ d h. h) refl
         (leb (length t) (length out)) refl

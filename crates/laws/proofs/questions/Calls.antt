@@ -9,8 +9,7 @@ use Rattle.meaning.specs.declared.Settings.{Settings}
 use Rattle.meaning.specs.declared.PartSize.{PartSize}
 use Rattle.meaning.specs.declared.Literal.{Literal}
 use Rattle.meaning.specs.declared.Text.{Text}
-use Rattle.meaning.specs.declared.Writing.{Writing}
-use Rattle.meaning.specs.declared.Writing.TheVariants.{Written}
+use Rattle.meaning.specs.declared.WritingError.{WritingError}
 use Rattle.meaning.specs.declared.Form.{Form}
 use Rattle.meaning.specs.Bytes.{◌!◌, is_mark}
 use Rattle.meaning.specs.Cutting.{complete}
@@ -29,6 +28,9 @@ use Rattle.laws.proofs.writing.WriterParts.{Accepted}
 use Rattle.laws.proofs.writing.WrittenParts.{Each, each_of, Sized, PartAccepted, CutInto, chain_answered, parts_accepted}
 use Rattle.laws.proofs.writing.RoundTrip.{writer_answers, written_accepted, written_wrote, writer_round_trip}
 use Rattle.laws.proofs.writing.FormRoundTrip.{form_round_trip}
+use Rattle.std.specs.Prelude.{Result}
+use Rattle.meaning.specs.declared.Refusal.{Refusal}
+use Rattle.std.specs.Prelude.{Ok}
 
 -- A CALL of the string question on the text t: what went in, and what came out
 pub record StringCall (σ : Settings) (t : List ℕ) : Type 0 where
@@ -37,7 +39,7 @@ pub record StringCall (σ : Settings) (t : List ℕ) : Type 0 where
   pub lent : List ℕ
   pub kind : is_string literal.kind ≡ true
   pub spans : Spans literal source t
-  pub result : Text
+  pub result : Result Text Refusal
   pub after : List ℕ
   pub contract : Meets (string_question literal source σ lent) result after
 
@@ -56,7 +58,7 @@ shows_by c v a = record {
 -- A CALL of the writer
 pub record WriterCall (σ : Settings) (size : PartSize) (v : List ℕ) : Type 0 where
   pub lent : List ℕ
-  pub result : Writing
+  pub result : Result ℕ WritingError
   pub after : List ℕ
   pub contract : Meets (write_question σ size v lent) result after
 
@@ -80,7 +82,7 @@ joining_calls σ A G B v w a b sa sb ca cb g m c r =
 
 -- THE ROUND TRIP: what a call of the writer wrote, asked in a span of any source, shows the value. It needs room only if it is longer than the value and its
 -- two marks: else it is borrowed
-pub round_trip_calls : (σ : Settings) (size : PartSize) (v : List ℕ) (w : WriterCall σ size v) (n : ℕ) → w.result ≡ Written n
+pub round_trip_calls : (σ : Settings) (size : PartSize) (v : List ℕ) (w : WriterCall σ size v) (n : ℕ) → w.result ≡ Ok n
     → (c : StringCall σ (take n w.after)) → (length v + 2 < n → length v ≤ length c.lent) → Shows c v
 round_trip_calls σ size v w n e c r =
     shows_by c v
@@ -90,11 +92,11 @@ round_trip_calls σ size v w n e c r =
 -- IN A FORM, E or U&: what a call wrote shows the value at every setting. It needs room only if it is longer than the value, its opening and its mark
 pub record FormCall (f : Form) (v : List ℕ) : Type 0 where
   pub lent : List ℕ
-  pub result : Writing
+  pub result : Result ℕ WritingError
   pub after : List ℕ
   pub contract : Meets (form_question f v lent) result after
 
-pub form_calls : (f : Form) (v : List ℕ) (w : FormCall f v) (n : ℕ) → w.result ≡ Written n → (σ : Settings) (c : StringCall σ (take n w.after))
+pub form_calls : (f : Form) (v : List ℕ) (w : FormCall f v) (n : ℕ) → w.result ≡ Ok n → (σ : Settings) (c : StringCall σ (take n w.after))
     → (length v + suc (length (form_opening f)) < n → length v ≤ length c.lent) → Shows c v
 form_calls f v w n e σ c r =
     shows_by c v
@@ -105,10 +107,10 @@ form_calls f v w n e σ c r =
 pub record PartWritten (σ : Settings) (q : Part) : Type 0 where
   pub call : WriterCall σ q.size q.value
   pub count : ℕ
-  pub wrote : call.result ≡ Written count
+  pub wrote : call.result ≡ Ok count
 
 module _ (σ : Settings) (q : Part) (w : PartWritten σ q) where
-  answered : (write_question σ q.size q.value w.call.lent).answer ≡ Written w.count
+  answered : (write_question σ q.size q.value w.call.lent).answer ≡ Ok w.count
   answered = sym w.call.contract.answer ∙ w.wrote
 
   -- such a call wrote the part's text, and the writer accepts the part
@@ -138,7 +140,7 @@ parts_calls σ v p xs e w c r =
 
 -- and such calls are to be had of a value that the writer accepts, cut between characters: each call of the writer on a part, with room for its text, wrote it
 abbrev pub Writes : Settings → Part → Type 0
-Writes σ q = (w : WriterCall σ q.size q.value) → length (text_of σ q) ≤ length w.lent → w.result ≡ Written (length (text_of σ q))
+Writes σ q = (w : WriterCall σ q.size q.value) → length (text_of σ q) ≤ length w.lent → w.result ≡ Ok (length (text_of σ q))
 
 pub parts_calls_write : (σ : Settings) (size : PartSize) (v : List ℕ) (p : Part) (xs : List Next) → Accepted σ size v → CutInto v p xs → Each Sized p xs
     → Each (Writes σ) p xs

@@ -1,11 +1,13 @@
 -- Determinacy: two results that a contract permits, with their final buffers, are equal. Once for every question that is lent a buffer, once
 -- for every question and helper that is lent none, over the answer's type and the question, once for the readers of bare texts, once
 -- for blocks of items, and once for returned slices. Assumes nothing.
+use Rattle.std.specs.Prelude.{Result}
 use mathlib.Core.Path.{◌≡◌, sym, ◌∙◌}
 use mathlib.Core.List.{List}
 use Prim.Native.Nat.{ℕ}
 use denote.Ref.{Bor}
-use Rattle.meaning.specs.declared.Read.{Read}
+use Rattle.meaning.specs.declared.ReadText.{ReadText}
+use Rattle.meaning.specs.declared.ReadRefusal.{ReadRefusal}
 use Rattle.meaning.specs.Reading.{Answer}
 use Rattle.meaning.specs.Answers.{Outcome, Meets, IsPart}
 use Rattle.meaning.specs.Reads.{Reads}
@@ -23,7 +25,7 @@ pub answer_unique : {A : Type 0} (a r r' : A) → r ≡ a → r' ≡ a → r ≡
 answer_unique a r r' m n = m ∙ sym n
 
 -- a reader of a bare text
-pub reads_unique : (a : Answer) (out : List ℕ) (r r' : Read) (d d' : List ℕ) → Reads a out r d → Reads a out r' d' → Same r r' d d'
+pub reads_unique : (a : Answer) (out : List ℕ) (r r' : Result ReadText ReadRefusal) (d d' : List ℕ) → Reads a out r d → Reads a out r' d' → Same r r' d d'
 reads_unique a out r r' d d' m n = record { answer = m.answer ∙ sym n.answer; buffer = m.buffer ∙ sym n.buffer }
 
 -- a block of items: the call's number, and all that both lent slices hold

@@ -34,12 +34,13 @@ use Rattle.laws.proofs.questions.Buffers.{filled_length}
 use Rattle.laws.proofs.questions.Items.{item_either, item_filled, refused_told}
 use Rattle.laws.proofs.questions.BlockCalls.{good_admitted, call_bad, call_answers}
 use Rattle.laws.proofs.questions.Ranges.{Bounds, AnswerIn, read_inside, span_range}
+use Rattle.std.specs.Prelude.{Result, Ok, Err}
 
 -- WHAT EACH CASE OF AN ANSWER SAYS, in a span that ends at e and a buffer of m bytes; a refusal of its place, or of the length that it needs
-abbrev pub TextFits : ℕ → ℕ → Text → Type 0
-TextFits e m (Text'.Borrowed f u) = Bounds e f u
-TextFits e m (Text'.Written n) = n ≤ m
-TextFits e m (Text'.Refused r) = (refused_four r).start + (refused_four r).len ≤ e
+abbrev pub TextFits : ℕ → ℕ → Result Text Refusal → Type 0
+TextFits e m (Ok (Text'.Borrowed f u)) = Bounds e f u
+TextFits e m (Ok (Text'.Written n)) = n ≤ m
+TextFits e m (Err r) = (refused_four r).start + (refused_four r).len ≤ e
 
 -- a reading of the n bytes that begin at s
 told_fits : (sp : Span) (s e n : ℕ) (out : List ℕ) → s + n ≤ e → (a : Answer) → AnswerIn n a → ((v : List ℕ) → a ≡ written v → length v + 2 ≤ n)
@@ -48,7 +49,7 @@ told_fits sp s e n out h (borrowed f u) b w x = record { ordered = omega arith; 
 told_fits sp s e n out h (written v) b w y = go (leb (length v) (length out)) refl
   where
     go : (x : Bool) → leb (length v) (length out) ≡ x
-        → TextFits e (length out) (if x then Text'.Written (length v) else Text'.Refused (NoRoom (length v)))
+        → TextFits e (length out) (if x then Ok (Text'.Written (length v)) else Err (NoRoom (length v)))
     go true l = leb-true (length v) (length out) l
     go false l = omega (arith, w v refl)
 told_fits sp s e n out h (refused p) b w x = omega (arith, x p refl)
@@ -100,10 +101,10 @@ refusal_below (InvalidDate s) = omega arith
 refused_small : (n p k : ℕ) → n ≤ 14 → p + k < 2 ^ 32 → Small (four n 0 p k)
 refused_small n p k h l = record { number = omega arith; how = omega arith; range = omega arith }
 
-text_small : (e m used : ℕ) → e < 2 ^ 32 → used + m < 2 ^ 32 → (a : Text) → TextFits e m a → Small (four_of used a)
-text_small e m used h r (Text'.Borrowed f u) b = record { number = omega arith; how = omega arith; range = omega arith }
-text_small e m used h r (Text'.Written n) b = record { number = omega arith; how = omega arith; range = omega arith }
-text_small e m used h r (Text'.Refused x) b =
+text_small : (e m used : ℕ) → e < 2 ^ 32 → used + m < 2 ^ 32 → (a : Result Text Refusal) → TextFits e m a → Small (four_of used a)
+text_small e m used h r (Ok (Text'.Borrowed f u)) b = record { number = omega arith; how = omega arith; range = omega arith }
+text_small e m used h r (Ok (Text'.Written n)) b = record { number = omega arith; how = omega arith; range = omega arith }
+text_small e m used h r (Err x) b =
     subst Small (sym (refused_told x))
     (refused_small (refusal_number x) (refused_four x).start (refused_four x).len (omega (arith, refusal_below x)) (omega arith))
 

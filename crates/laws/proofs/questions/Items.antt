@@ -21,6 +21,7 @@ use Rattle.meaning.specs.Answers.{Outcome, refusal_number}
 use Rattle.meaning.specs.Codes.{is_known, literal_of, settings_of}
 use Rattle.meaning.specs.Blocks.{four, refused_four, four_of, takes, Asked, item_question, asked_as, item_asked}
 use Rattle.laws.proofs.questions.Buffers.{Filled, filled_length, TextLeaves, string_question_leaves}
+use Rattle.std.specs.Prelude.{Result, Ok, Err}
 
 -- Not known: 10, and the room as it was
 abbrev pub unknown : List ℕ → Asked
@@ -45,10 +46,10 @@ module _ (S : List ℕ) (used : ℕ) (room : List ℕ) (i : Item) where
       go false = b
 
 -- a borrowed or refused text takes none of the room, a written one its front
-leaves_filled : (room after : List ℕ) (a : Text) → TextLeaves room a after → Filled (takes a) room after
-leaves_filled room after (Text'.Borrowed f u) e = record { value = []; size = refl; room = omega arith; bytes = e }
-leaves_filled room after (Text'.Written n) h = h
-leaves_filled room after (Text'.Refused r) e = record { value = []; size = refl; room = omega arith; bytes = e }
+leaves_filled : (room after : List ℕ) (a : Result Text Refusal) → TextLeaves room a after → Filled (takes a) room after
+leaves_filled room after (Ok (Text'.Borrowed f u)) e = record { value = []; size = refl; room = omega arith; bytes = e }
+leaves_filled room after (Ok (Text'.Written n)) h = h
+leaves_filled room after (Err r) e = record { value = []; size = refl; room = omega arith; bytes = e }
 
 pub item_filled : (S : List ℕ) (used : ℕ) (room : List ℕ) (i : Item) → Filled (item_asked S used room i).took room (item_asked S used room i).room
 item_filled S used room i =
@@ -74,20 +75,20 @@ refused_told (InvalidDate s) = refl
 abbrev pub length_written : Four → ℕ
 length_written f = if eqb f.how 2 then f.len else 0
 
-takes_told : (used : ℕ) (a : Text) → takes a ≡ length_written (four_of used a)
-takes_told used (Text'.Borrowed f u) = refl
-takes_told used (Text'.Written n) = refl
-takes_told used (Text'.Refused r) = sym (ap length_written (refused_told r))
+takes_told : (used : ℕ) (a : Result Text Refusal) → takes a ≡ length_written (four_of used a)
+takes_told used (Ok (Text'.Borrowed f u)) = refl
+takes_told used (Ok (Text'.Written n)) = refl
+takes_told used (Err r) = sym (ap length_written (refused_told r))
 
 pub item_took_told : (S : List ℕ) (used : ℕ) (room : List ℕ) (i : Item) → (item_asked S used room i).took ≡ length_written (item_asked S used room i).told
 item_took_told S used room i =
     item_either S used room i (λ (a : Asked). a.took ≡ length_written a.told) (takes_told used (item_question S room i).answer) refl
 
 -- so a refused item takes none
-takes_refused : (used : ℕ) (a : Text) → ((four_of used a).number ≡ 0 → ⊥) → takes a ≡ 0
-takes_refused used (Text'.Borrowed f u) h = refl
-takes_refused used (Text'.Written n) h = absurd (h refl)
-takes_refused used (Text'.Refused r) h = refl
+takes_refused : (used : ℕ) (a : Result Text Refusal) → ((four_of used a).number ≡ 0 → ⊥) → takes a ≡ 0
+takes_refused used (Ok (Text'.Borrowed f u)) h = refl
+takes_refused used (Ok (Text'.Written n)) h = absurd (h refl)
+takes_refused used (Err r) h = refl
 
 pub item_refused_took : (S : List ℕ) (used : ℕ) (room : List ℕ) (i : Item) → ((item_asked S used room i).told.number ≡ 0 → ⊥)
     → (item_asked S used room i).took ≡ 0
@@ -98,10 +99,10 @@ item_refused_took S used room i =
 abbrev pub moved : ℕ → Four → Four
 moved m f = four f.number f.how (if eqb f.how 2 then f.start + m else f.start) f.len
 
-four_moved : (used m : ℕ) (a : Text) → four_of (used + m) a ≡ moved m (four_of used a)
-four_moved used m (Text'.Borrowed f u) = refl
-four_moved used m (Text'.Written n) = refl
-four_moved used m (Text'.Refused r) = refused_told r ∙ sym (ap (moved m) (refused_told r))
+four_moved : (used m : ℕ) (a : Result Text Refusal) → four_of (used + m) a ≡ moved m (four_of used a)
+four_moved used m (Ok (Text'.Borrowed f u)) = refl
+four_moved used m (Ok (Text'.Written n)) = refl
+four_moved used m (Err r) = refused_told r ∙ sym (ap (moved m) (refused_told r))
 
 abbrev pub moved_asked : ℕ → Asked → Asked
 moved_asked m a = record { told = moved m a.told; took = a.took; room = a.room }
@@ -110,7 +111,7 @@ pub item_moved : (S : List ℕ) (used m : ℕ) (room : List ℕ) (i : Item) → 
 unfolding item_asked
 item_moved S used m room i = go (is_known i.kind 0 i.setting)
   where
-    o : Outcome Text
+    o : Outcome (Result Text Refusal)
     o = item_question S room i
 
     go : (x : Bool) → (if x then asked_as (used + m) o else unknown room) ≡ moved_asked m (if x then asked_as used o else unknown room)

@@ -8,9 +8,7 @@ use borrow.Author.Tests.{eqb-true, eqb-false}
 use Rattle.meaning.specs.declared.LiteralKind.{LiteralKind}
 use Rattle.meaning.specs.declared.LiteralExpected.TheVariants as Expected
 use Rattle.meaning.specs.declared.Refusal.TheVariants.{WrongKind}
-use Rattle.meaning.specs.declared.Truth.TheVariants as Truth'
-use Rattle.meaning.specs.declared.Nullness.TheVariants as Nullness'
-use Rattle.std.specs.Prelude.{if◌then◌else◌}
+use Rattle.std.specs.Prelude.{if◌then◌else◌, Ok, Err}
 use Rattle.meaning.specs.Answers.{kind_code, truth_number, nullness_number}
 use Rattle.meaning.specs.Questions.{bool_question, null_question}
 
@@ -32,7 +30,7 @@ bool_number k = go (eqb (kind_code k) 5) (eqb (kind_code k) 6) refl refl
 
     go : (x y : Bool) → eqb (kind_code k) 5 ≡ x → eqb (kind_code k) 6 ≡ y
         → ZeroOrOne ((kind_code k ≡ 5) ⊎ (kind_code k ≡ 6))
-        (truth_number (if x then Truth'.Value true else if y then Truth'.Value false else Truth'.Refused (WrongKind Expected.Boolean k)))
+        (truth_number (if x then Ok true else if y then Ok false else Err (WrongKind Expected.Boolean k)))
     go true y e f = zero_by (inl (eqb-true (kind_code k) 5 e))
     go false true e f = zero_by (inr (eqb-true (kind_code k) 6 f))
     go false false e f = one_by (neither e f)
@@ -41,6 +39,6 @@ pub null_number : (k : LiteralKind) → ZeroOrOne (kind_code k ≡ 7) (nullness_
 null_number k = go (eqb (kind_code k) 7) refl
   where
     go : (x : Bool) → eqb (kind_code k) 7 ≡ x
-        → ZeroOrOne (kind_code k ≡ 7) (nullness_number (if x then Nullness'.IsNull else Nullness'.Refused (WrongKind Expected.Null k)))
+        → ZeroOrOne (kind_code k ≡ 7) (nullness_number (if x then (Ok tt) else Err (WrongKind Expected.Null k)))
     go true e = zero_by (eqb-true (kind_code k) 7 e)
     go false e = one_by (eqb-false (kind_code k) 7 e)

@@ -33,6 +33,7 @@ use Rattle.laws.proofs.writing.Unchanged.{ReadsBack, unchanged, longer, back_mea
 use Rattle.laws.proofs.joining.Joining.{fails≢means}
 use Rattle.laws.proofs.questions.Asked.{Spans, string_question_reads}
 use Rattle.laws.proofs.joining.JoiningLaw.{Accepts}
+use Rattle.std.specs.Prelude.{Result}
 
 -- from f up to u, in a text of n bytes
 pub record Bounds (n f u : ℕ) : Type 0 where
@@ -224,7 +225,7 @@ filled_shows v out h =
     ∙ rw z (take-append_seam v (drop (length v) out)))
 
 -- a question is answered, and v is shown
-pub record Answered (S v : List ℕ) (o : Outcome Text) : Type 0 where
+pub record Answered (S v : List ℕ) (o : Outcome (Result Text Refusal)) : Type 0 where
   pub number : text_number o.answer ≡ 0
   pub shows : shown S o.buffer o.answer ≡ v
 

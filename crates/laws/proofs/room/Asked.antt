@@ -12,8 +12,6 @@ use Rattle.meaning.specs.declared.Literal.{Literal}
 use Rattle.meaning.specs.declared.LiteralExpected.TheVariants as Expected
 use Rattle.meaning.specs.declared.Refusal.TheVariants.{InvalidInteger, InvalidString, InvalidBitString, NoRoom}
 use Rattle.meaning.specs.declared.Text.TheVariants as Text'
-use Rattle.meaning.specs.declared.Identifier.TheVariants as Identifier'
-use Rattle.meaning.specs.declared.PackedBits.TheVariants as Packed'
 use Rattle.meaning.specs.Bytes.{part}
 use Rattle.std.specs.Prelude.{if◌then◌else◌}
 use Rattle.meaning.specs.Chars.{utf8}
@@ -35,6 +33,10 @@ use Rattle.laws.proofs.room.Told.{told_needs, spanned, span_long}
 use Rattle.laws.proofs.room.Values.{Less, read_writes, temporal_writes, ident_writes}
 use Rattle.laws.proofs.room.Digits.{bits_length, bits_writes, packed_half}
 use Rattle.laws.proofs.room.Decimals.{Forty, forty_most, decimal_writes}
+use Rattle.std.specs.Prelude.{Err}
+use Rattle.std.specs.Prelude.{Ok}
+use Rattle.meaning.specs.declared.IdentifierError.TheVariants as IdentifierError'
+use Rattle.meaning.specs.Answers.{packed_at}
 
 -- packed bytes are two digits each, or a last one; and a letter and two marks stand around the digits
 abbrev pub Half : ℕ → ℕ → Type 0
@@ -56,7 +58,7 @@ module _ (l : Literal) (S out : List ℕ) where
     string_needs =
         told_needs (Less 2 (spanned l)) (read σ) InvalidString l S out (λ s p. tt) (by_span (Less 2) (read σ) (read_writes σ)) (is_string l.kind) Expected.String
 
-    pub string_nine : (n : ℕ) → (string_question l S σ out).answer ≡ Text'.Refused (NoRoom n) → (n + 2 ≤ spanned l) × (length out < n)
+    pub string_nine : (n : ℕ) → (string_question l S σ out).answer ≡ Err (NoRoom n) → (n + 2 ≤ spanned l) × (length out < n)
     string_nine n e = subst (TextNeeds (Less 2 (spanned l)) (length out)) e string_needs
 
     pub string_never : spanned l ≤ length out + 2 → text_number (string_question l S σ out).answer ≡ 9 → ⊥
@@ -69,7 +71,7 @@ module _ (l : Literal) (S out : List ℕ) where
       told_needs (Less 2 (spanned l)) (temporal off) InvalidString l S out (λ s p. tt) (by_span (Less 2) (temporal off) (temporal_writes off)) (is_temporal l.kind)
       Expected.Temporal
 
-  pub temporal_nine : (n : ℕ) → (temporal_question l S out).answer ≡ Text'.Refused (NoRoom n) → (n + 2 ≤ spanned l) × (length out < n)
+  pub temporal_nine : (n : ℕ) → (temporal_question l S out).answer ≡ Err (NoRoom n) → (n + 2 ≤ spanned l) × (length out < n)
   temporal_nine n e = subst (TextNeeds (Less 2 (spanned l)) (length out)) e temporal_needs
 
   pub temporal_never : spanned l ≤ length out + 2 → text_number (temporal_question l S out).answer ≡ 9 → ⊥
@@ -98,8 +100,8 @@ module _ (l : Literal) (S out : List ℕ) where
       go z (means v) e =
           let k : Half (spanned l) (length (pack_bits (bits_in (bits_per (bit_base l.kind)) v))) =
           omega (arith, z, bits_length off (bit_base l.kind) text v e, packed_half (bit_base l.kind) v) in
-          by_room_lem (PackedNeeds (Half (spanned l)) (length out)) (λ n. Packed'.Written n (length (bits_in (bits_per (bit_base l.kind)) v)))
-          (λ n. Packed'.Refused (NoRoom n)) (length (pack_bits (bits_in (bits_per (bit_base l.kind)) v))) (length out) (λ h. (k, h)) (λ h. (k, h))
+          by_room_lem (PackedNeeds (Half (spanned l)) (length out)) (λ n. Ok (packed_at n (length (bits_in (bits_per (bit_base l.kind)) v))))
+          (λ n. Err (NoRoom n)) (length (pack_bits (bits_in (bits_per (bit_base l.kind)) v))) (length out) (λ h. (k, h)) (λ h. (k, h))
 
   pub packed_enough : spanned l ≤ 2 * length out + 3 → packed_number (packed_question l S out).answer ≡ 9 → ⊥
   packed_enough h = packed_never (Half (spanned l)) (length out) (λ n k. omega arith) (packed_question l S out).answer packed_needs
@@ -121,11 +123,11 @@ unfolding identifier_question
 identifier_needs t out = go (utf8 t) (ident t) (ident_writes t)
   where
     go : (x : Bool) (a : Answer) → Writes (Less 4 (length t)) a
-        → IdentifierNeeds (Less 4 (length t)) (length out) (if x then identifier_as out a else record { answer = Identifier'.NotUtf8; buffer = out }).answer
+        → IdentifierNeeds (Less 4 (length t)) (length out) (if x then identifier_as out a else record { answer = Err IdentifierError'.NotUtf8; buffer = out }).answer
     go false a w = tt
     go true (borrowed f u) w = tt
     go true (written v) w =
-        by_room_lem (IdentifierNeeds (Less 4 (length t)) (length out)) Identifier'.Written Identifier'.NoRoom (length v) (length out) (λ h. (w, h)) (λ h. (w, h))
+        by_room_lem (IdentifierNeeds (Less 4 (length t)) (length out)) (λ n. Ok (Text'.Written n)) (λ n. Err (IdentifierError'.NoRoom n)) (length v) (length out) (λ h. (w, h)) (λ h. (w, h))
     go true (refused p) w = tt
 
 pub identifier_enough : (t out : List ℕ) → length t ≤ length out + 4 → identifier_number (identifier_question t out).answer ≡ 9 → ⊥

@@ -22,6 +22,7 @@ use Rattle.laws.proofs.questions.BlockReturns.{BlockCall}
 use Rattle.laws.proofs.room.Told.{RefusalNeeds, TextNeeds}
 use Rattle.laws.proofs.room.Values.{Less}
 use Rattle.laws.proofs.room.Asked.{string_needs}
+use Rattle.std.specs.Prelude.{Result, Ok, Err}
 
 -- the room that an item can take, and that all together can
 abbrev pub item_room : Item → ℕ
@@ -61,10 +62,10 @@ refused_needs k m (InvalidBitString s) h = record { takes = omega arith; needs =
 refused_needs k m (InvalidMoney s) h = record { takes = omega arith; needs = λ e. absurd (omega arith) }
 refused_needs k m (InvalidDate s) h = record { takes = omega arith; needs = λ e. absurd (omega arith) }
 
-four_needs : (k m used : ℕ) (a : Text) → TextNeeds (Less 2 k) m a → FourNeeds k m (four_of used a) (takes a)
-four_needs k m used (Text'.Borrowed f u) h = record { takes = omega arith; needs = λ e. absurd (omega arith) }
-four_needs k m used (Text'.Written n) h = record { takes = omega arith; needs = λ e. absurd (omega arith) }
-four_needs k m used (Text'.Refused r) h = refused_needs k m r h
+four_needs : (k m used : ℕ) (a : Result Text Refusal) → TextNeeds (Less 2 k) m a → FourNeeds k m (four_of used a) (takes a)
+four_needs k m used (Ok (Text'.Borrowed f u)) h = record { takes = omega arith; needs = λ e. absurd (omega arith) }
+four_needs k m used (Ok (Text'.Written n)) h = record { takes = omega arith; needs = λ e. absurd (omega arith) }
+four_needs k m used (Err r) h = refused_needs k m r h
 
 item_needs : (S : List ℕ) (used : ℕ) (room : List ℕ) (i : Item)
     → FourNeeds (i.end - i.start) (length room) (item_asked S used room i).told (item_asked S used room i).took

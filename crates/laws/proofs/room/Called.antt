@@ -13,7 +13,6 @@ use Rattle.meaning.specs.declared.Literal.{Literal}
 use Rattle.meaning.specs.declared.Refusal.TheVariants.{InvalidString, NoRoom}
 use Rattle.meaning.specs.declared.Text.{Text}
 use Rattle.meaning.specs.declared.Text.TheVariants as Text'
-use Rattle.meaning.specs.declared.Identifier.{Identifier}
 use Rattle.std.specs.Prelude.{if◌then◌else◌}
 use Rattle.meaning.specs.Chars.{utf8}
 use Rattle.meaning.specs.Reading.{Answer, borrowed, written, refused, read}
@@ -28,6 +27,9 @@ use Rattle.laws.proofs.packing.Called.{PackedCall}
 use Rattle.laws.proofs.room.Told.{spanned, spans_long}
 use Rattle.laws.proofs.room.Asked.{string_nine, string_never, string_enough, temporal_nine, temporal_never, bits_never, packed_enough, decimal_never}
 use Rattle.laws.proofs.room.Asked.{identifier_enough}
+use Rattle.std.specs.Prelude.{Result, Ok, Err}
+use Rattle.meaning.specs.declared.Refusal.{Refusal}
+use Rattle.meaning.specs.declared.IdentifierError.{IdentifierError}
 
 -- A STRING
 module _ {σ : Settings} {t : List ℕ} (c : StringCall σ t) where
@@ -36,7 +38,7 @@ module _ {σ : Settings} {t : List ℕ} (c : StringCall σ t) where
   string_shown_calls v s = meaning_length σ t v (call_accepts c s).value
 
   -- a 9 tells no more
-  pub string_nine_calls : (n : ℕ) → c.result ≡ Text'.Refused (NoRoom n) → (n + 2 ≤ length t) × (length c.lent < n)
+  pub string_nine_calls : (n : ℕ) → c.result ≡ Err (NoRoom n) → (n + 2 ≤ length t) × (length c.lent < n)
   string_nine_calls n e =
       let h = string_nine c.literal c.source c.lent σ n (sym c.contract.answer ∙ e) in
       (omega (arith, h.0, spans_long c.spans), h.1)
@@ -51,24 +53,24 @@ module _ {σ : Settings} {t : List ℕ} (c : StringCall σ t) where
   string_enough_calls v a r = shows_by c v (string_enough c.literal c.source t v σ c.lent c.kind c.spans a r)
 
 -- a call that gets n bytes, where one on the same text told n with a 9, writes n
-told_nine : (sp : Literal) (out : List ℕ) (n : ℕ) (a : Answer) → (told_as (InvalidString sp.span) sp.span.start out a).answer ≡ Text'.Refused (NoRoom n)
+told_nine : (sp : Literal) (out : List ℕ) (n : ℕ) (a : Answer) → (told_as (InvalidString sp.span) sp.span.start out a).answer ≡ Err (NoRoom n)
     → (v : List ℕ) × (a ≡ written v) × (length v ≡ n)
 told_nine l out n (borrowed f u) e = let z : ◌≡◌ {A = ℕ} 0 1 = cc in absurd (omega arith)
 told_nine l out n (refused p) e = let z : ◌≡◌ {A = ℕ} 0 1 = cc in absurd (omega arith)
 told_nine l out n (written v) e = (v, refl, go (leb (length v) (length out)) e)
   where
-    go : (x : Bool) → (if x then Text'.Written (length v) else Text'.Refused (NoRoom (length v))) ≡ Text'.Refused (NoRoom n) → length v ≡ n
+    go : (x : Bool) → (if x then Ok (Text'.Written (length v)) else Err (NoRoom (length v))) ≡ Err (NoRoom n) → length v ≡ n
     go true h = let z : ◌≡◌ {A = ℕ} 0 1 = cc in absurd (omega arith)
     go false h = cc
 
-pub string_again_calls : {σ : Settings} {t : List ℕ} (c d : StringCall σ t) (n : ℕ) → c.result ≡ Text'.Refused (NoRoom n) → n ≤ length d.lent
-    → d.result ≡ Text'.Written n
+pub string_again_calls : {σ : Settings} {t : List ℕ} (c d : StringCall σ t) (n : ℕ) → c.result ≡ Err (NoRoom n) → n ≤ length d.lent
+    → d.result ≡ Ok (Text'.Written n)
 string_again_calls {σ} {t} c d n e r = go (utf8 t) refl
   where
-    asked : (string_question c.literal c.source σ c.lent).answer ≡ Text'.Refused (NoRoom n)
+    asked : (string_question c.literal c.source σ c.lent).answer ≡ Err (NoRoom n)
     asked = sym c.contract.answer ∙ e
 
-    go : (x : Bool) → utf8 t ≡ x → d.result ≡ Text'.Written n
+    go : (x : Bool) → utf8 t ≡ x → d.result ≡ Ok (Text'.Written n)
     go false u =
         let q = sym (string_question_not_utf8 c.literal c.source t σ c.lent c.kind c.spans u) ∙ asked in
         let z : ◌≡◌ {A = ℕ} 0 1 = cc in absurd (omega arith)
@@ -80,7 +82,7 @@ string_again_calls {σ} {t} c d n e r = go (utf8 t) refl
 
 -- A TEMPORAL TEXT
 module _ {t : List ℕ} (c : TemporalCall t) where
-  pub temporal_nine_calls : (n : ℕ) → c.result ≡ Text'.Refused (NoRoom n) → (n + 2 ≤ length t) × (length c.lent < n)
+  pub temporal_nine_calls : (n : ℕ) → c.result ≡ Err (NoRoom n) → (n + 2 ≤ length t) × (length c.lent < n)
   temporal_nine_calls n e =
       let h = temporal_nine c.literal c.source c.lent n (sym c.contract.answer ∙ e) in
       (omega (arith, h.0, spans_long c.spans), h.1)
@@ -95,13 +97,13 @@ packed_never_calls c h e =
     packed_enough c.literal c.source c.lent (omega (arith, h, spans_long c.spans)) (ap packed_number (sym c.contract.answer) ∙ e)
 
 -- BITS and NUMBERS, by their span; an IDENTIFIER
-module _ (l : Literal) (S lent : List ℕ) (r : Text) (after : List ℕ) where
+module _ (l : Literal) (S lent : List ℕ) (r : Result Text Refusal) (after : List ℕ) where
   pub bits_never_calls : Meets (bits_question l S lent) r after → spanned l ≤ length lent + 3 → text_number r ≡ 9 → ⊥
   bits_never_calls m h e = bits_never l S lent h (ap text_number (sym m.answer) ∙ e)
 
   pub decimal_never_calls : Meets (decimal_question l S lent) r after → 40 ≤ length lent → spanned l ≤ length lent + 1 → text_number r ≡ 9 → ⊥
   decimal_never_calls m f h e = decimal_never l S lent f h (ap text_number (sym m.answer) ∙ e)
 
-pub identifier_never_calls : (t lent : List ℕ) (r : Identifier) (after : List ℕ) → Meets (identifier_question t lent) r after → length t ≤ length lent + 4
+pub identifier_never_calls : (t lent : List ℕ) (r : Result Text IdentifierError) (after : List ℕ) → Meets (identifier_question t lent) r after → length t ≤ length lent + 4
     → identifier_number r ≡ 9 → ⊥
 identifier_never_calls t lent r after m h e = identifier_enough t lent h (ap identifier_number (sym m.answer) ∙ e)

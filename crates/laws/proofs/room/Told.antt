@@ -17,10 +17,6 @@ use Rattle.meaning.specs.declared.Refusal.TheVariants.{WrongKind, MissingSource,
 use Rattle.meaning.specs.declared.Refusal.TheVariants.{InvalidBitString, InvalidMoney, NoRoom, InvalidDate}
 use Rattle.meaning.specs.declared.Text.{Text}
 use Rattle.meaning.specs.declared.Text.TheVariants as Text'
-use Rattle.meaning.specs.declared.Identifier.{Identifier}
-use Rattle.meaning.specs.declared.Identifier.TheVariants as Identifier'
-use Rattle.meaning.specs.declared.PackedBits.{PackedBits}
-use Rattle.meaning.specs.declared.PackedBits.TheVariants as Packed'
 use Rattle.meaning.specs.Bytes.{part}
 use Rattle.std.specs.Prelude.{if◌then◌else◌}
 use Rattle.meaning.specs.Chars.{utf8}
@@ -29,6 +25,10 @@ use Rattle.meaning.specs.Answers.{by_room, refusal_number, text_number, packed_n
 use Rattle.meaning.specs.Questions.{Tested, passes, barred, bad_span, source_text, tested, told_as, told}
 use Rattle.laws.proofs.questions.Asked.{Spans}
 use Rattle.laws.proofs.questions.Ranges.{span_range}
+use Rattle.std.specs.Prelude.{Result, Ok, Err}
+use Rattle.meaning.specs.declared.IdentifierError.{IdentifierError}
+use Rattle.meaning.specs.declared.IdentifierError.TheVariants as IdentifierError'
+use Rattle.meaning.specs.declared.PackedBits.{PackedBits}
 
 -- A READING whose written values all have a length of which P holds
 abbrev pub Writes : (ℕ → Type 0) → Answer → Type 0
@@ -49,21 +49,21 @@ RefusalNeeds P m (InvalidBitString s) = Unit {0}
 RefusalNeeds P m (InvalidMoney s) = Unit {0}
 RefusalNeeds P m (InvalidDate s) = Unit {0}
 
-abbrev pub TextNeeds : (ℕ → Type 0) → ℕ → Text → Type 0
-TextNeeds P m (Text'.Borrowed f u) = Unit {0}
-TextNeeds P m (Text'.Written n) = P n × (n ≤ m)
-TextNeeds P m (Text'.Refused r) = RefusalNeeds P m r
+abbrev pub TextNeeds : (ℕ → Type 0) → ℕ → Result Text Refusal → Type 0
+TextNeeds P m (Ok (Text'.Borrowed f u)) = Unit {0}
+TextNeeds P m (Ok (Text'.Written n)) = P n × (n ≤ m)
+TextNeeds P m (Err r) = RefusalNeeds P m r
 
-abbrev pub PackedNeeds : (ℕ → Type 0) → ℕ → PackedBits → Type 0
-PackedNeeds P m (Packed'.Written n b) = P n × (n ≤ m)
-PackedNeeds P m (Packed'.Refused r) = RefusalNeeds P m r
+abbrev pub PackedNeeds : (ℕ → Type 0) → ℕ → Result PackedBits Refusal → Type 0
+PackedNeeds P m (Ok π) = P π.len × (π.len ≤ m)
+PackedNeeds P m (Err r) = RefusalNeeds P m r
 
-abbrev pub IdentifierNeeds : (ℕ → Type 0) → ℕ → Identifier → Type 0
-IdentifierNeeds P m (Identifier'.Borrowed f u) = Unit {0}
-IdentifierNeeds P m (Identifier'.Written n) = P n × (n ≤ m)
-IdentifierNeeds P m Identifier'.NotUtf8 = Unit {0}
-IdentifierNeeds P m Identifier'.InvalidString = Unit {0}
-IdentifierNeeds P m (Identifier'.NoRoom n) = P n × (m < n)
+abbrev pub IdentifierNeeds : (ℕ → Type 0) → ℕ → Result Text IdentifierError → Type 0
+IdentifierNeeds P m (Ok (Text'.Borrowed f u)) = Unit {0}
+IdentifierNeeds P m (Ok (Text'.Written n)) = P n × (n ≤ m)
+IdentifierNeeds P m (Err IdentifierError'.NotUtf8) = Unit {0}
+IdentifierNeeds P m (Err IdentifierError'.InvalidString) = Unit {0}
+IdentifierNeeds P m (Err (IdentifierError'.NoRoom n)) = P n × (m < n)
 
 -- where each such length fits the buffer there is no 9
 module _ (P : ℕ → Type 0) (m : ℕ) (fits : (n : ℕ) → P n → n ≤ m) where
@@ -82,21 +82,21 @@ module _ (P : ℕ → Type 0) (m : ℕ) (fits : (n : ℕ) → P n → n ≤ m) w
   refusal_never (InvalidMoney s) a e = omega arith
   refusal_never (InvalidDate s) a e = omega arith
 
-  pub text_never : (a : Text) → TextNeeds P m a → text_number a ≡ 9 → ⊥
-  text_never (Text'.Borrowed f u) x e = omega arith
-  text_never (Text'.Written n) x e = omega arith
-  text_never (Text'.Refused r) x e = refusal_never r x e
+  pub text_never : (a : Result Text Refusal) → TextNeeds P m a → text_number a ≡ 9 → ⊥
+  text_never (Ok (Text'.Borrowed f u)) x e = omega arith
+  text_never (Ok (Text'.Written n)) x e = omega arith
+  text_never (Err r) x e = refusal_never r x e
 
-  pub packed_never : (a : PackedBits) → PackedNeeds P m a → packed_number a ≡ 9 → ⊥
-  packed_never (Packed'.Written n b) x e = omega arith
-  packed_never (Packed'.Refused r) x e = refusal_never r x e
+  pub packed_never : (a : Result PackedBits Refusal) → PackedNeeds P m a → packed_number a ≡ 9 → ⊥
+  packed_never (Ok π) x e = omega arith
+  packed_never (Err r) x e = refusal_never r x e
 
-  pub identifier_never : (a : Identifier) → IdentifierNeeds P m a → identifier_number a ≡ 9 → ⊥
-  identifier_never (Identifier'.Borrowed f u) x e = omega arith
-  identifier_never (Identifier'.Written n) x e = omega arith
-  identifier_never Identifier'.NotUtf8 x e = omega arith
-  identifier_never Identifier'.InvalidString x e = omega arith
-  identifier_never (Identifier'.NoRoom n) x e = no_room n x
+  pub identifier_never : (a : Result Text IdentifierError) → IdentifierNeeds P m a → identifier_number a ≡ 9 → ⊥
+  identifier_never (Ok (Text'.Borrowed f u)) x e = omega arith
+  identifier_never (Ok (Text'.Written n)) x e = omega arith
+  identifier_never (Err IdentifierError'.NotUtf8) x e = omega arith
+  identifier_never (Err IdentifierError'.InvalidString) x e = omega arith
+  identifier_never (Err (IdentifierError'.NoRoom n)) x e = no_room n x
 
 -- a length is told as written where there is room for it, and else as needed
 pub by_room_lem : {A : Type 0} (Q : A → Type 0) (long short : ℕ → A) (n m : ℕ) → (n ≤ m → Q (long n)) → (m < n → Q (short n)) → Q (by_room long short n m)
@@ -143,7 +143,7 @@ module _ (P : ℕ → Type 0) (f : List ℕ → Answer) (bad : Span → ℕ → 
   told_as_needs : (a : Answer) → Writes P a → TextNeeds P (length out) (told_as (bad l.span) l.span.start out a).answer
   told_as_needs (borrowed g u) w = tt
   told_as_needs (written v) w =
-      by_room_lem (TextNeeds P (length out)) Text'.Written (λ n. Text'.Refused (NoRoom n)) (length v) (length out) (λ h. (w, h)) (λ h. (w, h))
+      by_room_lem (TextNeeds P (length out)) (λ n. Ok (Text'.Written n)) (λ n. Err (NoRoom n)) (length v) (length out) (λ h. (w, h)) (λ h. (w, h))
   told_as_needs (refused p) w = other l.span p
 
   pub told_needs : (bad_span l.span S ≡ false → Writes P (f (part l.span.start l.span.end S))) → (right : Bool) (e : LiteralExpected)

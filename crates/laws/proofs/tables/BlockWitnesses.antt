@@ -18,6 +18,7 @@ use Rattle.meaning.specs.Codes.{literal_of, settings_of}
 use Rattle.meaning.specs.Blocks.{item_asked, bad_block, BlockOutcome, block_call, Blocks}
 use Rattle.laws.proofs.questions.BlockReturns.{BlockCall, Returned, block_calls, LeavesOut, refused_out, Splits, split_calls}
 use Rattle.laws.proofs.tables.Controls.{two}
+use Rattle.std.specs.Prelude.{Ok}
 
 -- what a call computes meets its contract
 pub met : {o : BlockOutcome} {r : ℕ} {a d : List ℕ} → o ≡ record { number = r; answers = a; buffer = d } → Blocks o r a d
@@ -59,13 +60,13 @@ three_call = record {
   contract = met three_told;
 }
 
-pub third_single : Meets (string_question (literal_of 4 0 0 7) two (settings_of 0) (drop 2 buffer)) (Written 2) (ascii "ab" ++ (7 ∷ []))
+pub third_single : Meets (string_question (literal_of 4 0 0 7) two (settings_of 0) (drop 2 buffer)) (Ok (Written 2)) (ascii "ab" ++ (7 ∷ []))
 unfolding string_question tested source_text bad_span cuts_character within utf8 lead read continues segment is_mark segment_step cut
     is_space one spelling encloses answer doubled named filled
 third_single = record { answer = refl; buffer = refl }
 
-pub third_returned : Returned three_call 8 (Written 2) (ascii "ab" ++ (7 ∷ []))
-third_returned = block_calls (written ++ refused) 4 0 0 7 [] two refl three_call refl refl (Written 2) (ascii "ab" ++ (7 ∷ [])) third_single
+pub third_returned : Returned three_call 8 (Ok (Written 2)) (ascii "ab" ++ (7 ∷ []))
+third_returned = block_calls (written ++ refused) 4 0 0 7 [] two refl three_call refl refl (Ok (Written 2)) (ascii "ab" ++ (7 ∷ [])) third_single
 
 -- WITHOUT THE SECOND, by another call on the same buffer
 pub both_told : block_call (written ++ written) two slice buffer

@@ -19,6 +19,8 @@ use Rattle.meaning.specs.Spelling.{encloses, spelling}
 use Rattle.meaning.specs.Reading.{answer, one, read}
 use Rattle.meaning.specs.Answers.{Outcome, Meets, text_number, text_values, part_shown, shown, filled}
 use Rattle.meaning.specs.Questions.{cuts_character, bad_span, source_text, tested, string_question}
+use Rattle.std.specs.Prelude.{Result}
+use Rattle.meaning.specs.declared.Refusal.{Refusal}
 
 -- A PROGRAM is a function from all that a question is given, x and the buffer, to its result and the final buffer; so is the question. `Right` is its contract
 abbrev pub Program : Type 0 → Type 0 → Type 0
@@ -127,11 +129,11 @@ set true = on
 set false = off
 
 -- of a question that answers a text: the view shows the source's part or the buffer's
-abbrev pub text_telling : {X : Type 0} → (X → List ℕ) → Telling X Text
+abbrev pub text_telling : {X : Type 0} → (X → List ℕ) → Telling X (Result Text Refusal)
 text_telling source = record { number = text_number; values = text_values; view = λ x o. shown (source x) o.buffer o.answer }
 
 -- THE STRING QUESTION writes ab for 'a' 'b'
-abbrev pub on_string : Program (Literal × List ℕ × Settings) Text
+abbrev pub on_string : Program (Literal × List ℕ × Settings) (Result Text Refusal)
 on_string x out = string_question x.0 x.1 x.2 out
 
 abbrev pub two : List ℕ

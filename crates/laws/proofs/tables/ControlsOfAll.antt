@@ -17,10 +17,8 @@ use Rattle.meaning.specs.declared.BitStringRadix.TheVariants.{Binary}
 use Rattle.meaning.specs.declared.LiteralKind.TheVariants as Kind
 use Rattle.meaning.specs.declared.Literal.{Literal}
 use Rattle.meaning.specs.declared.Text.{Text}
-use Rattle.meaning.specs.declared.Identifier.{Identifier}
-use Rattle.meaning.specs.declared.Identifier.TheVariants as Identifier'
-use Rattle.meaning.specs.declared.Writing.{Writing}
-use Rattle.meaning.specs.declared.Writing.TheVariants as Writing'
+use Rattle.meaning.specs.declared.WritingError.{WritingError}
+use Rattle.meaning.specs.declared.WritingError.TheVariants as WritingError'
 use Rattle.meaning.specs.Bytes.{◌!◌, ascii, within, is_mark, digit, all_digits}
 use Rattle.meaning.specs.Chars.{lead, utf8, width, more, encode, is_scalar, is_space}
 use Rattle.meaning.specs.Steps.{doubled, may_escape, scalar_by, uescaped}
@@ -37,12 +35,18 @@ use Rattle.meaning.specs.Writer.{spell, written_text, over_limit, unwritable_nul
 use Rattle.meaning.specs.Forms.{figure, is_doubled, escape_form, unicode_figures, form_text, form_question}
 use Rattle.laws.proofs.tables.Controls.{Program, Right, Telling, room, WritesAt, shows_only, ShutOut, shut_out, all_as, all_of_it, set, text_telling, two}
 use Rattle.laws.proofs.writing.WriterParts.{Every}
+use Rattle.std.specs.Prelude.{Result}
+use Rattle.meaning.specs.declared.Refusal.{Refusal}
+use Rattle.std.specs.Prelude.{Ok, Err}
+use Rattle.meaning.specs.declared.Text.TheVariants as Text'
+use Rattle.meaning.specs.declared.IdentifierError.{IdentifierError}
+use Rattle.meaning.specs.declared.IdentifierError.TheVariants as IdentifierError'
 
 -- questions on a literal and its source
 abbrev pub OnSource : Type 0
-OnSource = Program (Literal × List ℕ) Text
+OnSource = Program (Literal × List ℕ) (Result Text Refusal)
 
-abbrev pub source_telling : Telling (Literal × List ℕ) Text
+abbrev pub source_telling : Telling (Literal × List ℕ) (Result Text Refusal)
 source_telling = text_telling (λ x. x.1)
 
 -- AS_STR writes ab for 'a' 'b'
@@ -102,14 +106,14 @@ pub temporal_shut_out : ShutOut on_temporal source_telling (all_as Kind.Date two
 temporal_shut_out = shut_out temporal_writes
 
 -- IDENTIFIERS: a for U&"\0061". Of an answer the text's part or the buffer's is shown
-abbrev pub identifier_view : List ℕ → List ℕ → Identifier → List ℕ
-identifier_view t out (Identifier'.Borrowed f u) = part_shown f u t
-identifier_view t out (Identifier'.Written n) = part_shown 0 n out
-identifier_view t out Identifier'.NotUtf8 = []
-identifier_view t out Identifier'.InvalidString = []
-identifier_view t out (Identifier'.NoRoom n) = []
+abbrev pub identifier_view : List ℕ → List ℕ → Result Text IdentifierError → List ℕ
+identifier_view t out (Ok (Text'.Borrowed f u)) = part_shown f u t
+identifier_view t out (Ok (Text'.Written n)) = part_shown 0 n out
+identifier_view t out (Err IdentifierError'.NotUtf8) = []
+identifier_view t out (Err IdentifierError'.InvalidString) = []
+identifier_view t out (Err (IdentifierError'.NoRoom n)) = []
 
-abbrev pub identifier_telling : Telling (List ℕ) Identifier
+abbrev pub identifier_telling : Telling (List ℕ) (Result Text IdentifierError)
 identifier_telling = record { number = identifier_number; values = identifier_values; view = λ t o. identifier_view t o.buffer o.answer }
 
 abbrev pub unicode_name : List ℕ
@@ -124,17 +128,17 @@ pub identifier_shut_out : ShutOut identifier_question identifier_telling unicode
 identifier_shut_out = shut_out identifier_writes
 
 -- THE WRITER, for the value 'abcd in parts of four bytes, at either setting. What it wrote is shown
-abbrev pub writing_view : List ℕ → Writing → List ℕ
-writing_view out (Writing'.Written n) = part_shown 0 n out
-writing_view out Writing'.OverLimit = []
-writing_view out Writing'.NotUtf8 = []
-writing_view out Writing'.HoldsNul = []
-writing_view out (Writing'.NoRoom n) = []
+abbrev pub writing_view : List ℕ → Result ℕ WritingError → List ℕ
+writing_view out (Ok n) = part_shown 0 n out
+writing_view out (Err WritingError'.OverLimit) = []
+writing_view out (Err WritingError'.NotUtf8) = []
+writing_view out (Err WritingError'.HoldsNul) = []
+writing_view out (Err (WritingError'.NoRoom n)) = []
 
-abbrev pub writer_telling : Telling (Settings × PartSize × List ℕ) Writing
+abbrev pub writer_telling : Telling (Settings × PartSize × List ℕ) (Result ℕ WritingError)
 writer_telling = record { number = writing_number; values = writing_values; view = λ x o. writing_view o.buffer o.answer }
 
-abbrev pub on_writer : Program (Settings × PartSize × List ℕ) Writing
+abbrev pub on_writer : Program (Settings × PartSize × List ℕ) (Result ℕ WritingError)
 on_writer x out = write_question x.0 x.1 x.2 out
 
 abbrev pub in_parts : Bool → Settings × PartSize × List ℕ
@@ -157,7 +161,7 @@ abbrev pub other_gaps : List (List ℕ)
 other_gaps =
     ascii "'''abc' 'd'" ∷ ascii "'''abc'\r\n'd'" ∷ ascii "'''abc'\n'd'\n" ∷ ascii "\n'''abc'\n'd'" ∷ ascii "'''abc''d'" ∷ []
 
-pub no_other_gap : (b : Bool) (p : Program (Settings × PartSize × List ℕ) Writing) → Right on_writer p
+pub no_other_gap : (b : Bool) (p : Program (Settings × PartSize × List ℕ) (Result ℕ WritingError)) → Right on_writer p
     → Every (λ u. writer_telling.view (in_parts b) (p (in_parts b) (room two_parts)) ≡ u → ⊥) other_gaps
 no_other_gap b p right = (apart 7 refl, (apart 7 refl, (apart 11 refl, (apart 0 refl, (apart 7 refl, tt)))))
   where
@@ -166,10 +170,10 @@ no_other_gap b p right = (apart 7 refl, (apart 7 refl, (apart 11 refl, (apart 0 
     apart {u} i f e = eqb-false (u ! i) (two_parts ! i) f (ap (◌! i) (shows_only on_writer writer_telling (in_parts b) two_parts (writer_writes b) p right u e))
 
 -- IN A FORM: E for the value a' and a byte 01, and U& for a character of two bytes and a backslash
-abbrev pub form_telling : Telling (Form × List ℕ) Writing
+abbrev pub form_telling : Telling (Form × List ℕ) (Result ℕ WritingError)
 form_telling = record { number = writing_number; values = writing_values; view = λ x o. writing_view o.buffer o.answer }
 
-abbrev pub on_form : Program (Form × List ℕ) Writing
+abbrev pub on_form : Program (Form × List ℕ) (Result ℕ WritingError)
 on_form x out = form_question x.0 x.1 out
 
 pub escape_writes : WritesAt on_form form_telling (Escape, ascii "a'" ++ (1 ∷ [])) (ascii "E'a''\\001'")

@@ -5,11 +5,11 @@ use mathlib.Core.Bool.{true, false}
 use Prim.Native.Nat.{ℕ, suc, ◌<◌}
 use native.Mathlib.Omega.{arith}
 use Rattle.meaning.specs.declared.CalendarDay.{CalendarDay}
-use Rattle.meaning.specs.declared.Day.TheVariants as Day'
 use Rattle.meaning.specs.Bytes.{within}
 use Rattle.meaning.specs.Dates.{is_leap, month_length, year_length, day_number, is_day, calendar_day, date_of, day_question}
 use Rattle.laws.proofs.dates.Calendar.{Earlier, by_year, by_month, by_day, later_larger, larger_later, same_number, number_back, back_number}
 use Rattle.laws.proofs.dates.Calendar.{day_outside, day_back, day_only, next_day, next_month, next_year}
+use Rattle.std.specs.Prelude.{Some, None}
 
 -- DAYS AND NO DAYS. 2024 and 2000 are leap years, 2023 and 1900 are none; years end at 9999, months at 12
 pub days : (is_day 1 1 1 ≡ true) × (is_day 2000 2 29 ≡ true) × (is_day 2024 2 29 ≡ true) × (is_day 2024 3 1 ≡ true) × (is_day 9999 12 31 ≡ true)
@@ -59,12 +59,12 @@ pub back_again : (is_day (date_of 738945).year (date_of 738945).month (date_of 7
 back_again = back_number 738945 (omega arith) (omega arith)
 
 -- THE QUESTION: a day, both ends, and a number past each
-pub told : (day_question 738945 ≡ Day'.On leap_day) × (day_question 1 ≡ Day'.On (record { year = 1; month = 1; day = 1; number = 1 }))
-    × (day_question 3652059 ≡ Day'.On (record { year = 9999; month = 12; day = 31; number = 3652059 }))
+pub told : (day_question 738945 ≡ Some leap_day) × (day_question 1 ≡ Some (record { year = 1; month = 1; day = 1; number = 1 }))
+    × (day_question 3652059 ≡ Some (record { year = 9999; month = 12; day = 31; number = 3652059 }))
 unfolding is_day within calendar_day day_number month_length year_length is_leap
 told = (day_back 2024 2 29 refl, day_back 1 1 1 refl, day_back 9999 12 31 refl)
 
-pub told_no_day : (day_question 0 ≡ Day'.InvalidDate) × (day_question 3652060 ≡ Day'.InvalidDate)
+pub told_no_day : (day_question 0 ≡ None) × (day_question 3652060 ≡ None)
 told_no_day = (day_outside 0 (inl refl), day_outside 3652060 (inr (omega arith)))
 
 pub told_only : (is_day 2024 2 29 ≡ true) × (leap_day ≡ calendar_day 2024 2 29) × (◌≡◌ {A = ℕ} 738945 738945)

@@ -14,10 +14,8 @@ use Rattle.meaning.specs.declared.BitStringRadix.{BitStringRadix}
 use Rattle.meaning.specs.declared.BitStringRadix.TheVariants.{Binary, Hex}
 use Rattle.meaning.specs.declared.LiteralKind.TheVariants as Kind
 use Rattle.meaning.specs.declared.Literal.{Literal}
-use Rattle.meaning.specs.declared.PackedBits.{PackedBits}
-use Rattle.meaning.specs.declared.PackedBits.TheVariants as Packed'
-use Rattle.meaning.specs.declared.BitWriting.{BitWriting}
-use Rattle.meaning.specs.declared.BitWriting.TheVariants as BitWriting'
+use Rattle.meaning.specs.declared.BitWritingError.{BitWritingError}
+use Rattle.meaning.specs.declared.BitWritingError.TheVariants as BitWritingError'
 use Rattle.meaning.specs.Bytes.{◌!◌, ascii, same, quote, within, is_mark, digit, all_digits}
 use Rattle.meaning.specs.Chars.{lead, utf8, is_space}
 use Rattle.meaning.specs.Steps.{doubled}
@@ -38,16 +36,20 @@ use Rattle.laws.proofs.packing.RoundTrip.{OneUpper}
 use Rattle.laws.proofs.questions.Asked.{Spans}
 use Rattle.laws.proofs.basics.Digits.{DigitsTo}
 use Rattle.laws.proofs.packing.Gathered.{Below, below_append, units_most}
+use Rattle.std.specs.Prelude.{Result, Ok, Err}
+use Rattle.meaning.specs.declared.Refusal.{Refusal}
+use Rattle.meaning.specs.declared.PackedBits.{PackedBits}
+use Rattle.meaning.specs.Answers.{packed_at}
 
 -- PACKING writes 12 30 for X'1' '2' '3'
-abbrev pub packed_view : List ℕ → PackedBits → List ℕ
-packed_view out (Packed'.Written n b) = part_shown 0 n out
-packed_view out (Packed'.Refused r) = []
+abbrev pub packed_view : List ℕ → Result PackedBits Refusal → List ℕ
+packed_view out (Ok π) = part_shown 0 π.len out
+packed_view out (Err r) = []
 
-abbrev pub packed_telling : Telling (Literal × List ℕ) PackedBits
+abbrev pub packed_telling : Telling (Literal × List ℕ) (Result PackedBits Refusal)
 packed_telling = record { number = packed_number; values = packed_values; view = λ x o. packed_view o.buffer o.answer }
 
-abbrev pub on_packed : Program (Literal × List ℕ) PackedBits
+abbrev pub on_packed : Program (Literal × List ℕ) (Result PackedBits Refusal)
 on_packed x out = packed_question x.0 x.1 out
 
 abbrev pub three_hex : Literal × List ℕ
@@ -68,7 +70,7 @@ packed_shut_out = shut_out packed_writes
 abbrev pub other_bytes : List (List ℕ)
 other_bytes = (0x48 ∷ 0x0C ∷ []) ∷ (0x12 ∷ 0x03 ∷ []) ∷ (0x10 ∷ 0x20 ∷ 0x30 ∷ []) ∷ (0x12 ∷ 0x3F ∷ []) ∷ []
 
-module _ (p : Program (Literal × List ℕ) PackedBits) (right : Right on_packed p) where
+module _ (p : Program (Literal × List ℕ) (Result PackedBits Refusal)) (right : Right on_packed p) where
   pub no_other_bytes : Every (λ u. packed_telling.view three_hex (p three_hex (room three_packed)) ≡ u → ⊥) other_bytes
   no_other_bytes = (apart 0 refl, (apart 1 refl, (apart 0 refl, (apart 1 refl, tt))))
     where
@@ -76,29 +78,29 @@ module _ (p : Program (Literal × List ℕ) PackedBits) (right : Right on_packed
       apart {u} i f e = eqb-false (u ! i) (three_packed ! i) f (ap (◌! i) (shows_only on_packed packed_telling three_hex three_packed packed_writes p right u e))
 
   -- bits are counted: not digits, and not whole bytes
-  pub counts_bits : (p three_hex (room three_packed)).answer ≡ Packed'.Written 2 12
+  pub counts_bits : (p three_hex (room three_packed)).answer ≡ Ok (packed_at 2 12)
   unfolding packed_question tested source_text bad_span cuts_character within utf8 lead bits cut segment_step segment is_mark is_space doubled named bit_body all_digits
       digit bits_in pack_bits
   counts_bits = (right three_hex (room three_packed)).answer
 
 -- "by the kind's radix, not the letter": B'1' of the hex kind is four bits, X'1' of the binary kind is one
-pub by_kind : (packed_question (all_as (Kind.BitString Hex) (ascii "B'1'")) (ascii "B'1'") (0 ∷ []) ≡ record { answer = Packed'.Written 1 4; buffer = 0x10 ∷ [] })
-    × (packed_question (all_as (Kind.BitString Binary) (ascii "X'1'")) (ascii "X'1'") (0 ∷ []) ≡ record { answer = Packed'.Written 1 1; buffer = 0x80 ∷ [] })
+pub by_kind : (packed_question (all_as (Kind.BitString Hex) (ascii "B'1'")) (ascii "B'1'") (0 ∷ []) ≡ record { answer = Ok (packed_at 1 4); buffer = 0x10 ∷ [] })
+    × (packed_question (all_as (Kind.BitString Binary) (ascii "X'1'")) (ascii "X'1'") (0 ∷ []) ≡ record { answer = Ok (packed_at 1 1); buffer = 0x80 ∷ [] })
 unfolding packed_question tested source_text bad_span cuts_character within utf8 lead bits cut segment_step segment is_mark is_space doubled named bit_body all_digits
     digit bits_in pack_bits filled
 by_kind = (refl, refl)
 
 -- THE REVERSE writes X'ABC' for AB C0 and 12 bits
-abbrev pub bit_writing_view : List ℕ → BitWriting → List ℕ
-bit_writing_view out (BitWriting'.Written n) = part_shown 0 n out
-bit_writing_view out BitWriting'.OverLimit = []
-bit_writing_view out BitWriting'.BadBits = []
-bit_writing_view out (BitWriting'.NoRoom n) = []
+abbrev pub bit_writing_view : List ℕ → Result ℕ BitWritingError → List ℕ
+bit_writing_view out (Ok n) = part_shown 0 n out
+bit_writing_view out (Err BitWritingError'.OverLimit) = []
+bit_writing_view out (Err BitWritingError'.BadBits) = []
+bit_writing_view out (Err (BitWritingError'.NoRoom n)) = []
 
-abbrev pub reverse_telling : Telling (BitStringRadix × List ℕ × ℕ) BitWriting
+abbrev pub reverse_telling : Telling (BitStringRadix × List ℕ × ℕ) (Result ℕ BitWritingError)
 reverse_telling = record { number = bit_writing_number; values = bit_writing_values; view = λ x o. bit_writing_view o.buffer o.answer }
 
-abbrev pub on_reverse : Program (BitStringRadix × List ℕ × ℕ) BitWriting
+abbrev pub on_reverse : Program (BitStringRadix × List ℕ × ℕ) (Result ℕ BitWritingError)
 on_reverse x out = bit_write_question x.0 x.1 x.2 out
 
 abbrev pub twelve_bits : BitStringRadix × List ℕ × ℕ
@@ -115,7 +117,7 @@ reverse_shut_out = shut_out reverse_writes
 abbrev pub other_literals : List (List ℕ)
 other_literals = ascii "X'abc'" ∷ ascii "X'ABC0'" ∷ ascii "B'101010111100'" ∷ []
 
-pub no_other_literal : (p : Program (BitStringRadix × List ℕ × ℕ) BitWriting) → Right on_reverse p
+pub no_other_literal : (p : Program (BitStringRadix × List ℕ × ℕ) (Result ℕ BitWritingError)) → Right on_reverse p
     → Every (λ u. reverse_telling.view twelve_bits (p twelve_bits (room (ascii "X'ABC'"))) ≡ u → ⊥) other_literals
 no_other_literal p right = (apart 2 refl, (apart 5 refl, (apart 0 refl, tt)))
   where
@@ -126,8 +128,8 @@ no_other_literal p right = (apart 2 refl, (apart 5 refl, (apart 0 refl, tt)))
     apart {u} i f e = eqb-false (u ! i) (due ! i) f (ap (◌! i) (shows_only on_reverse reverse_telling twelve_bits due reverse_writes p right u e))
 
 -- 16: a byte too many and one too few, X with a count that is no multiple of four, an unused bit that is set; before 9, since nothing is lent
-pub sixteens : ((bit_write_question Binary (0x80 ∷ 0 ∷ []) 8 []).answer ≡ BitWriting'.BadBits) × ((bit_write_question Binary (0x80 ∷ []) 9 []).answer ≡ BitWriting'.BadBits)
-    × ((bit_write_question Hex (0x80 ∷ []) 5 []).answer ≡ BitWriting'.BadBits) × ((bit_write_question Binary (0x81 ∷ []) 7 []).answer ≡ BitWriting'.BadBits)
+pub sixteens : ((bit_write_question Binary (0x80 ∷ 0 ∷ []) 8 []).answer ≡ Err BitWritingError'.BadBits) × ((bit_write_question Binary (0x80 ∷ []) 9 []).answer ≡ Err BitWritingError'.BadBits)
+    × ((bit_write_question Hex (0x80 ∷ []) 5 []).answer ≡ Err BitWritingError'.BadBits) × ((bit_write_question Binary (0x81 ∷ []) 7 []).answer ≡ Err BitWritingError'.BadBits)
 unfolding bit_write_question over_limit bad_bits
 sixteens = (refl, refl, refl, refl)
 
@@ -135,8 +137,8 @@ sixteens = (refl, refl, refl, refl)
 pub record ComesBack (r : BitStringRadix) (t u : List ℕ) : Type 0 where
   pub bytes : List ℕ
   pub count : ℕ
-  pub packs : packed_question (all_as (Kind.BitString r) t) t (0 ∷ []) ≡ record { answer = Packed'.Written (length bytes) count; buffer = bytes }
-  pub writes : bit_write_question r bytes count (replicate (length u) 0) ≡ record { answer = BitWriting'.Written (length u); buffer = u }
+  pub packs : packed_question (all_as (Kind.BitString r) t) t (0 ∷ []) ≡ record { answer = Ok (packed_at (length bytes) count); buffer = bytes }
+  pub writes : bit_write_question r bytes count (replicate (length u) 0) ≡ record { answer = Ok (length u); buffer = u }
   pub other : same t u ≡ false
 
 -- "just one segment": two of them, and one with white space behind it (D07-8). The other premises hold
@@ -214,7 +216,7 @@ ones_spans n =
     }
 
 module _ (n : ℕ) (l : Literal) (S d : List ℕ) (k : l.kind ≡ Kind.BitString Binary) (h : Spans l S (ones n)) (room : packed_length n ≤ length d) where
-  pub ones_packed : (packed_question l S d).answer ≡ Packed'.Written (packed_length n) n
+  pub ones_packed : (packed_question l S d).answer ≡ Ok (packed_at (packed_length n) n)
   ones_packed =
       let c : 1 * length (one_digits n) ≡ n = one-mul (length (one_digits n)) ∙ ones_length n in
       rw c
@@ -222,7 +224,7 @@ module _ (n : ℕ) (l : Literal) (S d : List ℕ) (k : l.kind ≡ Kind.BitString
       (bit_text_means Binary off 2 (omega arith) (one_digits n) (ones_are n)) (rw c room))
 
   pub needs_limit : 2147483648 < n → (e : List ℕ)
-      → bit_write_question Binary (take (packed_length n) (packed_question l S d).buffer) n e ≡ record { answer = BitWriting'.OverLimit; buffer = e }
+      → bit_write_question Binary (take (packed_length n) (packed_question l S d).buffer) n e ≡ record { answer = Err BitWritingError'.OverLimit; buffer = e }
   needs_limit many e =
       let a = packed_written Binary l S (ones n) d k h (packed_length n) n ones_packed in
       let size : length (take (packed_length n) (packed_question l S d).buffer) ≡ packed_length n = ap length (packed_bytes a) ∙ sym a.size in
@@ -232,6 +234,6 @@ module _ (n : ℕ) (l : Literal) (S d : List ℕ) (k : l.kind ≡ Kind.BitString
 pub row_needs_limit : (d e : List ℕ) → 268435457 ≤ length d
     → bit_write_question Binary
     (take 268435457 (packed_question (all_as (Kind.BitString Binary) (ones 2147483649)) (ones 2147483649) d).buffer) 2147483649 e
-    ≡ record { answer = BitWriting'.OverLimit; buffer = e }
+    ≡ record { answer = Err BitWritingError'.OverLimit; buffer = e }
 row_needs_limit d e room =
     needs_limit 2147483649 (all_as (Kind.BitString Binary) (ones 2147483649)) (ones 2147483649) d refl (ones_spans 2147483649) room (omega arith) e

@@ -7,8 +7,7 @@ use lib.ListN.{replicate}
 use Rattle.meaning.specs.declared.BitStringRadix.TheVariants.{Binary, Hex}
 use Rattle.meaning.specs.declared.LiteralKind.TheVariants as Kind
 use Rattle.meaning.specs.declared.Refusal.TheVariants.{InvalidBitString, NoRoom}
-use Rattle.meaning.specs.declared.PackedBits.TheVariants as Packed'
-use Rattle.meaning.specs.declared.BitWriting.TheVariants as BitWriting'
+use Rattle.meaning.specs.declared.BitWritingError.TheVariants as BitWritingError'
 use Rattle.meaning.specs.Bytes.{◌!◌, ascii, within, is_mark, digit, all_digits}
 use Rattle.meaning.specs.Chars.{lead, utf8, is_space}
 use Rattle.meaning.specs.Steps.{doubled}
@@ -29,6 +28,9 @@ use Rattle.laws.proofs.packing.Reverse.{Fine, fine_bits}
 use Rattle.laws.proofs.packing.RoundTrip.{OneUpper}
 use Rattle.laws.proofs.packing.Joined.{Run, runs, run_digits}
 use Rattle.laws.proofs.packing.Called.{PackedCall, BitWriterCall, bytes_calls, literal_calls, run_calls}
+use Rattle.std.specs.Prelude.{Ok}
+use Rattle.std.specs.Prelude.{Err}
+use Rattle.meaning.specs.Answers.{packed_at}
 
 -- BYTES AND COUNT: AB C0 and 12 bits, written as X'ABC' by a call, and packed by another
 abbrev pub twelve : List ℕ
@@ -47,7 +49,7 @@ unfoldable pub twelve_written : BitWriterCall Hex twelve 12
 unfolding bit_write_question over_limit bad_bits bit_literal bit_digits figure filled
 twelve_written = record {
   lent = replicate 7 0;
-  result = BitWriting'.Written 6;
+  result = Ok 6;
   after = ascii "X'ABC'" ++ (0 ∷ []);
   contract = record { answer = refl; buffer = refl };
 }
@@ -62,12 +64,12 @@ twelve_packed = record {
   lent = replicate 3 0;
   kind = refl;
   spans = record { real = refl; fits = refl; text = refl };
-  result = Packed'.Written 2 12;
+  result = Ok (packed_at 2 12);
   after = twelve ++ (0 ∷ []);
   contract = record { answer = refl; buffer = refl };
 }
 
-pub twelve_back : (twelve_packed.result ≡ Packed'.Written 2 12) × (twelve_packed.after ≡ twelve ++ (0 ∷ []))
+pub twelve_back : (twelve_packed.result ≡ Ok (packed_at 2 12)) × (twelve_packed.after ≡ twelve ++ (0 ∷ []))
 unfolding twelve_written twelve_packed
 twelve_back = bytes_calls Hex twelve 12 twelve_below twelve_written 6 refl twelve_packed (omega arith)
 
@@ -76,7 +78,7 @@ pub abc_one : OneUpper Hex (ascii "X'ABC'")
 unfolding segment is_mark doubled
 abc_one = record { alone = refl; letter = refl; upper = low_upper (ascii "X'ABC'") (omega arith) }
 
-pub abc_back : (twelve_written.result ≡ BitWriting'.Written 6) × (twelve_written.after ≡ ascii "X'ABC'" ++ (0 ∷ []))
+pub abc_back : (twelve_written.result ≡ Ok 6) × (twelve_written.after ≡ ascii "X'ABC'" ++ (0 ∷ []))
 unfolding twelve_written twelve_packed
 abc_back = literal_calls Hex (ascii "X'ABC'") abc_one twelve_packed 2 12 refl (omega arith) twelve_written (omega arith)
 
@@ -104,7 +106,7 @@ joined_call = record {
   lent = 0 ∷ [];
   kind = refl;
   spans = record { real = refl; fits = refl; text = refl };
-  result = Packed'.Written 1 2;
+  result = Ok (packed_at 1 2);
   after = 0xC0 ∷ [];
   contract = record { answer = refl; buffer = refl };
 }
@@ -118,7 +120,7 @@ lone_call = record {
   lent = 0 ∷ [];
   kind = refl;
   spans = record { real = refl; fits = refl; text = refl };
-  result = Packed'.Written 1 2;
+  result = Ok (packed_at 1 2);
   after = 0xC0 ∷ [];
   contract = record { answer = refl; buffer = refl };
 }
@@ -129,13 +131,13 @@ run_same = run_calls Binary (ascii "1") one_digit (second ∷ []) [] refl joined
 
 -- A REFUSAL: X'F' of the binary kind, by 7 with its span, as the bits question gives it with another buffer
 pub refused_alike : (packed_question (all_as (Kind.BitString Binary) (ascii "X'F'")) (ascii "X'F'") []).answer
-    ≡ Packed'.Refused (InvalidBitString (record { start = 0; end = 4 }))
+    ≡ Err (InvalidBitString (record { start = 0; end = 4 }))
 unfolding bits_question tested source_text bad_span cuts_character within utf8 lead bits cut segment_step segment is_mark doubled bit_body all_digits digit
 refused_alike =
     (packed_refuses (all_as (Kind.BitString Binary) (ascii "X'F'")) (ascii "X'F'") [] (0 ∷ []) (InvalidBitString (record { start = 0; end = 4 })) (omega arith)).1 refl
 
 -- WHAT IS SHOWN: B'1', which the bits question borrows, needs a byte
-pub shown_short : packed_question (all_as (Kind.BitString Binary) (ascii "B'1'")) (ascii "B'1'") [] ≡ record { answer = Packed'.Refused (NoRoom 1); buffer = [] }
+pub shown_short : packed_question (all_as (Kind.BitString Binary) (ascii "B'1'")) (ascii "B'1'") [] ≡ record { answer = Err (NoRoom 1); buffer = [] }
 unfolding bits_question tested source_text bad_span cuts_character within utf8 lead bits cut segment_step segment is_mark doubled bit_body all_digits digit
     bits_in pack_bits filled part_shown
 shown_short = packed_shown_lem (all_as (Kind.BitString Binary) (ascii "B'1'")) (ascii "B'1'") [] [] refl

@@ -6,7 +6,6 @@ use Prim.Native.Nat.{ℕ, ◌+◌}
 use native.Mathlib.Omega.{arith}
 use lib.ListN.{length, take, drop}
 use Rattle.meaning.specs.declared.Refusal.TheVariants.{InvalidString}
-use Rattle.meaning.specs.declared.Text.TheVariants.{Refused}
 use Rattle.meaning.specs.Bytes.{◌!◌, part, ascii, within, is_mark, digit}
 use Rattle.meaning.specs.Chars.{lead, utf8, is_space}
 use Rattle.meaning.specs.Steps.{doubled, one_byte, gap, trim}
@@ -29,6 +28,7 @@ use Rattle.laws.proofs.questions.Asked.{Spans}
 use Rattle.laws.proofs.questions.Calls.{StringCall}
 use Rattle.laws.proofs.tables.Controls.{all_of_it, two}
 use Rattle.laws.proofs.tables.BlockWitnesses.{written, three_call}
+use Rattle.std.specs.Prelude.{Err}
 
 -- THE SEGMENTS 'a' and 'b', which are accepted, and E'\400', which is refused at its backslash
 abbrev pub bad : List ℕ
@@ -138,7 +138,7 @@ taken_there = (
 )
 
 -- calls on 'a' and 'b' were answered, the one on E'\400' was refused at 2: so the one on the whole text is refused at 10
-pub joined_called : ((call_of whole_text (7 ∷ []) spans_there.3).result ≡ Refused (InvalidString (record { start = 0; end = 17 }) 10))
+pub joined_called : ((call_of whole_text (7 ∷ []) spans_there.3).result ≡ Err (InvalidString (record { start = 0; end = 17 }) 10))
     × ((call_of whole_text (7 ∷ []) spans_there.3).after ≡ 7 ∷ [])
 unfolding string_question tested source_text bad_span cuts_character within utf8 lead read continues segment is_mark is_space one spelling encloses answer doubled
     one_byte digit named

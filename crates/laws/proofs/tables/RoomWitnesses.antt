@@ -10,8 +10,7 @@ use Rattle.meaning.specs.declared.BitStringRadix.TheVariants.{Hex}
 use Rattle.meaning.specs.declared.LiteralKind.TheVariants as Kind
 use Rattle.meaning.specs.declared.Literal.{Literal}
 use Rattle.meaning.specs.declared.Refusal.TheVariants.{NoRoom}
-use Rattle.meaning.specs.declared.Text.TheVariants.{Written, Refused}
-use Rattle.meaning.specs.declared.PackedBits.TheVariants as Packed'
+use Rattle.meaning.specs.declared.Text.TheVariants.{Written}
 use Rattle.meaning.specs.Bytes.{◌!◌, ascii, within, is_mark, digit, starts_tag, in_tag, is_letter, is_decimal, in_name, all_digits}
 use Rattle.meaning.specs.Chars.{lead, utf8, more, encode, is_scalar, is_space}
 use Rattle.meaning.specs.Steps.{doubled, one_byte, uescaped, scalar_by, may_escape}
@@ -33,6 +32,7 @@ use Rattle.laws.proofs.room.Blocks.{room_of, block_nine_calls, block_never_calls
 use Rattle.laws.proofs.room.Called.{string_nine_calls, string_enough_calls, string_again_calls}
 use Rattle.laws.proofs.tables.Controls.{all_as, all_of_it}
 use Rattle.laws.proofs.tables.BlockWitnesses.{met}
+use Rattle.std.specs.Prelude.{Ok, Err}
 
 -- EVERY SPELLING means something: plain in either mark, N, a charset's, E, U&, dollar, joined
 pub each_spelling : (meaning off (ascii "''") ≡ means []) × (meaning off (ascii "\"a\"") ≡ means (ascii "a")) × (meaning off (ascii "N'a'") ≡ means (ascii "a"))
@@ -60,7 +60,7 @@ percent_refused = record {
   lent = 7 ∷ [];
   kind = refl;
   spans = record { real = refl; fits = refl; text = refl };
-  result = Refused (NoRoom 2);
+  result = Err (NoRoom 2);
   after = 7 ∷ [];
   contract = record { answer = refl; buffer = refl };
 }
@@ -73,7 +73,7 @@ percent_call = record {
   lent = 7 ∷ 7 ∷ [];
   kind = refl;
   spans = record { real = refl; fits = refl; text = refl };
-  result = Written 2;
+  result = Ok (Written 2);
   after = ascii "\\%";
   contract = record { answer = refl; buffer = refl };
 }
@@ -91,7 +91,7 @@ pub percent_shown : Shows percent_call (ascii "\\%")
 unfolding percent_call
 percent_shown = string_enough_calls percent_call (ascii "\\%") percent_accepted (omega arith)
 
-pub percent_again : percent_call.result ≡ Written 2
+pub percent_again : percent_call.result ≡ Ok (Written 2)
 unfolding percent_refused percent_call
 percent_again = string_again_calls percent_refused percent_call 2 refl (omega arith)
 
@@ -155,7 +155,7 @@ unfolding bits cut segment_step segment is_mark doubled named bit_body all_digit
 bits_reached = refl
 
 -- X'1' has four bytes, and needs one
-pub packed_reached : (packed_question (all_as (Kind.BitString Hex) (ascii "X'1'")) (ascii "X'1'") []).answer ≡ Packed'.Refused (NoRoom 1)
+pub packed_reached : (packed_question (all_as (Kind.BitString Hex) (ascii "X'1'")) (ascii "X'1'") []).answer ≡ Err (NoRoom 1)
 unfolding packed_question tested source_text bad_span cuts_character within utf8 lead bits cut segment_step segment is_mark is_space doubled named bit_body all_digits
     digit bits_in pack_bits filled
 packed_reached = refl
@@ -164,7 +164,7 @@ packed_reached = refl
 abbrev pub least : List ℕ
 least = ascii "0x-80000000000000000000000000000000"
 
-pub decimal_reached : (decimal_question (all_as Kind.Integer least) least (replicate 39 7)).answer ≡ Refused (NoRoom 40)
+pub decimal_reached : (decimal_question (all_as Kind.Integer least) least (replicate 39 7)).answer ≡ Err (NoRoom 40)
 unfolding decimal_question tested source_text bad_span cuts_character within utf8 lead decimal_of separated radix_prefix base_by sign_length is_minus radix_value parsed
     all_digits digit digits_of digits_by filled
 decimal_reached = refl

@@ -34,6 +34,7 @@ use Rattle.laws.proofs.joining.Strung.{Further, segments_question}
 use Rattle.laws.proofs.writing.WriterParts.{Accepted}
 use Rattle.laws.proofs.writing.WriterText.{between_white}
 use Rattle.laws.proofs.writing.WrittenParts.{CutInto, between_cuts, parts_law}
+use Rattle.std.specs.Prelude.{Ok}
 
 -- a literal that is all of its source
 all_of : (t : List ℕ) → bad_span (all_of_it t).span t ≡ false → part 0 (length t) t ≡ t → Spans (all_of_it t) t t
@@ -65,7 +66,7 @@ white_gap = record { white = refl; some = omega arith }
 
 pub joined_there : (b : Bool)
     → string_question (all_of_it (first ++ (white ++ second))) (first ++ (white ++ second)) (set b) (replicate 5 0)
-    ≡ record { answer = Written 4; buffer = ascii "xacb" ++ (0 ∷ []) }
+    ≡ record { answer = Ok (Written 4); buffer = ascii "xacb" ++ (0 ∷ []) }
 unfolding is_mark bad_span cuts_character within
 joined_there b =
     joining_law (set b) first white second (ascii "xac") (ascii "b") (first_complete b) white_gap (second_complete b) refl
@@ -174,7 +175,7 @@ spaced_utf8 false = (refl, (refl, (refl, tt)))
 
 -- so with just the room their values are written, and with one byte less the text is not accepted
 pub spaced_written : (b : Bool)
-    → string_question (all_of_it spaced) spaced (set b) (replicate 3 0) ≡ record { answer = Written 3; buffer = ascii "abc" }
+    → string_question (all_of_it spaced) spaced (set b) (replicate 3 0) ≡ record { answer = Ok (Written 3); buffer = ascii "abc" }
 unfolding bad_span cuts_character within flatten
 spaced_written b =
     Segments'.complete_written (set b) spaced (spaced_several b) (all_of_it spaced) spaced (replicate 3 0) refl (all_of spaced refl refl) letters

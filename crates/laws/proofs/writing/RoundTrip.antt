@@ -7,7 +7,6 @@ use lib.ListN.{length, take}
 use Rattle.meaning.specs.declared.Settings.{Settings}
 use Rattle.meaning.specs.declared.PartSize.{PartSize}
 use Rattle.meaning.specs.declared.Literal.{Literal}
-use Rattle.meaning.specs.declared.Writing.TheVariants.{Written}
 use Rattle.meaning.specs.Chars.{utf8}
 use Rattle.meaning.specs.Questions.{is_string, string_question}
 use Rattle.meaning.specs.Writer.{over_limit, unwritable_nul, written_text, write_question}
@@ -16,21 +15,22 @@ use Rattle.laws.proofs.questions.Ranges.{Answered, back_answered}
 use Rattle.laws.proofs.writing.Writers.{writes_all, written_passed, Wrote, writes_wrote}
 use Rattle.laws.proofs.writing.WriterParts.{Accepted, accepted_writes}
 use Rattle.laws.proofs.writing.WriterText.{written_text_joins}
+use Rattle.std.specs.Prelude.{Ok}
 
 module _ (σ : Settings) (size : PartSize) (v out : List ℕ) where
   -- the writer writes a value that it accepts, where there is room
   pub writer_answers : Accepted σ size v → length (written_text σ size v) ≤ length out
-      → (write_question σ size v out).answer ≡ Written (length (written_text σ size v))
+      → (write_question σ size v out).answer ≡ Ok (length (written_text σ size v))
   writer_answers a r = rw (accepted_writes σ size v out a ∙ writes_all (written_text σ size v) out r)
 
   -- and none other
-  pub written_accepted : (n : ℕ) → (write_question σ size v out).answer ≡ Written n → Accepted σ size v
+  pub written_accepted : (n : ℕ) → (write_question σ size v out).answer ≡ Ok n → Accepted σ size v
   unfolding write_question
   written_accepted n e =
       let p = written_passed (over_limit size v) (utf8 v) (unwritable_nul σ v) (written_text σ size v) out n e in
       record { limit = p.limit; valid = p.valid; nul = p.nul }
 
-  module _ (n : ℕ) (answered : (write_question σ size v out).answer ≡ Written n) where
+  module _ (n : ℕ) (answered : (write_question σ size v out).answer ≡ Ok n) where
     accepted : Accepted σ size v
     accepted = written_accepted n answered
 

@@ -1,10 +1,9 @@
 -- `spaces::gap_at` meets its contract. The loop's invariant: what lies between the place and i is white space, walked to its end. The
 -- measure is what is left of the length. Assumes nothing.
-use Prim.Native.Nat.{◌+◌, ◌-◌, ◌≤◌}
-use borrow.Author.Rules.{rules}
+use Prim.Native.Nat.{◌+◌, ◌≤◌}
 use native.Mathlib.Omega.{arith}
 use lib.ListN.{length}
-use Rattle.spaces.proofs.Spacing.{Spacing, spacing_start, spacing_room, spacing_stop, spacing_on, spacing_end, blank_on}
+use Rattle.spaces.proofs.Spacing.{spacing_start, spacing_room, spacing_stop, spacing_on, spacing_end, blank_on}
 use Rattle.spaces.proofs.gap_at.Goals as goal
 
 pub loop-i-init : goal.loop-i-init

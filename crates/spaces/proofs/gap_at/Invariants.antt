@@ -1,10 +1,8 @@
 -- `spaces::gap_at` meets its contract. The loop's invariant: what lies between the place and i is white space, walked to its end. The
 -- measure is what is left of the length. Assumes nothing.
-use Prim.Native.Nat.{◌+◌, ◌-◌, ◌≤◌}
-use borrow.Author.Rules.{rules}
-use native.Mathlib.Omega.{arith}
+use Prim.Native.Nat.{◌-◌}
 use lib.ListN.{length}
-use Rattle.spaces.proofs.Spacing.{Spacing, spacing_start, spacing_room, spacing_stop, spacing_on, spacing_end, blank_on}
+use Rattle.spaces.proofs.Spacing.{Spacing}
 use Rattle.spaces.proofs.gap_at.Given as goal
 
 abbrev pub invariant-loop-i : goal.invariant-loop-i

@@ -1,19 +1,13 @@
--- `spaces::is_white_space` meets its contract. The loop's invariant: no range before i holds the scalar. The measure is the number of ranges left.
--- Assumes nothing.
-use Rattle.spaces.proofs.is_white_space.Goals.{then-lows-i+else-scalar-highs, else-lows-i}
-use Prim.Native.Nat.{◌-◌}
-use native.Mathlib.Omega.{arith}
-use Rattle.spaces.proofs.Ranges.{Seeking, seek_start, seek_none, seek_found, seek_low, seek_high}
+-- `spaces::is_white_space` meets its contract: the table is that of the definition. Assumes nothing.
+use Rattle.std.proofs.Common.{rules}
+use borrow.Author.Tests.{tests}
+use Rattle.std.proofs.lemmas.Iterator.{YieldsList-from_slice}
+use Rattle.std.proofs.lemmas.Iterator.Search.{any_from_yields_List}
+use Rattle.meaning.specs.Bytes.{within}
+use Rattle.meaning.specs.Chars.{spaces, is_space}
 use Rattle.spaces.proofs.is_white_space.Goals as goal
 
-pub loop-i-init : goal.loop-i-init
-loop-i-init c = search seek_start
-
-pub returns-then-scalar-highs : goal.returns-then-scalar-highs
-returns-then-scalar-highs c = search seek_found
-
-pub loop-i-preserved : goal.loop-i-preserved
-loop-i-preserved c = elim c.if-lows-i.branch [ then-lows-i+else-scalar-highs w ↦ search (seek_low, seek_high) | else-lows-i w ↦ search (seek_low, seek_high) ]
-
 pub returns : goal.returns
-returns c = search seek_none
+unfolding within is_space
+returns c =
+    any_from_yields_List (λ r. within r.0 r.1 c.args.scalar) _ _ _ c.any.ensures.ran (YieldsList-from_slice spaces cc) (λ x r q k. search (rules, tests))

@@ -1,5 +1,4 @@
 -- `spaces::space_at` meets its contract. The ways are the laws of `Spacing`. Assumes nothing.
-use borrow.Author.Rules.{rules}
 use Rattle.spaces.proofs.Spacing.{space_none, space_ascii, space_yes, space_no}
 use Rattle.spaces.proofs.space_at.Goals as goal
 

@@ -1,11 +1,7 @@
 -- `uescape::is_legal_uescape_char` meets its contract. One character is as many bytes as its first byte says, the later ones 80 hex or above.
 -- Assumes nothing.
-use Rattle.uescape.proofs.Characters.{legal_empty, legal_not, legal_by_lem}
-use borrow.Author.Rules.{rules}
+use Rattle.uescape.proofs.Characters.{legal_not, legal_by_lem}
 use Rattle.uescape.proofs.is_legal_uescape_char.Goals as goal
-
-pub returns-then-bytes-eq0 : goal.returns-then-bytes-eq0
-returns-then-bytes-eq0 c = search legal_empty
 
 pub returns-then-utf8_width-bytes : goal.returns-then-utf8_width-bytes
 returns-then-utf8_width-bytes c = search legal_not

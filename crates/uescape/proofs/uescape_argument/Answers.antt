@@ -4,7 +4,6 @@ use lib.ListN.{length}
 use native.Mathlib.Omega.{arith}
 use Rattle.laws.proofs.basics.Enclosures.{enclosed_room}
 use Rattle.uescape.proofs.Characters.{argument_bare, argument_legal, argument_illegal}
-use borrow.Author.Rules.{rules}
 use Rattle.std.proofs.Common.{ap, not}
 use Rattle.uescape.proofs.uescape_argument.Goals as goal
 

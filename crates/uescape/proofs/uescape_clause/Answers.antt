@@ -4,7 +4,6 @@ use Prim.Native.Nat.{◌+◌, ◌≤◌}
 use native.Mathlib.Omega.{arith}
 use lib.ListN.{length}
 use Rattle.uescape.proofs.Clausing.{gap_inside, clause_past, clause_end, clause_other, word_fits, clause_legal, clause_illegal}
-use borrow.Author.Rules.{rules}
 use Rattle.uescape.proofs.uescape_clause.Goals as goal
 
 pub returns-then-text-at : goal.returns-then-text-at

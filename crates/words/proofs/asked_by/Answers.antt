@@ -1,16 +1,14 @@
 -- `words::asked_by` meets its contract. Assumes nothing.
-use borrow.Author.Rules.{rules}
-use Rattle.words.proofs.Asking.{asks_work, asks_other_long, asks_help, asks_other}
+use Rattle.std.proofs.Common.{sym, ◌∙◌, rules}
+use Rattle.std.specs.Cmp.Lexicographic.{same_text, other_text}
+use Rattle.words.proofs.Asking.{asks_work, asks_help, asks_other}
 use Rattle.words.proofs.asked_by.Goals as goal
 
-pub returns-then-words-eq0 : goal.returns-then-words-eq0
-returns-then-words-eq0 c = search asks_work
+pub returns-then-is_empty : goal.returns-then-is_empty
+returns-then-is_empty c = asks_work _ (search rules)
 
-pub returns-then-words-ne7 : goal.returns-then-words-ne7
-returns-then-words-ne7 c = search asks_other_long
-
-pub returns-then-starts_at : goal.returns-then-starts_at
-returns-then-starts_at c = search asks_help
+pub returns-then-eq : goal.returns-then-eq
+returns-then-eq c = asks_help _ (same_text _ _ c.if-eq.ensures ∙ c.as_slice.ensures)
 
 pub returns : goal.returns
-returns c = search asks_other
+returns c = asks_other _ (search rules) (λ e. other_text _ _ c.if-eq.ensures (e ∙ sym c.as_slice.ensures))

@@ -1,19 +1,14 @@
--- `bits::digits::are_digits` meets its contract. The loop's invariant: the bytes before `i` are digits. The measure is what is left. Assumes nothing.
-use borrow.Author.Rules.{rules}
-use Prim.Native.Nat.{◌-◌}
-use native.Mathlib.Omega.{arith}
-use lib.ListN.{length}
-use Rattle.bits.proofs.Asking.{Asked, asked_none, asked_turn, asked_stop, asked_end}
+-- `bits::digits::are_digits` meets its contract. Assumes nothing.
+use Rattle.std.proofs.Common.{◌∙◌, rules}
+use borrow.Author.Tests.{tests}
+use lib.Dec.{ltb}
+use Rattle.std.proofs.lemmas.Iterator.{YieldsList-from_slice}
+use Rattle.std.proofs.lemmas.Iterator.Search.{all_from_yields_List}
+use Rattle.meaning.specs.Bytes.{digit}
+use Rattle.bits.proofs.Asking.{asked_all}
 use Rattle.bits.proofs.digits.are_digits.Goals as goal
 
-pub loop-i-init : goal.loop-i-init
-loop-i-init c = search asked_none
-
-pub returns-then-not-is_radix_digit : goal.returns-then-not-is_radix_digit
-returns-then-not-is_radix_digit c = search asked_stop
-
-pub loop-i-preserved : goal.loop-i-preserved
-loop-i-preserved c = search asked_turn
-
 pub returns : goal.returns
-returns c = search asked_end
+returns c =
+    all_from_yields_List (λ b. ltb (digit b) c.args.base) _ _ _ c.all.ensures.ran (YieldsList-from_slice c.args.bytes.now cc) (λ x b q k. search (rules, tests))
+    ∙ asked_all c.args.base c.args.bytes.now

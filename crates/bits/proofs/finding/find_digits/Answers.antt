@@ -2,7 +2,6 @@
 use native.Mathlib.Omega.{arith}
 use Rattle.bits.proofs.Found.{first_some, first_ordered, first_inside, rest_inside, place_fits}
 use Rattle.bits.proofs.Found.{finds_end, finds_remainder, finds_no_bits, finds_lone, finds_refused, finds_found}
-use borrow.Author.Rules.{rules}
 use Rattle.std.proofs.Common.{ap, not}
 use Rattle.bits.proofs.finding.find_digits.Goals as goal
 
@@ -33,15 +32,15 @@ slice_bounds-measure_later-start c = search rest_inside
 pub overflow_add-place : goal.overflow_add-place
 overflow_add-place c = let h =
     place_fits _ _ _ _ c.new.ensures _ c.next.ensures _ _ _ _ c.in-Segment.is _ _ _ c.byte_at-letter.ensures
-    c.is_bit_letter.ensures c.are_digits.ensures (ap not c.if-not-is_bit_letter-are_digits.false) _ c.measure_later.ensures _ c.in-Refused.is in
+    c.is_bit_letter.ensures c.are_digits.ensures (ap not c.if-not-is_bit_letter-are_digits.false) _ c.measure_later.ensures _ c.in-Err.is in
     omega (arith, h)
 
-pub returns-in-Length : goal.returns-in-Length
-returns-in-Length c = finds_found _ _ _ _ c.new.ensures _ c.next.ensures _ _ _ _ c.in-Segment.is _ _ _ c.byte_at-letter.ensures
-    c.is_bit_letter.ensures c.are_digits.ensures (ap not c.if-not-is_bit_letter-are_digits.false) _ c.measure_later.ensures _ c.in-Length.is
+pub returns-in-Ok : goal.returns-in-Ok
+returns-in-Ok c = finds_found _ _ _ _ c.new.ensures _ c.next.ensures _ _ _ _ c.in-Segment.is _ _ _ c.byte_at-letter.ensures
+    c.is_bit_letter.ensures c.are_digits.ensures (ap not c.if-not-is_bit_letter-are_digits.false) _ c.measure_later.ensures _ c.in-Ok.is
 
-pub returns-in-Refused : goal.returns-in-Refused
-returns-in-Refused c = search finds_refused
+pub returns-in-Err : goal.returns-in-Err
+returns-in-Err c = search finds_refused
 
 pub returns-in-End : goal.returns-in-End
 returns-in-End c = search finds_end

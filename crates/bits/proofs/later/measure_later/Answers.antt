@@ -1,11 +1,8 @@
 -- `bits::later::measure_later` meets its contract. The loop's invariant: the segments before the cursor have n digits. The measure is what is left behind
 -- the cursor. Assumes nothing.
-use borrow.Author.Rules.{rules}
 use native.Mathlib.Omega.{arith}
-use Prim.Native.Nat.{◌-◌}
-use lib.ListN.{length}
 use Rattle.bits.proofs.Turns.{body_opens, segment_some, body_ordered, body_inside, cursor_less}
-use Rattle.bits.proofs.Turns.{LaterAt, later_start, later_end, later_remainder, later_fits, later_refused, later_turn}
+use Rattle.bits.proofs.Turns.{later_start, later_end, later_remainder, later_fits, later_refused, later_turn}
 use Rattle.bits.proofs.later.measure_later.Goals as goal
 
 pub loop-start-init : goal.loop-start-init

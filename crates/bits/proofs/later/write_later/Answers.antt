@@ -1,11 +1,6 @@
 -- `bits::later::write_later` meets its contract. The loop's invariant: the buffer begins with the bodies before the cursor, of n bytes, and goes on as it
 -- was lent. The measure is what is left behind the cursor. Assumes nothing.
-use borrow.Author.Rules.{rules}
 use native.Mathlib.Omega.{arith}
-use Prim.Native.Nat.{◌-◌}
-use lib.ListN.{length}
-use Rattle.laws.proofs.walking.Passes.{Writing}
-use Rattle.bits.specs.Bodies.{body_step}
 use Rattle.bits.proofs.Turns.{body_opens, segment_some, body_ordered, body_inside, cursor_less}
 use Rattle.bits.proofs.Turns.{put_start, put_end, put_remainder, put_within, put_fits, put_turn}
 use Rattle.bits.proofs.later.write_later.Goals as goal

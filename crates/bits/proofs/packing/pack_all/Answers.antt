@@ -1,6 +1,5 @@
 -- `bits::packing::pack_all` meets its contract: one pen over the first segment and the others. Assumes nothing.
 use Rattle.bits.proofs.Packings.{all_ordered, all_inside, all_behind, all_first, all_later_lem, all_closable, all_packed}
-use borrow.Author.Rules.{rules}
 use Rattle.bits.proofs.packing.pack_all.Goals as goal
 
 pub slice_bounds-pack_run-count : goal.slice_bounds-pack_run-count

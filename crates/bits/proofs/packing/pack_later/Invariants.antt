@@ -1,11 +1,8 @@
 -- `bits::packing::pack_later` meets its contract. The loop's invariant: the bodies before the cursor are packed. The measure is what is left behind the cursor. Assumes nothing.
-use native.Mathlib.Omega.{arith}
 use Prim.Native.Nat.{◌-◌}
 use lib.ListN.{length}
 use Rattle.meaning.specs.Packing.{radix_bits}
-use Rattle.bits.proofs.Turns.{body_opens, segment_some, body_ordered, body_inside, cursor_less}
-use Rattle.bits.proofs.Packings.{Inked, inked_none, inked_same, inked_packable, inked_turn, inked_end, inked_remainder}
-use borrow.Author.Rules.{rules}
+use Rattle.bits.proofs.Packings.{Inked}
 use Rattle.bits.proofs.packing.pack_later.Given as goal
 
 abbrev pub invariant-loop-start : goal.invariant-loop-start

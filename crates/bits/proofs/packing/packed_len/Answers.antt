@@ -1,6 +1,5 @@
 -- `bits::packing::packed_len` meets its contract. Assumes nothing.
 use Rattle.bits.proofs.Radix.{packed_fits, packed_binary, packed_hex}
-use borrow.Author.Rules.{rules}
 use Rattle.bits.proofs.packing.packed_len.Goals as goal
 
 pub overflow_add-result : goal.overflow_add-result

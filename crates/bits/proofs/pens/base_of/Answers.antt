@@ -1,6 +1,5 @@
 -- `bits::pens::base_of` meets its contract. Assumes nothing.
 use Rattle.bits.proofs.Radix.{base_binary, base_hex}
-use borrow.Author.Rules.{rules}
 use Rattle.bits.proofs.pens.base_of.Goals as goal
 
 pub returns-in-Binary : goal.returns-in-Binary

@@ -1,6 +1,5 @@
 -- `bits::pens::close` meets its contract: the byte at hand is put, if one is. Assumes nothing.
 use Rattle.bits.proofs.Inking.{close_room, close_written, close_idle}
-use borrow.Author.Rules.{rules}
 use Rattle.bits.proofs.pens.close.Goals as goal
 
 pub bounds-out-at : goal.bounds-out-at

@@ -1,6 +1,5 @@
 -- `bits::pens::digit_of` meets its contract. Assumes nothing.
 use Rattle.bits.proofs.Inking.{digit_known}
-use borrow.Author.Rules.{rules}
 use Rattle.bits.proofs.pens.digit_of.Goals as goal
 
 pub returns : goal.returns

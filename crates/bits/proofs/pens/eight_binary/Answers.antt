@@ -1,7 +1,6 @@
 -- `bits::pens::eight_binary` meets its contract. The loop's invariant: j digits are read. The measure is what is left. Assumes nothing.
-use Prim.Native.Nat.{◌-◌}
 use native.Mathlib.Omega.{arith}
-use Rattle.bits.proofs.Inking.{Reading, reading_none, reading_double, reading_inside, reading_fits, reading_turn, reading_end}
+use Rattle.bits.proofs.Inking.{reading_none, reading_double, reading_inside, reading_fits, reading_turn, reading_end}
 use Rattle.bits.proofs.pens.eight_binary.Goals as goal
 
 pub loop-j-init : goal.loop-j-init

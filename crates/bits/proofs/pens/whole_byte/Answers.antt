@@ -1,6 +1,5 @@
 -- `bits::pens::whole_byte` meets its contract, by the radix. Assumes nothing.
 use Rattle.bits.proofs.Inking.{whole_binary, binary_whole, hex_first, hex_inside, hex_one, hex_two, hex_high, hex_fits, hex_whole}
-use borrow.Author.Rules.{rules}
 use Rattle.bits.proofs.pens.whole_byte.Goals as goal
 
 pub eight_binary-requires : goal.eight_binary-requires

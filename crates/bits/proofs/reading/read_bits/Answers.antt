@@ -1,6 +1,5 @@
 -- `bits::reading::read_bits` meets its contract: the first segment's letter and digits, and where it ends, say which answer it is. Assumes nothing.
 use Rattle.bits.proofs.Wholes.{bits_end, bits_remainder, first_some, first_ordered, first_inside, bits_ordered, bits_refused, bits_borrowed, bits_joined}
-use borrow.Author.Rules.{rules}
 use Rattle.bits.proofs.reading.read_bits.Goals as goal
 
 pub overflow_sub-last : goal.overflow_sub-last

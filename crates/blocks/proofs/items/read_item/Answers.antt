@@ -1,5 +1,4 @@
 -- `blocks::items::read_item` meets its contract, test by test. Assumes nothing.
-use borrow.Author.Rules.{rules}
 use Rattle.strings.proofs.Fits.{ascii_long}
 use Rattle.blocks.proofs.Answering.{unknown_asks, kind_asks, span_asks, span_ordered, span_inside, undecoded_asks, text_asks, text_fits}
 use Rattle.blocks.proofs.Answering.{plain_fits, plain_asks}
@@ -32,11 +31,11 @@ read_told-requires c = search plain_fits
 pub returns-then-is_plain_ascii : goal.returns-then-is_plain_ascii
 returns-then-is_plain_ascii c = search plain_asks
 
-pub read_told-requires-in-Text : goal.read_told-requires-in-Text
-read_told-requires-in-Text c = search text_fits
+pub read_told-requires-in-Ok : goal.read_told-requires-in-Ok
+read_told-requires-in-Ok c = search text_fits
 
-pub returns-in-Text : goal.returns-in-Text
-returns-in-Text c = search text_asks
+pub returns-in-Ok : goal.returns-in-Ok
+returns-in-Ok c = search text_asks
 
-pub returns-in-NotUtf8 : goal.returns-in-NotUtf8
-returns-in-NotUtf8 c = search undecoded_asks
+pub returns-in-Err : goal.returns-in-Err
+returns-in-Err c = search undecoded_asks

@@ -1,6 +1,5 @@
 -- `calendar::lengths::days_before_month` meets its contract, by the closed form of the months before. Assumes nothing.
 use Rattle.calendar.proofs.Months.{months_least, months_counted}
-use borrow.Author.Rules.{rules}
 use Rattle.calendar.proofs.lengths.days_before_month.Goals as goal
 
 pub overflow_sub-result-2 : goal.overflow_sub-result-2

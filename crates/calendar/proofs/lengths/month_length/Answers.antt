@@ -1,6 +1,5 @@
 -- `calendar::lengths::month_length` meets its contract. What February lacks of 30 days is taken off, and of another month what it lacks of 31. Assumes nothing.
 use Rattle.calendar.proofs.Months.{lack_off, february_counted, one_off, length_counted}
-use borrow.Author.Rules.{rules}
 use Rattle.calendar.proofs.lengths.month_length.Goals as goal
 
 pub overflow_sub-result : goal.overflow_sub-result

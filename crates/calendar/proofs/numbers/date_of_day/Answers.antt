@@ -2,7 +2,6 @@
 use native.Mathlib.Omega.{arith}
 use Rattle.calendar.proofs.Days.{in_bounds, year_of}
 use Rattle.calendar.proofs.Back.{no_number, date_by}
-use borrow.Author.Rules.{rules}
 use Rattle.calendar.proofs.numbers.date_of_day.Goals as goal
 
 pub returns-then-number : goal.returns-then-number

@@ -1,7 +1,6 @@
 -- `calendar::numbers::day_number` meets its contract, before March and from March on. Assumes nothing.
 use native.Mathlib.Omega.{arith}
 use Rattle.calendar.proofs.Counted.{day_most, early_number, years_least, late_number}
-use borrow.Author.Rules.{rules}
 use Rattle.calendar.proofs.numbers.day_number.Goals as goal
 
 pub overflow_add-result : goal.overflow_add-result

@@ -1,6 +1,5 @@
 -- `calendar::numbers::day_of` meets its contract. What the tests leave is a day. Assumes nothing.
 use Rattle.calendar.proofs.Days.{no_year, no_month, no_day_by, is_day_by, day_by}
-use borrow.Author.Rules.{rules}
 use Rattle.calendar.proofs.numbers.day_of.Goals as goal
 
 pub returns-then-year : goal.returns-then-year

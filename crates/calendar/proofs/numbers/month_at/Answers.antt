@@ -1,6 +1,5 @@
 -- `calendar::numbers::month_at` meets its contract, on both sides of the leap day. Assumes nothing.
 use Rattle.calendar.proofs.MonthFalls.{day_fits, day_scaled, day_summed, month_counted}
-use borrow.Author.Rules.{rules}
 use Rattle.calendar.proofs.numbers.month_at.Goals as goal
 
 pub overflow_add-behind : goal.overflow_add-behind

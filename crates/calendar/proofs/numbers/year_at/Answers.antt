@@ -1,7 +1,6 @@
 -- `calendar::numbers::year_at` meets its contract, by the two divisions. Assumes nothing.
 use mathlib.Core.Path.{refl}
 use Rattle.calendar.proofs.Falling.{year_falls}
-use borrow.Author.Rules.{rules}
 use Rattle.calendar.proofs.numbers.year_at.Goals as goal
 
 pub returns : goal.returns

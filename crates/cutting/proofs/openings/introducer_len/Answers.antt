@@ -1,5 +1,4 @@
 -- `cutting::openings::introducer_len` meets its contract. A name that is not empty lies inside the text, so no sum wraps. Assumes nothing.
-use borrow.Author.Rules.{rules}
 use Prim.Native.Nat.{◌+◌, ◌≤◌}
 use native.Mathlib.Omega.{arith}
 use lib.ListN.{length}

@@ -1,6 +1,5 @@
 -- `cutting::segments::first_segment` meets its contract. An opening ends in its mark, inside the text; behind it the search answers where the segment closes.
 -- Assumes nothing.
-use borrow.Author.Rules.{rules}
 use native.Mathlib.Omega.{arith}
 use Rattle.cutting.proofs.Cuts.{segment_none, opened_inside, opened_fits, Searched, searched, segment_found, segment_unclosed, found_inside}
 use Rattle.cutting.proofs.segments.first_segment.Goals as goal
@@ -20,19 +19,19 @@ slice_bounds-closing_mark-start c = search opened_fits
 pub overflow_add-result : goal.overflow_add-result
 overflow_add-result c = let behind_here : Searched c.args.settings c.args.text.now
     c.opening_len-open.result c.closing_mark.result = search searched in
-    let i = found_inside behind_here _ c.in-At.is in omega arith
+    let i = found_inside behind_here _ c.in_ok-place.was in omega arith
 
-pub overflow_add-result-in-At : goal.overflow_add-result-in-At
-overflow_add-result-in-At c = let behind_here : Searched c.args.settings c.args.text.now
+pub overflow_add-result-2 : goal.overflow_add-result-2
+overflow_add-result-2 c = let behind_here : Searched c.args.settings c.args.text.now
     c.opening_len-open.result c.closing_mark.result = search searched in
-    let i = found_inside behind_here _ c.in-At.is in omega arith
+    let i = found_inside behind_here _ c.in_ok-place.was in omega arith
 
-pub returns-in-At : goal.returns-in-At
-returns-in-At c = let behind_here : Searched c.args.settings c.args.text.now
+pub returns : goal.returns
+returns c = let behind_here : Searched c.args.settings c.args.text.now
     c.opening_len-open.result c.closing_mark.result = search searched in
-    segment_found behind_here _ c.in-At.is
+    segment_found behind_here _ c.in_ok-place.was
 
-pub returns-in-Unclosed : goal.returns-in-Unclosed
-returns-in-Unclosed c = let behind_here : Searched c.args.settings c.args.text.now
+pub returns-in_err-place : goal.returns-in_err-place
+returns-in_err-place c = let behind_here : Searched c.args.settings c.args.text.now
     c.opening_len-open.result c.closing_mark.result = search searched in
-    segment_unclosed behind_here c.in-Unclosed.is
+    rw c.from_residual.ensures (segment_unclosed behind_here c.in_err-place.was)

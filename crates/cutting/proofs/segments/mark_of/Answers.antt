@@ -1,5 +1,4 @@
 -- `cutting::segments::mark_of` meets its contract. A mark that is no ' is ". Assumes nothing.
-use borrow.Author.Rules.{rules}
 use Rattle.cutting.proofs.Closes.{mark_other}
 use Rattle.cutting.proofs.segments.mark_of.Goals as goal
 

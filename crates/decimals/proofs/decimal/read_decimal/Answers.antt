@@ -1,5 +1,4 @@
 -- `decimals::decimal::read_decimal` meets its contract. Base ten reads the whole text, a radix what stands behind the prefix. Assumes nothing.
-use Rattle.std.proofs.Common.{rules}
 use Rattle.numbers.proofs.Prefixes.{sign_inside}
 use Rattle.numbers.proofs.Texts.{base_known, rest_long}
 use Rattle.numbers.proofs.Radixes.{radix_known}

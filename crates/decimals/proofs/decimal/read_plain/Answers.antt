@@ -1,5 +1,4 @@
 -- `decimals::decimal::read_plain` meets its contract. The separators are counted before any byte is written. Assumes nothing.
-use Rattle.std.proofs.Common.{rules}
 use Rattle.decimals.proofs.DecimalText.{plain_misplaced, plain_borrowed, plain_within, plain_short, plain_room, plain_wrote}
 use Rattle.decimals.proofs.decimal.read_plain.Goals as goal
 

@@ -1,5 +1,4 @@
 -- `decimals::halves::negated_high` meets its contract. One less than the complement, unless the low half is zero. Assumes nothing.
-use Rattle.std.proofs.Common.{rules}
 use Rattle.decimals.proofs.Halving.{high_negated, high_borrowed}
 use Rattle.decimals.proofs.halves.negated_high.Goals as goal
 

@@ -1,7 +1,8 @@
--- `decimals::halves::negated_low` meets its contract. Wrapping subtraction from zero is the low half of the complement. Assumes nothing.
-use Rattle.std.proofs.Common.{rules}
-use Rattle.decimals.proofs.Halving.{low_negated}
+-- `decimals::halves::negated_low` meets its contract. Assumes nothing.
+use Rattle.std.proofs.Common.{arith}
+use Rattle.meaning.specs.Halves.{negated_low}
 use Rattle.decimals.proofs.halves.negated_low.Goals as goal
 
 pub returns : goal.returns
-returns c = search low_negated
+unfolding negated_low
+returns c = omega arith

@@ -1,5 +1,4 @@
--- `decimals::halves::read_signed_halves` meets its contract. The digits stand behind the sign, and refused ones make no number of 128 bits. Assumes nothing.
-use Rattle.std.proofs.Common.{rules}
+-- `decimals::halves::read_signed_halves` meets its contract. Assumes nothing.
 use Rattle.numbers.proofs.Prefixes.{sign_inside}
 use Rattle.decimals.proofs.Halving.{halves_signed, halves_refused}
 use Rattle.decimals.proofs.halves.read_signed_halves.Goals as goal
@@ -10,8 +9,8 @@ slice_bounds-read_radix_digits-count c = search sign_inside
 pub slice_bounds-read_radix_digits-start : goal.slice_bounds-read_radix_digits-start
 slice_bounds-read_radix_digits-start c = search sign_inside
 
-pub returns-in-Value : goal.returns-in-Value
-returns-in-Value c = search halves_signed
+pub returns-in_err-halves : goal.returns-in_err-halves
+returns-in_err-halves c = rw c.from_residual.ensures (search (halves_refused, c.in_err-halves.was))
 
-pub returns-in-Refused : goal.returns-in-Refused
-returns-in-Refused c = search halves_refused
+pub returns : goal.returns
+returns c = search (halves_signed, c.in_ok-halves.was)

@@ -1,12 +1,11 @@
--- `decimals::printing::count_digits` meets its contract. The loop's invariant: the digits passed and those of the halves at hand are as many as all.
--- The measure is what the halves are. Assumes nothing.
-use Rattle.std.proofs.Common.{arith, rules}
+-- `decimals::printing::count_digits` meets its contract. The loop's invariant: what is counted and the digits of what is left are those of the number. The
+-- measure is what is left. Assumes nothing.
 use Rattle.meaning.specs.Halves.{joined_halves}
-use Rattle.decimals.proofs.Decimals.{Counting, count_start, count_fits, count_nine, billion_less, count_all, count_all_fits}
+use Rattle.decimals.proofs.Decimals.{Counting}
 use Rattle.decimals.proofs.printing.count_digits.Given as goal
 
-abbrev pub invariant-loop-h : goal.invariant-loop-h
-invariant-loop-h l = Counting (joined_halves l.hi l.lo) (joined_halves l.h l.l) l.n
+abbrev pub invariant-loop-left : goal.invariant-loop-left
+invariant-loop-left l = Counting (joined_halves l.initial.left.hi l.initial.left.lo) (joined_halves l.left.hi l.left.lo) l.n
 
-abbrev pub decreases-loop-h : goal.decreases-loop-h
-decreases-loop-h l = joined_halves l.h l.l
+abbrev pub decreases-loop-left : goal.decreases-loop-left
+decreases-loop-left l = joined_halves l.left.hi l.left.lo

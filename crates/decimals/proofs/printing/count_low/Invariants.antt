@@ -1,7 +1,6 @@
 -- `decimals::printing::count_low` meets its contract. The loop's invariant: the digits passed and those of what is left are as many as all.
 -- The measure is what is left. Assumes nothing.
-use Rattle.std.proofs.Common.{refl, arith}
-use Rattle.decimals.proofs.Decimals.{Counting, count_low_start, count_on, count_fits, count_end}
+use Rattle.decimals.proofs.Decimals.{Counting}
 use Rattle.decimals.proofs.printing.count_low.Given as goal
 
 abbrev pub invariant-loop-left : goal.invariant-loop-left

@@ -1,22 +1,27 @@
--- `decimals::printing::fill_digits` meets its contract. The loop's invariant: the digits of the halves at hand, as many as there is room before the place,
--- are still to come. The measure is what the halves are. Assumes nothing.
-use Rattle.std.proofs.Common.{◌++◌, length, drop, arith, rules}
-use Rattle.meaning.specs.Numbers.{digits_of}
-use Rattle.meaning.specs.Halves.{joined_halves}
-use Rattle.decimals.proofs.Decimals.{Chunking, chunk_start, chunk_room, chunk_on, chunk_end, billion_less}
+-- `decimals::printing::fill_digits` meets its contract. Assumes nothing.
+use Rattle.decimals.proofs.Decimals.{chunk_start, chunk_room, chunk_inside, chunk_on, chunk_end, billion_less}
 use Rattle.decimals.proofs.printing.fill_digits.Goals as goal
 
-pub loop-h-init : goal.loop-h-init
-loop-h-init c = search chunk_start
+pub loop-left-init : goal.loop-left-init
+loop-left-init c = search chunk_start
 
-pub overflow_sub-i : goal.overflow_sub-i
-overflow_sub-i c = omega (arith, chunk_room c.loop-h.h c.loop-h.l c.loop-h.invariant c.loop-h-test.true)
+pub overflow_sub-end : goal.overflow_sub-end
+overflow_sub-end c = search chunk_room
 
-pub loop-h-smaller : goal.loop-h-smaller
-loop-h-smaller c = search billion_less
+pub slice_bounds-fill_low-end : goal.slice_bounds-fill_low-end
+slice_bounds-fill_low-end c = search chunk_inside
 
-pub loop-h-preserved : goal.loop-h-preserved
-loop-h-preserved c = search chunk_on
+pub overflow_sub-end-in-loop-left : goal.overflow_sub-end-in-loop-left
+overflow_sub-end-in-loop-left c = search chunk_room
+
+pub loop-left-smaller : goal.loop-left-smaller
+loop-left-smaller c = search billion_less
+
+pub loop-left-preserved : goal.loop-left-preserved
+loop-left-preserved c = search chunk_on
+
+pub slice_bounds-fill_low-end-2 : goal.slice_bounds-fill_low-end-2
+slice_bounds-fill_low-end-2 c = search chunk_inside
 
 pub returns : goal.returns
 returns c = search chunk_end

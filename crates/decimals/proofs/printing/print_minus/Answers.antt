@@ -1,5 +1,4 @@
 -- `decimals::printing::print_minus` meets its contract. The digits are counted before any byte is written; the minus comes last. Assumes nothing.
-use Rattle.std.proofs.Common.{rules}
 use Rattle.decimals.proofs.Answering.{behind_short, behind_wrote, digits_fit}
 use Rattle.decimals.proofs.printing.print_minus.Goals as goal
 

@@ -1,10 +1,9 @@
--- `decimals::printing::print_plus` meets its contract. The digits are counted before any byte is written. Assumes nothing.
-use Rattle.std.proofs.Common.{rules}
-use Rattle.decimals.proofs.Answering.{reads_short, reads_wrote}
+-- `decimals::printing::print_plus` meets its contract. Assumes nothing.
+use Rattle.decimals.proofs.Answering.{reads_short, reads_filled}
 use Rattle.decimals.proofs.printing.print_plus.Goals as goal
 
 pub returns-then-out-needed : goal.returns-then-out-needed
 returns-then-out-needed c = search reads_short
 
 pub returns : goal.returns
-returns c = search reads_wrote
+returns c = search reads_filled

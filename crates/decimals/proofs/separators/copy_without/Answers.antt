@@ -1,20 +1,19 @@
--- `decimals::separators::copy_without` meets its contract. The loop's invariant: the buffer begins with the bytes kept so far, and those kept of what is left
--- follow them. The measure is what is left of the length. Assumes nothing.
-use Rattle.std.proofs.Common.{◌-◌, length, arith}
-use Rattle.decimals.proofs.Separating.{Skipping, skip_start, skip_long, skip_apart, skip_room, skip_copy, skip_end}
+-- `decimals::separators::copy_without` meets its contract. Assumes nothing.
+use Rattle.decimals.proofs.Separating.{skip_start, skip_long, skip_apart, skip_room, skip_copy, skip_end}
 use Rattle.decimals.proofs.separators.copy_without.Goals as goal
+use Rattle.decimals.proofs.separators.copy_without.Goals.{then-byte-ne95, else-byte-ne95}
 
-pub loop-i-init : goal.loop-i-init
-loop-i-init c = search skip_start
+pub loop-byte-init : goal.loop-byte-init
+loop-byte-init c = search skip_start
 
-pub loop-i-preserved-then-byte-eq95 : goal.loop-i-preserved-then-byte-eq95
-loop-i-preserved-then-byte-eq95 c = search skip_apart
+pub bounds-out-end : goal.bounds-out-end
+bounds-out-end c = search skip_room
 
-pub bounds-out-j : goal.bounds-out-j
-bounds-out-j c = search skip_room
-
-pub loop-i-preserved : goal.loop-i-preserved
-loop-i-preserved c = search skip_copy
+pub loop-byte-preserved : goal.loop-byte-preserved
+loop-byte-preserved c = elim c.if-byte-ne95.branch [
+  | then-byte-ne95 w ↦ rw (w.out-is, w.end-is) (search (skip_copy, w.if-byte-ne95))
+  | else-byte-ne95 w ↦ rw (w.out-is, w.end-is) (search (skip_apart, w.if-byte-ne95))
+]
 
 pub shape_of-out : goal.shape_of-out
 shape_of-out c = search skip_long

@@ -1,20 +1,19 @@
--- `decimals::separators::count_separators` meets its contract. The loop's invariant: what is left is placed, behind the byte passed last, where all is, and
--- the count is what the bytes passed are more than those kept of them. The measure is what is left of the length. Assumes nothing.
-use Rattle.std.proofs.Common.{◌-◌, length, arith, rules}
-use Rattle.decimals.proofs.Separating.{Passing, pass_start, pass_other, pass_apart, pass_misplaced, pass_end}
+-- `decimals::separators::count_separators` meets its contract. Assumes nothing.
+use Rattle.decimals.proofs.Separating.{pass_start, pass_other, pass_apart, pass_misplaced, pass_end}
 use Rattle.decimals.proofs.separators.count_separators.Goals as goal
+use Rattle.decimals.proofs.separators.count_separators.Goals.{then-byte-eq95+else-not-is_between, else-byte-eq95}
 
-pub loop-i-init : goal.loop-i-init
-loop-i-init c = search pass_start
+pub loop-place-init : goal.loop-place-init
+loop-place-init c = search pass_start
 
-pub loop-i-preserved-then-is_between : goal.loop-i-preserved-then-is_between
-loop-i-preserved-then-is_between c = search pass_apart
+pub returns-then-not-is_between : goal.returns-then-not-is_between
+returns-then-not-is_between c = search pass_misplaced
 
-pub returns-else-is_between : goal.returns-else-is_between
-returns-else-is_between c = search pass_misplaced
-
-pub loop-i-preserved : goal.loop-i-preserved
-loop-i-preserved c = search pass_other
+pub loop-place-preserved : goal.loop-place-preserved
+loop-place-preserved c = elim c.if-byte-eq95.branch [
+  | then-byte-eq95+else-not-is_between w ↦ rw w.n-is (search (pass_apart, w.if-byte-eq95, w.is_between, w.if-not-is_between))
+  | else-byte-eq95 w ↦ rw w.n-is (search (pass_other, w.if-byte-eq95))
+]
 
 pub returns : goal.returns
 returns c = search pass_end

@@ -1,5 +1,4 @@
 -- `decimals::separators::is_between` meets its contract. Past either end stands no digit. Assumes nothing.
-use Rattle.std.proofs.Common.{rules}
 use Rattle.decimals.proofs.Separating.{between_first, between_last, between_both}
 use Rattle.decimals.proofs.separators.is_between.Goals as goal
 

@@ -1,15 +1,9 @@
--- `escapes::digits::digits_at` meets its contract. The loop's invariant: the bytes so far are digits, and the number is theirs. The measure is what is left
--- of the width. Assumes nothing.
-use Prim.Native.Nat.{◌-◌}
-use borrow.Author.Rules.{rules}
-use Rattle.escapes.proofs.Running.{Running, running_none, run_past, running_over, running_full, running_other, running_turn, running_adds, running_scales}
+-- `escapes::digits::digits_at` meets its contract. The loop's invariant: the bytes so far are digits, and the number is theirs. Assumes nothing.
+use Rattle.escapes.proofs.Running.{run_past, running_over, running_full, running_other, running_turn, running_adds, running_scales}
 use Rattle.escapes.proofs.digits.digits_at.Goals as goal
 
 pub returns-then-body-at : goal.returns-then-body-at
 returns-then-body-at c = search run_past
-
-pub loop-count-init : goal.loop-count-init
-loop-count-init c = running_none _ _ _ _
 
 pub returns-then-left-count : goal.returns-then-left-count
 returns-then-left-count c = search running_over

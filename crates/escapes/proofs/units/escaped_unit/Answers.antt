@@ -1,19 +1,12 @@
 -- `escapes::units::escaped_unit` meets its contract: each way out has its law. Assumes nothing.
-use Rattle.escapes.proofs.UnitLaws.{escaped_end, escaped_octal, escaped_hex, escaped_x, escaped_four, escaped_eight, escaped_letter}
-use borrow.Author.Rules.{rules}
+use Rattle.escapes.proofs.UnitLaws.{escaped_octal, escaped_hex, escaped_four, escaped_eight, escaped_letter}
 use Rattle.escapes.proofs.units.escaped_unit.Goals as goal
-
-pub returns-then-body-at : goal.returns-then-body-at
-returns-then-body-at c = search escaped_end
 
 pub returns-then-is_octal : goal.returns-then-is_octal
 returns-then-is_octal c = search escaped_octal
 
 pub returns-then-hex-gt0 : goal.returns-then-hex-gt0
 returns-then-hex-gt0 c = search escaped_hex
-
-pub returns-then-letter-eq120 : goal.returns-then-letter-eq120
-returns-then-letter-eq120 c = search escaped_x
 
 pub returns-then-letter-eq117 : goal.returns-then-letter-eq117
 returns-then-letter-eq117 c = search escaped_four

@@ -1,6 +1,5 @@
 -- `escapes::units::low_half_unit` meets its contract: each way out has its law. Assumes nothing.
 use Rattle.escapes.proofs.UnitLaws.{low_absent, low_below, low_above, low_is}
-use borrow.Author.Rules.{rules}
 use Rattle.escapes.proofs.units.low_half_unit.Goals as goal
 
 pub returns-then-not-starts_at : goal.returns-then-not-starts_at

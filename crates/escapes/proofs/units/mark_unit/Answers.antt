@@ -1,10 +1,6 @@
 -- `escapes::units::mark_unit` meets its contract: each way out has its law. Assumes nothing.
-use Rattle.escapes.proofs.UnitLaws.{mark_keep, mark_alone, mark_pair}
-use borrow.Author.Rules.{rules}
+use Rattle.escapes.proofs.UnitLaws.{mark_alone, mark_pair}
 use Rattle.escapes.proofs.units.mark_unit.Goals as goal
-
-pub returns-then-body-at : goal.returns-then-body-at
-returns-then-body-at c = search mark_keep
 
 pub returns-then-byte_at-quote : goal.returns-then-byte_at-quote
 returns-then-byte_at-quote c = search mark_alone

@@ -1,6 +1,5 @@
 -- `escapes::units::uescaped_unit` meets its contract: each way out has its law. Assumes nothing.
 use Rattle.escapes.proofs.UnitLaws.{high_half, uescaped_empty, uescaped_again, uescaped_plus, uescaped_high, uescaped_four}
-use borrow.Author.Rules.{rules}
 use Rattle.escapes.proofs.units.uescaped_unit.Goals as goal
 
 pub returns-then-len-eq0 : goal.returns-then-len-eq0

@@ -1,5 +1,4 @@
 -- `kinds::money::read_money` meets its contract, by the text's first byte. Assumes nothing.
-use borrow.Author.Rules.{rules}
 use Rattle.kinds.proofs.Tokens.{money_sign, money_none}
 use Rattle.kinds.proofs.money.read_money.Goals as goal
 

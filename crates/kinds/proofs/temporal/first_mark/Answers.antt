@@ -1,21 +1,14 @@
--- `kinds::temporal::first_mark` meets its contract. The loop's invariant: the `i` bytes passed are no marks. The measure is what is left of the text.
--- Assumes nothing.
-use Prim.Native.Nat.{◌-◌}
-use native.Mathlib.Omega.{arith}
-use lib.ListN.{length}
-use Rattle.leaves.proofs.RunSteps.{RunSoFar}
-use Rattle.kinds.specs.Tokens.{unmarked}
-use Rattle.kinds.proofs.Finding.{mark_none, mark_here, mark_more, mark_end}
+-- `kinds::temporal::first_mark` meets its contract. Assumes nothing.
+use Rattle.std.proofs.Common.{◌≡◌, ◌∙◌, sym, true, false, refl, rules}
+use borrow.Author.Tests.{tests}
+use Rattle.std.proofs.lemmas.Iterator.{IsFirst-from_position, YieldsList-from_slice, index_from_first}
+use Rattle.kinds.specs.Tokens.{unmarked, first_mark}
+use Rattle.kinds.proofs.Finding.{mark_here, mark_more}
 use Rattle.kinds.proofs.temporal.first_mark.Goals as goal
 
-pub loop-i-init : goal.loop-i-init
-loop-i-init c = search mark_none
-
-pub returns-then-byte : goal.returns-then-byte
-returns-then-byte c = search mark_here
-
-pub loop-i-preserved : goal.loop-i-preserved
-loop-i-preserved c = search mark_more
-
 pub returns : goal.returns
-returns c = search mark_end
+returns c =
+    c.unwrap_or.ensures
+    ∙ sym (index_from_first first_mark (λ b. unmarked b ≡ false) (λ b. unmarked b ≡ true) refl mark_here mark_more _ _
+    (IsFirst-from_position _ _ _ (λ b. unmarked b ≡ false) (λ b. unmarked b ≡ true) c.position.ensures.ran (YieldsList-from_slice c.args.text.now cc)
+    (λ x q k. search (rules, tests)) (λ x q k. search (rules, tests))))

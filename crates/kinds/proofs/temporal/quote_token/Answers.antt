@@ -1,5 +1,4 @@
 -- `kinds::temporal::quote_token` meets its contract, by what the callees say of the token's ends. Assumes nothing.
-use borrow.Author.Rules.{rules}
 use Rattle.kinds.proofs.Tokens.{quote_none, quote_some}
 use Rattle.kinds.proofs.temporal.quote_token.Goals as goal
 

@@ -19,33 +19,33 @@ pub slice_bounds-read_bytes-end : goal.slice_bounds-read_bytes-end
 slice_bounds-read_bytes-end c = search token_inside
 
 pub overflow_add-result : goal.overflow_add-result
-overflow_add-result c = let ranged_here : Bounds (length c.args.text.now)
-    (c.in-Found.from + c.in-Borrowed.start)
-    (c.in-Found.from + c.in-Borrowed.end) = search borrowed_inside in
+overflow_add-result c = let e = rw c.in-Ok-Borrowed.field-0-is at c.in-Ok-Borrowed.is in let ranged_here : Bounds (length c.args.text.now)
+    (c.in-Some.field-0.from + c.in-Ok-Borrowed.start)
+    (c.in-Some.field-0.from + c.in-Ok-Borrowed.end) = search (borrowed_inside, e) in
     omega (arith, ranged_here.ordered, ranged_here.inside)
 
-pub overflow_add-result-in-Borrowed : goal.overflow_add-result-in-Borrowed
-overflow_add-result-in-Borrowed c = let ranged_here : Bounds (length c.args.text.now)
-    (c.in-Found.from + c.in-Borrowed.start)
-    (c.in-Found.from + c.in-Borrowed.end) = search borrowed_inside in
+pub overflow_add-result-in-Ok-Borrowed : goal.overflow_add-result-in-Ok-Borrowed
+overflow_add-result-in-Ok-Borrowed c = let e = rw c.in-Ok-Borrowed.field-0-is at c.in-Ok-Borrowed.is in let ranged_here : Bounds (length c.args.text.now)
+    (c.in-Some.field-0.from + c.in-Ok-Borrowed.start)
+    (c.in-Some.field-0.from + c.in-Ok-Borrowed.end) = search (borrowed_inside, e) in
     omega (arith, ranged_here.inside)
 
-pub overflow_add-result-in-Refused : goal.overflow_add-result-in-Refused
-overflow_add-result-in-Refused c = let placed_here : c.in-Found.from + c.in-Refused.place
-    ≤ length c.args.text.now = search refused_inside in
+pub overflow_add-result-in-Err-At : goal.overflow_add-result-in-Err-At
+overflow_add-result-in-Err-At c = let e = rw c.in-Err-At.field-0-is at c.in-Err-At.is in let placed_here : c.in-Some.field-0.from + c.in-Err-At.place
+    ≤ length c.args.text.now = search (refused_inside, e) in
     omega (arith, placed_here)
 
-pub returns-in-Borrowed : goal.returns-in-Borrowed
-returns-in-Borrowed c = search temporal_borrowed
+pub returns-in-Ok-Borrowed : goal.returns-in-Ok-Borrowed
+returns-in-Ok-Borrowed c = let e = rw c.in-Ok-Borrowed.field-0-is at c.in-Ok-Borrowed.is in search (temporal_borrowed, e)
 
-pub returns-in-Written : goal.returns-in-Written
-returns-in-Written c = search temporal_written
+pub returns-in-Ok-Written : goal.returns-in-Ok-Written
+returns-in-Ok-Written c = let e = rw c.in-Ok-Written.field-0-is at c.in-Ok-Written.is in search (temporal_written, e)
 
-pub returns-in-Refused : goal.returns-in-Refused
-returns-in-Refused c = search temporal_refused
+pub returns-in-Err-At : goal.returns-in-Err-At
+returns-in-Err-At c = let e = rw c.in-Err-At.field-0-is at c.in-Err-At.is in search (temporal_refused, e)
 
-pub returns-in-NoRoom : goal.returns-in-NoRoom
-returns-in-NoRoom c = search temporal_short
+pub returns-in-Err-NoRoom : goal.returns-in-Err-NoRoom
+returns-in-Err-NoRoom c = let e = rw c.in-Err-NoRoom.field-0-is at c.in-Err-NoRoom.is in search (temporal_short, e)
 
-pub returns-in-Nothing : goal.returns-in-Nothing
-returns-in-Nothing c = search temporal_nothing
+pub returns-in-None : goal.returns-in-None
+returns-in-None c = search temporal_nothing

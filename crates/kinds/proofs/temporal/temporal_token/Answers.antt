@@ -1,5 +1,4 @@
 -- `kinds::temporal::temporal_token` meets its contract, by its first mark and the byte there. Assumes nothing.
-use borrow.Author.Rules.{rules}
 use Rattle.kinds.proofs.Tokens.{token_dollar, token_quote}
 use Rattle.kinds.proofs.temporal.temporal_token.Goals as goal
 

@@ -1,5 +1,4 @@
 -- `kinds::temporal::token_start` meets its contract, by the byte before the mark and the one before that. Assumes nothing.
-use borrow.Author.Rules.{rules}
 use Rattle.kinds.proofs.Tokens.{start_first, start_plain, start_lone, start_word, start_escape}
 use Rattle.std.proofs.Common.{ap, not}
 use Rattle.kinds.proofs.temporal.token_start.Goals as goal

@@ -1,5 +1,5 @@
 -- `leaves::digits::hex_value` meets its contract, by what `loose_digit` ensures. Assumes nothing.
-use Rattle.std.proofs.Common.{rules, le-ltb, lt-ltb}
+use Rattle.std.proofs.Common.{le-ltb, lt-ltb}
 use Rattle.leaves.proofs.digits.hex_value.Goals as goal
 
 pub returns-then-digit-lt16 : goal.returns-then-digit-lt16

@@ -1,5 +1,4 @@
 -- `leaves::digits::is_radix_digit` meets its contract. The code is the definition, by what `hex_value` ensures. Assumes nothing.
-use Rattle.std.proofs.Common.{rules}
 use Rattle.leaves.proofs.digits.is_radix_digit.Goals as goal
 
 pub returns : goal.returns

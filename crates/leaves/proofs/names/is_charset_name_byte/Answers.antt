@@ -1,8 +1,7 @@
--- `leaves::names::is_charset_name_byte` meets its contract. The code is the definition, by what the two callees ensure. Assumes nothing.
-use Rattle.std.proofs.Common.{rules}
-use Rattle.meaning.specs.Bytes.{in_name}
+-- `leaves::names::is_charset_name_byte` meets its contract. The code is the definition, by what std ensures. Assumes nothing.
+use Rattle.meaning.specs.Bytes.{within, is_letter, is_decimal, in_name}
 use Rattle.leaves.proofs.names.is_charset_name_byte.Goals as goal
 
 pub returns : goal.returns
-unfolding in_name
-returns c = rw (c.is_letter.ensures, c.is_decimal.ensures)
+unfolding within is_letter is_decimal in_name
+returns c = rw (c.is_ascii_alphabetic.ensures.value, c.is_ascii_digit.ensures.value)

@@ -1,5 +1,4 @@
 -- `leaves::runs::is_in_class` meets its contract, by what the two callees ensure. Assumes nothing.
-use Rattle.std.proofs.Common.{rules}
 use Rattle.leaves.proofs.RunSteps.{class_charset, class_tag}
 use Rattle.leaves.proofs.runs.is_in_class.Goals as goal
 

@@ -1,6 +1,5 @@
 -- `leaves::texts::is_enclosed` meets its contract. Where there is room for two marks, the code asks what the definition asks. Assumes nothing.
 use Rattle.laws.proofs.basics.Enclosures.{encloses_past, encloses_short, encloses_by}
-use Rattle.std.proofs.Common.{rules}
 use Rattle.leaves.proofs.texts.is_enclosed.Goals as goal
 
 pub returns-then-text-at : goal.returns-then-text-at

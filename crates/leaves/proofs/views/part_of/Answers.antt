@@ -1,6 +1,5 @@
 -- `leaves::views::part_of` meets its contract. Assumes nothing.
 use Rattle.leaves.proofs.Shown.{part_fits, part_backwards, part_past}
-use Rattle.std.proofs.Common.{rules}
 use Rattle.leaves.proofs.views.part_of.Goals as goal
 
 pub returns-then-until-from : goal.returns-then-until-from

@@ -1,5 +1,4 @@
 -- `lists::run::valdrabus_keys` meets its contract: the words' case is the one that is gone. Assumes nothing.
-use Rattle.std.proofs.Common.{rules}
 use Rattle.words.proofs.Asking.{ends_work, ends_help, ends_other}
 use Rattle.lists.proofs.run.valdrabus_keys.Goals as goal
 

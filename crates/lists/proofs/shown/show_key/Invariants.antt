@@ -1,9 +1,6 @@
--- `lists::shown::show_key` ends. The loop's invariant: the place lies within the key. The measure is what is left of it. Assumes nothing.
-use Rattle.std.proofs.Common.{◌-◌, ◌≤◌, length, rules}
+-- `lists::shown::show_key` ends. The measure is what is left of the key. Assumes nothing.
+use Rattle.std.proofs.Common.{length}
 use Rattle.lists.proofs.shown.show_key.Given as goal
 
-abbrev pub invariant-loop-at : goal.invariant-loop-at
-invariant-loop-at l = l.at ≤ length l.key
-
-abbrev pub decreases-loop-at : goal.decreases-loop-at
-decreases-loop-at l = length l.key - l.at
+abbrev pub decreases-loop-piece : goal.decreases-loop-piece
+decreases-loop-piece l = length l.rest

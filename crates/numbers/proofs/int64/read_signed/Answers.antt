@@ -1,5 +1,4 @@
 -- `numbers::int64::read_signed` meets its contract. The digits stand behind the sign, and a number with a high half is above 2^63. Assumes nothing.
-use borrow.Author.Rules.{rules}
 use Rattle.numbers.proofs.Prefixes.{sign_inside}
 use Rattle.numbers.proofs.Fitting.{signed_value, signed_refused, signed_wide}
 use Rattle.numbers.proofs.int64.read_signed.Goals as goal

@@ -1,5 +1,4 @@
 -- `numbers::int64::read_spelled` meets its contract. Base ten reads the whole text, a radix what stands behind the prefix. Assumes nothing.
-use borrow.Author.Rules.{rules}
 use Rattle.numbers.proofs.Prefixes.{sign_inside}
 use Rattle.numbers.proofs.Texts.{base_known, rest_long}
 use Rattle.numbers.proofs.Radixes.{radix_known}

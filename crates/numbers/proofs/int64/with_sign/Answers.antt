@@ -1,6 +1,5 @@
 -- `numbers::int64::with_sign` meets its contract. A minus allows one more; -1 - (m - 1) wraps at no place. Assumes nothing.
 use Prim.Native.Nat.{◌-◌}
-use borrow.Author.Rules.{rules}
 use native.Mathlib.Omega.{arith}
 use Rattle.numbers.proofs.Signs.{less_fits, less_back, minus_value, minus_great, plus_value, plus_great}
 use Rattle.numbers.proofs.int64.with_sign.Goals as goal

@@ -1,5 +1,4 @@
 -- `numbers::prefix::split_radix_prefix` meets its contract. The code asks the length, the first byte and the second one. Assumes nothing.
-use borrow.Author.Rules.{rules}
 use Rattle.numbers.proofs.Prefixes.{ten_short, ten_first, ten_second, radix_second}
 use Rattle.numbers.proofs.prefix.split_radix_prefix.Goals as goal
 

@@ -1,6 +1,5 @@
 -- `numbers::prefix::split_sign` meets its contract. An empty text has no first byte. Assumes nothing.
 use Rattle.numbers.proofs.Prefixes.{sign_none, sign_there, sign_other}
-use borrow.Author.Rules.{rules}
 use Rattle.numbers.proofs.prefix.split_sign.Goals as goal
 
 pub returns-then-text-eq0 : goal.returns-then-text-eq0

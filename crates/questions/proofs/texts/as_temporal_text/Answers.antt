@@ -1,23 +1,26 @@
 -- `questions::texts::as_temporal_text` meets its contract: the text in the span is read, and the reading told of the source. Assumes nothing.
+use Rattle.std.proofs.lemmas.Result.{err_from_is_err_and}
 use Rattle.questions.proofs.Spanned.{span_ordered, span_inside}
 use Rattle.questions.proofs.Telling.{temporal_fits, temporal_told, temporal_barred}
+use Rattle.meaning.specs.declared.Refusal.TheVariants.{InvalidString}
 use borrow.Author.Rules.{rules}
 use Rattle.questions.proofs.texts.as_temporal_text.Goals as goal
 
-pub slice_bounds-read_temporal-count : goal.slice_bounds-read_temporal-count
-slice_bounds-read_temporal-count c = search span_ordered
+pub slice_bounds-token-count : goal.slice_bounds-token-count
+slice_bounds-token-count c = search (span_ordered, c.in_ok-part.was)
 
-pub slice_bounds-read_temporal-start : goal.slice_bounds-read_temporal-start
-slice_bounds-read_temporal-start c = search span_ordered
+pub slice_bounds-token-start : goal.slice_bounds-token-start
+slice_bounds-token-start c = search (span_ordered, c.in_ok-part.was)
 
-pub slice_bounds-read_temporal-end : goal.slice_bounds-read_temporal-end
-slice_bounds-read_temporal-end c = search span_inside
+pub slice_bounds-token-end : goal.slice_bounds-token-end
+slice_bounds-token-end c = search (span_inside, c.in_ok-part.was)
 
-pub string_of-requires : goal.string_of-requires
-string_of-requires c = search temporal_fits
+pub text_of-requires-clause-inside : goal.text_of-requires-clause-inside
+text_of-requires-clause-inside c = search (temporal_fits, c.in_ok-part.was)
 
-pub returns-in-Passes : goal.returns-in-Passes
-returns-in-Passes c = search temporal_told
+pub returns : goal.returns
+returns c = search (temporal_told, c.in_ok-part.was, c.text_of.ensures (λ p. InvalidString c.args.literal.span p) (λ p x h. cc))
 
-pub returns-in-Barred : goal.returns-in-Barred
-returns-in-Barred c = search temporal_barred
+pub returns-in_err-part : goal.returns-in_err-part
+returns-in_err-part c =
+    let p = err_from_is_err_and c.from_residual.result c.from_residual.ensures.1 in rw (p.1, p.2) (search (temporal_barred, c.in_err-part.was))

@@ -1,8 +1,6 @@
 -- `records::printing::print_number` meets its contract. The loop's invariant: the digits of what is left are still to come.
 -- The measure is what is left. Assumes nothing.
-use native.Mathlib.Omega.{arith}
-use mathlib.Core.Path.{sym, ◌∙◌}
-use Rattle.records.proofs.Digits.{Printing, printing_start, printing_first, printing_turn, printing_end}
+use Rattle.records.proofs.Digits.{Printing}
 use Rattle.records.proofs.printing.print_number.Given as goal
 
 abbrev pub invariant-loop-left : goal.invariant-loop-left

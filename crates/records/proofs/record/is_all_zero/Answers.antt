@@ -1,18 +1,12 @@
--- `records::record::is_all_zero` meets its contract. The loop's invariant: the bytes so far are 0. The measure is what is left of them. Assumes nothing.
-use Rattle.records.proofs.Goods.{Zeros, zeros_start, zeros_broken, zeros_next, zeros_end}
-use native.Mathlib.Omega.{arith}
-use Prim.Native.Nat.{◌-◌}
-use lib.ListN.{length}
+-- `records::record::is_all_zero` meets its contract. Assumes nothing.
+use Rattle.std.proofs.Common.{◌∙◌, eqb, rules}
+use Rattle.std.proofs.lemmas.Iterator.{YieldsList-from_slice}
+use Rattle.std.proofs.lemmas.Iterator.Search.{all_from_yields_List}
+use borrow.Author.Tests.{tests}
+use Rattle.records.proofs.Goods.{zeros_all}
 use Rattle.records.proofs.record.is_all_zero.Goals as goal
 
-pub loop-i-init : goal.loop-i-init
-loop-i-init c = zeros_start _
-
-pub returns-then-bytes-i-ne0 : goal.returns-then-bytes-i-ne0
-returns-then-bytes-i-ne0 c = search zeros_broken
-
-pub loop-i-preserved : goal.loop-i-preserved
-loop-i-preserved c = search zeros_next
-
 pub returns : goal.returns
-returns c = search zeros_end
+returns c =
+    all_from_yields_List (λ b. eqb b 0) _ _ _ c.all.ensures.ran (YieldsList-from_slice c.args.bytes.now cc) (λ x b q k. search (rules, tests))
+    ∙ zeros_all c.args.bytes.now

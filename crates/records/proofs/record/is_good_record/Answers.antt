@@ -1,7 +1,6 @@
 -- `records::record::is_good_record` meets its contract, test by test. Assumes nothing.
 use native.Mathlib.Omega.{arith}
 use Rattle.records.proofs.Goods.{bad_length, bad_text, good_or_not}
-use borrow.Author.Rules.{rules}
 use Rattle.records.proofs.record.is_good_record.Goals as goal
 
 pub returns-then-bytes-ne64 : goal.returns-then-bytes-ne64

@@ -2,7 +2,6 @@
 use mathlib.Core.Path.{sym}
 use lib.Seq.{length-take-le}
 use Rattle.records.proofs.Filling.{lines_within}
-use borrow.Author.Rules.{rules}
 use Rattle.records.proofs.run.answer_block.Goals as goal
 
 pub slice_bounds-write_all-end : goal.slice_bounds-write_all-end

@@ -1,17 +1,12 @@
--- `records::run::answer_records` meets its contract. The loop's invariant: the lines of the records before a place are put. The measure is what is left of the
--- input. Assumes nothing.
-use Prim.Native.Nat.{◌-◌}
-use native.Mathlib.Omega.{arith}
-use lib.ListN.{length}
-use borrow.Author.Rules.{rules}
-use Rattle.records.proofs.Filling.{Answered, answered_none, answered_turn, answered_end}
+-- `records::run::answer_records` meets its contract. Assumes nothing.
+use Rattle.std.proofs.Common.{◌∙◌}
+use Rattle.records.proofs.Filling.{answered_turn, answered_end}
 use Rattle.records.proofs.run.answer_records.Goals as goal
 
-pub loop-at-init : goal.loop-at-init
-loop-at-init c = answered_none _ _
-
-pub loop-at-preserved : goal.loop-at-preserved
-loop-at-preserved c = search answered_turn
+pub loop-record-preserved : goal.loop-record-preserved
+loop-record-preserved c =
+    let s = c.in-Some.ensures.steps in
+    (answered_turn c.loop-record.invariant.0 c.requires _ _ _ c.loop-record.invariant.1 s.1.0 s.1.1 s.1.2 _ _ c.record_line-full.ensures, s.0 ∙ c.loop-record.invariant.1)
 
 pub returns : goal.returns
-returns c = search answered_end
+returns c = answered_end c.loop-record.invariant.0 c.in-None.ensures.steps.1.0

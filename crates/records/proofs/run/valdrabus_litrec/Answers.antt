@@ -1,6 +1,5 @@
 -- `records::run::valdrabus_litrec` meets its contract: the words' case is the one that is gone. Assumes nothing.
 use Rattle.words.proofs.Asking.{ends_work, ends_help, ends_other}
-use borrow.Author.Rules.{rules}
 use Rattle.records.proofs.run.valdrabus_litrec.Goals as goal
 
 pub returns-in-Work : goal.returns-in-Work

@@ -1,5 +1,4 @@
 -- `scalars::reading::lead_bits` meets its contract. Each return's tests bound the byte, and `bits_is` reads its rows. Assumes nothing.
-use borrow.Author.Rules.{rules}
 use native.Mathlib.Omega.{arith}
 use Prim.Native.Nat.{◌-◌}
 use Rattle.scalars.proofs.Widths.{bits_is}

@@ -1,7 +1,6 @@
 -- `spellings::spelling::introduced` meets its contract. An opening ends in its mark, inside the text, which the text ends in too. Assumes nothing.
 use Rattle.cutting.proofs.Cuts.{opened_inside}
-use Rattle.spellings.proofs.Spelt.{introduced_none, introduced_open, introduced_room, introduced_quote, introduced_double}
-use borrow.Author.Rules.{rules}
+use Rattle.spellings.proofs.Spelt.{introduced_none, introduced_open, introduced_quote, introduced_double}
 use Rattle.spellings.proofs.spelling.introduced.Goals as goal
 
 pub returns-then-open-eq0 : goal.returns-then-open-eq0
@@ -12,9 +11,6 @@ bounds-text-open c = search opened_inside
 
 pub returns-then-not-is_enclosed : goal.returns-then-not-is_enclosed
 returns-then-not-is_enclosed c = search introduced_open
-
-pub overflow_sub-until : goal.overflow_sub-until
-overflow_sub-until c = search introduced_room
 
 pub returns-then-quote-eq39 : goal.returns-then-quote-eq39
 returns-then-quote-eq39 c = search introduced_quote

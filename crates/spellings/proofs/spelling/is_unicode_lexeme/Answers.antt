@@ -1,6 +1,5 @@
 -- `spellings::spelling::is_unicode_lexeme` meets its contract. The code asks what the definition asks, in its order. Assumes nothing.
 use Rattle.spellings.proofs.Unicodes.{unicode_by_lem}
-use borrow.Author.Rules.{rules}
 use Rattle.spellings.proofs.spelling.is_unicode_lexeme.Goals as goal
 
 pub returns : goal.returns

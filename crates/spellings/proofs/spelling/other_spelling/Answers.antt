@@ -1,6 +1,5 @@
 -- `spellings::spelling::other_spelling` meets its contract. Each way out has its law, by the tests before it. Assumes nothing.
 use Rattle.spellings.proofs.Spelt.{other_introduced, other_unicode, other_dollar}
-use borrow.Author.Rules.{rules}
 use Rattle.spellings.proofs.spelling.other_spelling.Goals as goal
 
 pub returns-then-byte_at-eq95 : goal.returns-then-byte_at-eq95

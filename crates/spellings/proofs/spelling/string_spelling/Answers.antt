@@ -1,6 +1,5 @@
 -- `spellings::spelling::string_spelling` meets its contract. Each way out has its law, by the tests before it. Assumes nothing.
 use Rattle.spellings.proofs.Spelt.{spells_empty, spells_quote, spells_double, spells_escape, spells_national, spells_other}
-use borrow.Author.Rules.{rules}
 use Rattle.spellings.proofs.spelling.string_spelling.Goals as goal
 
 pub returns-then-text-eq0 : goal.returns-then-text-eq0

@@ -1,6 +1,5 @@
 -- `strings::alone::read_body` meets its contract: the part is read by its family and its escape character, and its answer placed. Assumes nothing.
 use Rattle.strings.proofs.Bodies.{body_fits, body_reads}
-use borrow.Author.Rules.{rules}
 use Rattle.strings.proofs.alone.read_body.Goals as goal
 
 pub placed-requires : goal.placed-requires

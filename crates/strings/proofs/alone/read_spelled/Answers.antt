@@ -1,6 +1,5 @@
 -- `strings::alone::read_spelled` meets its contract. Each way out has its law, by the spelling. Assumes nothing.
 use Rattle.strings.proofs.Bodies.{spelled_inside, spelled_body, spelled_dollar, spelled_not}
-use borrow.Author.Rules.{rules}
 use Rattle.strings.proofs.alone.read_spelled.Goals as goal
 
 pub read_body-requires : goal.read_body-requires

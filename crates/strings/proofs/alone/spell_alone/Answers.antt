@@ -1,6 +1,5 @@
 -- `strings::alone::spell_alone` meets its contract, by the NUL and the spelling. Assumes nothing.
 use Rattle.strings.proofs.Bodies.{alone_nul, alone_spelled}
-use borrow.Author.Rules.{rules}
 use Rattle.strings.proofs.alone.spell_alone.Goals as goal
 
 pub returns-then-string_literal_embeds_nul : goal.returns-then-string_literal_embeds_nul

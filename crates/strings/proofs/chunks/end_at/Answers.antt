@@ -1,5 +1,4 @@
 -- `strings::chunks::end_at` meets its contract, by the turn or by the two bytes behind it. Assumes nothing.
-use borrow.Author.Rules.{rules}
 use Rattle.strings.proofs.ChunkTurns.{ends_more, ends_closed, ends_unread}
 use Rattle.strings.proofs.chunks.end_at.Goals as goal
 

@@ -1,5 +1,4 @@
 -- `strings::chunks::take_behind` meets its contract: nothing behind the run that is read; a unit. Assumes nothing.
-use borrow.Author.Rules.{rules}
 use Rattle.strings.proofs.Lending.{place_fits}
 use Rattle.strings.proofs.ChunkTurns.{behind_none, unit_there, behind_unit}
 use Rattle.strings.proofs.chunks.take_behind.Goals as goal

@@ -1,5 +1,4 @@
 -- `strings::chunks::take_turn` meets its contract: a run of sixteen; a run, and what is behind it. Assumes nothing.
-use borrow.Author.Rules.{rules}
 use Rattle.strings.proofs.ChunkTurns.{turn_there, turn_room, turn_block, turn_on}
 use Rattle.strings.proofs.chunks.take_turn.Goals as goal
 

@@ -1,6 +1,5 @@
 -- `strings::ident::read_ident` meets its contract. Assumes nothing.
 use Rattle.strings.proofs.Bodies.{ident_reads}
-use borrow.Author.Rules.{rules}
 use Rattle.strings.proofs.ident.read_ident.Goals as goal
 
 pub returns : goal.returns

@@ -1,6 +1,5 @@
 -- `strings::ident::read_lexeme` meets its contract. Each way out has its law, by the spelling. Assumes nothing.
-use Rattle.strings.proofs.Bodies.{lexeme_inside, lexeme_body, lexeme_dollar, lexeme_unspelt}
-use borrow.Author.Rules.{rules}
+use Rattle.strings.proofs.Bodies.{lexeme_inside, lexeme_body, lexeme_other}
 use Rattle.strings.proofs.ident.read_lexeme.Goals as goal
 
 pub read_body-requires : goal.read_body-requires
@@ -9,8 +8,5 @@ read_body-requires c = search lexeme_inside
 pub returns-in-Body : goal.returns-in-Body
 returns-in-Body c = search lexeme_body
 
-pub returns-in-Dollar : goal.returns-in-Dollar
-returns-in-Dollar c = search lexeme_dollar
-
-pub returns-in-Unspelt : goal.returns-in-Unspelt
-returns-in-Unspelt c = search lexeme_unspelt
+pub returns-in_default : goal.returns-in_default
+returns-in_default c = search lexeme_other

@@ -1,10 +1,8 @@
 -- `strings::joined::put_segments` meets its contract. The loop's invariant, `JoinsAt`: the segments before the cursor mean n bytes, which are put where there is
 -- room. The measure is what is left behind the cursor. Assumes nothing.
-use Prim.Native.Nat.{◌-◌}
 use Rattle.strings.proofs.Lending.{place_fits}
 use borrow.Author.Rules.{rules}
-use lib.ListN.{length}
-use Rattle.strings.proofs.Joinings.{JoinsAt, joins_start, joins_end, joins_remainder, segment_ordered, segment_inside, cursor_less, joins_turn}
+use Rattle.strings.proofs.Joinings.{joins_start, joins_end, joins_remainder, segment_ordered, segment_inside, cursor_less, joins_turn}
 use Rattle.strings.proofs.Joinings.{joins_fits, refused_fits, joins_refused}
 use Rattle.strings.proofs.joined.put_segments.Goals as goal
 
@@ -26,8 +24,8 @@ overflow_add-n c = search (place_fits, joins_fits)
 pub overflow_add-result : goal.overflow_add-result
 overflow_add-result c = search (place_fits, refused_fits)
 
-pub returns-in-Refused : goal.returns-in-Refused
-returns-in-Refused c = search joins_refused
+pub returns-in-Err : goal.returns-in-Err
+returns-in-Err c = search joins_refused
 
 pub loop-start-smaller : goal.loop-start-smaller
 loop-start-smaller c = search cursor_less

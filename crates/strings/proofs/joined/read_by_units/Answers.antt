@@ -1,7 +1,6 @@
 -- `strings::joined::read_by_units` meets its contract. Assumes nothing.
 use Rattle.strings.proofs.Bodies.{alone_reads}
 use Rattle.strings.proofs.Wholes.{joined_reads, one_reads}
-use borrow.Author.Rules.{rules}
 use Rattle.strings.proofs.joined.read_by_units.Goals as goal
 
 pub returns-then-is_joined : goal.returns-then-is_joined

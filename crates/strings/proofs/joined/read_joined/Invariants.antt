@@ -1,8 +1,7 @@
 -- `strings::joined::read_joined` meets its contract. The loop's invariant, `Rounds`: the buffer is as it was lent, and room that is lent on is what was counted.
 -- The measure: at most one round is still to come. Assumes nothing.
 use Prim.Native.Nat.{◌-◌}
-use Rattle.strings.proofs.Wholes.{Rounds, round_first, round_part, round_short, round_written, round_less, round_again, round_refused}
-use borrow.Author.Rules.{rules}
+use Rattle.strings.proofs.Wholes.{Rounds}
 use Rattle.strings.proofs.joined.read_joined.Given as goal
 
 abbrev pub invariant-loop-len : goal.invariant-loop-len

@@ -1,5 +1,4 @@
 -- `strings::plain::is_plain` meets its contract. Two marks leave room for a body, and the scan of the body decides. Assumes nothing.
-use borrow.Author.Rules.{rules}
 use native.Mathlib.Omega.{arith}
 use Rattle.laws.proofs.basics.Enclosures.{enclosed_room}
 use Rattle.strings.proofs.Plains.{plain_not, plain_by}

@@ -1,5 +1,4 @@
 -- `strings::quick::close_segment` meets its contract. Assumes nothing.
-use borrow.Author.Rules.{rules}
 use Rattle.strings.proofs.Lending.{place_fits}
 use Rattle.strings.proofs.Segmenting.{next_room, closes_one, closes_none}
 use Rattle.strings.proofs.quick.close_segment.Goals as goal

@@ -1,9 +1,8 @@
 -- `strings::quick::drive` meets its contract. The loop's invariant, `Going`: what the segments so far mean, and where it is stored. The measure is what is left of
 -- the text. Assumes nothing.
 use Prim.Native.Nat.{◌-◌}
-use borrow.Author.Rules.{rules}
 use lib.ListN.{length}
-use Rattle.strings.proofs.SegmentTurns.{Going, going_none, going_less, going_more, drives_first, drives_not, drives_joined}
+use Rattle.strings.proofs.SegmentTurns.{Going}
 use Rattle.strings.proofs.quick.drive.Given as goal
 
 abbrev pub invariant-loop-at : goal.invariant-loop-at

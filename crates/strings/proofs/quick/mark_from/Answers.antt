@@ -1,5 +1,4 @@
 -- `strings::quick::mark_from` meets its contract. Assumes nothing.
-use borrow.Author.Rules.{rules}
 use Rattle.strings.proofs.Families.{mark_double}
 use Rattle.strings.proofs.quick.mark_from.Goals as goal
 

@@ -1,5 +1,4 @@
 -- `strings::quick::open_segment` meets its contract. Assumes nothing.
-use borrow.Author.Rules.{rules}
 use Rattle.strings.proofs.Lending.{place_fits}
 use Rattle.strings.proofs.Segmenting.{opening_room, opening_some, opens_none, opens_quote, opens_one, opens_letter}
 use Rattle.strings.proofs.quick.open_segment.Goals as goal

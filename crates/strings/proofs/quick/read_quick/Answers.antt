@@ -2,7 +2,6 @@
 use native.Mathlib.Omega.{arith}
 use mathlib.Core.Path.{sym}
 use lib.Seq.{length-take-le}
-use borrow.Author.Rules.{rules}
 use Rattle.strings.proofs.Lending.{place_fits}
 use Rattle.strings.proofs.QuickAnswers.{counted_some, counted_held, counted_fits, quick_borrowed, quick_lacks, quick_put, quick_again, quick_left}
 use Rattle.strings.proofs.quick.read_quick.Goals as goal

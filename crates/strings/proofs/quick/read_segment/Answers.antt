@@ -1,5 +1,4 @@
 -- `strings::quick::read_segment` meets its contract. Assumes nothing.
-use borrow.Author.Rules.{rules}
 use Rattle.strings.proofs.Segmenting.{segment_none, opens_inside, body_within, body_before, segment_reads}
 use Rattle.strings.proofs.quick.read_segment.Goals as goal
 

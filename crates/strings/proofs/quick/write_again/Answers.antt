@@ -1,7 +1,6 @@
 -- `strings::quick::write_again` meets its contract. Assumes nothing.
 use mathlib.Core.Path.{sym}
 use lib.Seq.{length-take-le}
-use borrow.Author.Rules.{rules}
 use Rattle.strings.proofs.QuickAnswers.{again_not, again_few, again_all}
 use Rattle.strings.proofs.quick.write_again.Goals as goal
 

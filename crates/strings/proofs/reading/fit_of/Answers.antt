@@ -1,5 +1,4 @@
 -- `strings::reading::fit_of` meets its contract, scan by scan. Assumes nothing.
-use borrow.Author.Rules.{rules}
 use Rattle.strings.proofs.Fits.{fit_run, fit_other, fit_plain, fit_clean}
 use Rattle.strings.proofs.reading.fit_of.Goals as goal
 

@@ -1,6 +1,5 @@
 -- `strings::reading::try_string` meets its contract, by how the text fits. Assumes nothing.
-use borrow.Author.Rules.{rules}
-use Rattle.strings.proofs.Fits.{whole, fit_long, fit_tries, clean, borrowed_tries, written_tries, lacking_tries, unread_tries, other_unread, other_not}
+use Rattle.strings.proofs.Fits.{whole, fit_long, fit_tries, clean, quick_tries, other_unread, other_not}
 use Rattle.strings.proofs.reading.try_string.Goals as goal
 
 pub overflow_sub-until : goal.overflow_sub-until
@@ -15,17 +14,8 @@ returns-then-is_utf8 c = whole _ _ _ _ _ (search other_unread)
 pub returns-in-Plain : goal.returns-in-Plain
 returns-in-Plain c = whole _ _ _ _ _ (search fit_tries)
 
-pub returns-in-Borrowed : goal.returns-in-Borrowed
-returns-in-Borrowed c = whole _ _ _ _ _ (search borrowed_tries)
-
-pub returns-in-Written : goal.returns-in-Written
-returns-in-Written c = whole _ _ _ _ _ (search written_tries)
-
-pub returns-in-NoRoom : goal.returns-in-NoRoom
-returns-in-NoRoom c = whole _ _ _ _ _ (search lacking_tries)
-
-pub returns-in-Unread : goal.returns-in-Unread
-returns-in-Unread c = whole _ _ _ _ _ (search unread_tries)
+pub returns-in-Clean : goal.returns-in-Clean
+returns-in-Clean c = whole _ _ _ _ _ (search quick_tries)
 
 pub returns-else-is_utf8 : goal.returns-else-is_utf8
 returns-else-is_utf8 c = whole _ _ _ _ _ (search other_not)

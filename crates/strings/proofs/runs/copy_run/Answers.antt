@@ -1,7 +1,6 @@
 -- `strings::runs::copy_run` meets its contract: less than eight bytes one by one; less than sixteen by two words; else a block is put, and eight bytes and eight
 -- more tell the run in it. Assumes nothing.
 use native.Mathlib.Omega.{arith}
-use borrow.Author.Rules.{rules}
 use Rattle.strings.proofs.RunCopies.{eight_most, copied_low, copied_high}
 use Rattle.strings.proofs.runs.copy_run.Goals as goal
 

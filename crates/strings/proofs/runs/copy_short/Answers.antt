@@ -1,6 +1,5 @@
 -- `strings::runs::copy_short` meets its contract: two words are put, and tell the run. Assumes nothing.
 use native.Mathlib.Omega.{arith}
-use borrow.Author.Rules.{rules}
 use Rattle.strings.proofs.RunCopies.{eight_most, short_low, short_high}
 use Rattle.strings.proofs.runs.copy_short.Goals as goal
 

@@ -1,5 +1,4 @@
 -- `strings::storing::fill` meets its contract. Assumes nothing.
-use borrow.Author.Rules.{rules}
 use Rattle.strings.proofs.Fillings.{fills}
 use Rattle.strings.proofs.storing.fill.Goals as goal
 

@@ -1,5 +1,4 @@
 -- `strings::storing::put_behind` meets its contract. Assumes nothing.
-use borrow.Author.Rules.{rules}
 use Rattle.strings.proofs.Storages.{behind_put, behind_none}
 use Rattle.strings.proofs.storing.put_behind.Goals as goal
 

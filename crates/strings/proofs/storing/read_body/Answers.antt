@@ -1,9 +1,5 @@
 -- `strings::storing::read_body` meets its contract. The loop's invariant, `Reading`: how far the body is read, from what was stored before it. The measure is what is
 -- left of the text. Assumes nothing.
-use Prim.Native.Nat.{◌-◌}
-use borrow.Author.Rules.{rules}
-use lib.ListN.{length}
-use Rattle.strings.specs.Storing.{Reading}
 use Rattle.strings.proofs.Fillings.{reading_none, reading_size, reading_room, reading_on, reading_less, reading_ends}
 use Rattle.strings.proofs.storing.read_body.Goals as goal
 

@@ -1,6 +1,5 @@
 -- `strings::taking::escape_taken` meets its contract: each way out has its law. Assumes nothing.
 use native.Mathlib.Omega.{arith}
-use borrow.Author.Rules.{rules}
 use Rattle.strings.proofs.TakenUnits.{takes_none, escape_scalar, escape_four, escape_eight, escape_takes}
 use Rattle.strings.proofs.taking.escape_taken.Goals as goal
 

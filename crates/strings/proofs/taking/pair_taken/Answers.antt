@@ -1,6 +1,5 @@
 -- `strings::taking::pair_taken` meets its contract: each way out has its law. Assumes nothing.
 use native.Mathlib.Omega.{arith}
-use borrow.Author.Rules.{rules}
 use Rattle.strings.proofs.TakenUnits.{pairs_none, pairs_put, low_bounds}
 use Rattle.strings.proofs.taking.pair_taken.Goals as goal
 

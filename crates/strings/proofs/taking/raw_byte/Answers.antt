@@ -1,5 +1,4 @@
 -- `strings::taking::raw_byte` meets its contract: each way out has its law. Assumes nothing.
-use borrow.Author.Rules.{rules}
 use Rattle.strings.proofs.TakenUnits.{raws_none, raws_byte, raws_there}
 use Rattle.strings.proofs.Lending.{place_fits}
 use Rattle.strings.proofs.taking.raw_byte.Goals as goal

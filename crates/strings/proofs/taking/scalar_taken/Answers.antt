@@ -1,5 +1,4 @@
 -- `strings::taking::scalar_taken` meets its contract: each way out has its law. Assumes nothing.
-use borrow.Author.Rules.{rules}
 use Rattle.strings.proofs.TakenUnits.{scalars_none, scalars_put}
 use Rattle.strings.proofs.taking.scalar_taken.Goals as goal
 

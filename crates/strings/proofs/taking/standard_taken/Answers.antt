@@ -1,5 +1,4 @@
 -- `strings::taking::standard_taken` meets its contract: each way out has its law. Assumes nothing.
-use borrow.Author.Rules.{rules}
 use Rattle.strings.proofs.TakenUnits.{takes_none, doubled_takes, standard_takes}
 use Rattle.strings.proofs.taking.standard_taken.Goals as goal
 

@@ -1,5 +1,4 @@
 -- `strings::taking::take_unit` meets its contract: in each arm the family is known. Assumes nothing.
-use borrow.Author.Rules.{rules}
 use Rattle.strings.proofs.taking.take_unit.Goals as goal
 
 pub returns-in-Standard : goal.returns-in-Standard

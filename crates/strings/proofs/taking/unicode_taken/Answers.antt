@@ -1,5 +1,4 @@
 -- `strings::taking::unicode_taken` meets its contract: each way out has its law. Assumes nothing.
-use borrow.Author.Rules.{rules}
 use Rattle.strings.proofs.TakenUnits.{half_bounds, takes_none, unicode_takes, unicode_six, unicode_pair, unicode_four}
 use Rattle.strings.proofs.taking.unicode_taken.Goals as goal
 

@@ -1,5 +1,4 @@
 -- `utf8::check::is_utf8` meets its contract: plain ASCII is UTF-8, and no byte is below 0. Assumes nothing.
-use Rattle.std.proofs.Common.{rules}
 use Rattle.utf8.proofs.PlainBytes.{run_utf8}
 use Rattle.utf8.proofs.PlaceScans.{text_utf8}
 use Rattle.utf8.proofs.check.is_utf8.Goals as goal

@@ -1,5 +1,4 @@
 -- `utf8::places::back` meets its contract: the byte that stands there, or a 0 of those before the text. Assumes nothing.
-use Rattle.std.proofs.Common.{rules}
 use Rattle.utf8.proofs.PlaceScans.{back_none, back_some}
 use Rattle.utf8.proofs.places.back.Goals as goal
 

@@ -1,5 +1,4 @@
 -- `utf8::places::fits_behind` meets its contract: a later byte where one is due, and else a first one (`fits_by_bits`). Assumes nothing.
-use Rattle.std.proofs.Common.{rules}
 use Rattle.meaning.specs.Bytes.{within}
 use Rattle.utf8.specs.Places.{begins}
 use Rattle.utf8.proofs.PlaceScans.{fits_by_bits}

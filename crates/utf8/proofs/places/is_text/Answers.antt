@@ -1,5 +1,4 @@
 -- `utf8::places::is_text` meets its contract, by the theorem on places. Assumes nothing.
-use Rattle.std.proofs.Common.{rules}
 use Rattle.utf8.proofs.PlaceScans.{text_due, text_fits}
 use Rattle.utf8.proofs.places.is_text.Goals as goal
 

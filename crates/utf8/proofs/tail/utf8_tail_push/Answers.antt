@@ -1,5 +1,5 @@
 -- `utf8::tail::utf8_tail_push` meets its contract. Each arm knows its state; `push_next` says what a byte that is due makes of it. Assumes nothing.
-use Rattle.std.proofs.Common.{refl, rules}
+use Rattle.std.proofs.Common.{refl}
 use Rattle.utf8.specs.declared.tail.Utf8Tail.TheVariants.{Start, One, Two}
 use Rattle.utf8.proofs.Pushing.{push_next}
 use Rattle.utf8.proofs.tail.utf8_tail_push.Goals as goal

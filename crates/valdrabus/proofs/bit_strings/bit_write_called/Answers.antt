@@ -1,10 +1,9 @@
 -- `valdrabus::bit_strings::bit_write_called` meets its contract, whether the kind is a bit string's or not. Assumes nothing.
 use Rattle.valdrabus.proofs.Calling.{bit_write_answered, bit_write_unknown}
-use borrow.Author.Rules.{rules}
 use Rattle.valdrabus.proofs.bit_strings.bit_write_called.Goals as goal
 
-pub returns-then-not-is_bit_kind : goal.returns-then-not-is_bit_kind
-returns-then-not-is_bit_kind c = search bit_write_unknown
+pub returns-in_default : goal.returns-in_default
+returns-in_default c = search bit_write_unknown
 
 pub returns : goal.returns
 returns c = search bit_write_answered

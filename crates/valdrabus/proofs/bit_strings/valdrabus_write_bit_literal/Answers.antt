@@ -1,6 +1,5 @@
 -- `valdrabus::bit_strings::valdrabus_write_bit_literal` meets its contract. Assumes nothing.
 use Rattle.valdrabus.proofs.Lending.{lengths_of}
-use borrow.Author.Rules.{rules}
 use Rattle.valdrabus.proofs.bit_strings.valdrabus_write_bit_literal.Goals as goal
 
 pub returns : goal.returns

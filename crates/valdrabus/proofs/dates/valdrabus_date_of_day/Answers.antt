@@ -1,6 +1,5 @@
 -- `valdrabus::dates::valdrabus_date_of_day` meets its contract. Assumes nothing.
 use Rattle.valdrabus.proofs.Lending.{finds_of}
-use borrow.Author.Rules.{rules}
 use Rattle.valdrabus.proofs.dates.valdrabus_date_of_day.Goals as goal
 
 pub returns : goal.returns

@@ -1,6 +1,5 @@
 -- `valdrabus::parts::valdrabus_as_money_text` meets its contract. Assumes nothing.
 use Rattle.valdrabus.proofs.Lending.{says_of}
-use borrow.Author.Rules.{rules}
 use Rattle.valdrabus.proofs.parts.valdrabus_as_money_text.Goals as goal
 
 pub returns : goal.returns

@@ -1,6 +1,5 @@
 -- `valdrabus::texts::valdrabus_as_bit_text` meets its contract. Assumes nothing.
 use Rattle.valdrabus.proofs.Lending.{tells_of}
-use borrow.Author.Rules.{rules}
 use Rattle.valdrabus.proofs.texts.valdrabus_as_bit_text.Goals as goal
 
 pub returns : goal.returns

@@ -1,6 +1,5 @@
 -- `valdrabus::told::refusal_told` meets its contract, by the refusal. Assumes nothing.
 use Rattle.valdrabus.proofs.Telling.{refusal_by, wrong_kind}
-use borrow.Author.Rules.{rules}
 use Rattle.valdrabus.proofs.told.refusal_told.Goals as goal
 
 pub returns-in-WrongKind : goal.returns-in-WrongKind

@@ -1,6 +1,5 @@
 -- `valdrabus::values::valdrabus_as_bool` meets its contract. Assumes nothing.
 use Rattle.valdrabus.proofs.Lending.{says_of}
-use borrow.Author.Rules.{rules}
 use Rattle.valdrabus.proofs.values.valdrabus_as_bool.Goals as goal
 
 pub returns : goal.returns

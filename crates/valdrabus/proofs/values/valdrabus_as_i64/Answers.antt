@@ -1,6 +1,5 @@
 -- `valdrabus::values::valdrabus_as_i64` meets its contract. Assumes nothing.
 use Rattle.valdrabus.proofs.Lending.{counts_of}
-use borrow.Author.Rules.{rules}
 use Rattle.valdrabus.proofs.values.valdrabus_as_i64.Goals as goal
 
 pub returns : goal.returns

@@ -1,6 +1,5 @@
 -- `valdrabus::values::valdrabus_as_null` meets its contract. Assumes nothing.
 use Rattle.valdrabus.proofs.Lending.{bare_of}
-use borrow.Author.Rules.{rules}
 use Rattle.valdrabus.proofs.values.valdrabus_as_null.Goals as goal
 
 pub returns : goal.returns

@@ -1,6 +1,5 @@
 -- `valdrabus::values::valdrabus_is_null` meets its contract. Assumes nothing.
 use Rattle.valdrabus.proofs.Calling.{is_null_called}
-use borrow.Author.Rules.{rules}
 use Rattle.valdrabus.proofs.values.valdrabus_is_null.Goals as goal
 
 pub returns : goal.returns

@@ -1,6 +1,5 @@
 -- `valdrabus::writing::valdrabus_write_escape` meets its contract. Assumes nothing.
 use Rattle.valdrabus.proofs.Lending.{form_lengths}
-use borrow.Author.Rules.{rules}
 use Rattle.valdrabus.proofs.writing.valdrabus_write_escape.Goals as goal
 
 pub returns : goal.returns

@@ -1,6 +1,5 @@
 -- `valdrabus::writing::valdrabus_write_parts` meets its contract. Assumes nothing.
 use Rattle.valdrabus.proofs.Lending.{lengths_of}
-use borrow.Author.Rules.{rules}
 use Rattle.valdrabus.proofs.writing.valdrabus_write_parts.Goals as goal
 
 pub returns : goal.returns

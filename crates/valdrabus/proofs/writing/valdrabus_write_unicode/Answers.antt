@@ -1,6 +1,5 @@
 -- `valdrabus::writing::valdrabus_write_unicode` meets its contract. Assumes nothing.
 use Rattle.valdrabus.proofs.Lending.{form_lengths}
-use borrow.Author.Rules.{rules}
 use Rattle.valdrabus.proofs.writing.valdrabus_write_unicode.Goals as goal
 
 pub returns : goal.returns

@@ -1,6 +1,5 @@
 -- `valdrabus::writing::write_called` meets its contract, whether the setting names something or not. Assumes nothing.
 use Rattle.valdrabus.proofs.Calling.{write_answered, write_unknown}
-use borrow.Author.Rules.{rules}
 use Rattle.valdrabus.proofs.writing.write_called.Goals as goal
 
 pub returns-then-setting-gt1 : goal.returns-then-setting-gt1

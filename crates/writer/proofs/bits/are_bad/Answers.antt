@@ -1,5 +1,4 @@
 -- `writer::bits::are_bad` meets its contract: the definition's three reasons, in its order. Assumes nothing.
-use borrow.Author.Rules.{rules}
 use Rattle.writer.proofs.BitTests.{bad_length, bad_digits, bad_unused}
 use Rattle.writer.proofs.bits.are_bad.Goals as goal
 

@@ -1,9 +1,6 @@
 -- `writer::bits::put_digits` meets its contract. The loop's invariant, `Digiting`: the digits of the bytes so far are put, and the rest of the buffer is as it
 -- was lent. The measure is what is left of n. Assumes nothing.
 use Prim.Native.Nat.{◌-◌}
-use native.Mathlib.Omega.{arith}
-use borrow.Author.Rules.{rules}
-use Rattle.writer.proofs.BitDigits as digits
 use Rattle.writer.proofs.BitDigits.{Digiting}
 use Rattle.writer.proofs.bits.put_digits.Given as goal
 

@@ -1,6 +1,5 @@
 -- `writer::figures::figure` meets its contract. Assumes nothing.
 use Rattle.writer.proofs.Figuring.{figure_decimal, figure_letter}
-use borrow.Author.Rules.{rules}
 use Rattle.writer.proofs.figures.figure.Goals as goal
 
 pub returns-then-digit-lt10 : goal.returns-then-digit-lt10

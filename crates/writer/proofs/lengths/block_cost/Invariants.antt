@@ -1,13 +1,6 @@
--- `writer::lengths::block_cost` meets its contract. The loop's invariant, `Summing`: what the first j bytes cost. The measure is what is left of n.
--- Assumes nothing.
-use Prim.Native.Nat.{◌-◌}
-use borrow.Author.Rules.{rules}
-use native.Mathlib.Omega.{arith}
-use Rattle.writer.proofs.Measuring.{Summing, summing_start, summing_small, summing_more, summing_on, summing_end}
+-- `writer::lengths::block_cost` meets its contract. The loop's invariant, `Summing`: what the first bytes cost. Assumes nothing.
+use Rattle.writer.proofs.Measuring.{Summing}
 use Rattle.writer.proofs.lengths.block_cost.Given as goal
 
-abbrev pub invariant-loop-j : goal.invariant-loop-j
-invariant-loop-j l = Summing l.manner l.n l.value l.at l.sum l.j
-
-abbrev pub decreases-loop-j : goal.decreases-loop-j
-decreases-loop-j l = l.n - l.j
+abbrev pub invariant-loop-byte : goal.invariant-loop-byte
+invariant-loop-byte g l = Summing (g.S.Spelling.manner l.spelling) l.block l.sum l.byte-index

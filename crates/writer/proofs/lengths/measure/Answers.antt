@@ -1,28 +1,22 @@
 -- `writer::lengths::measure` meets its contract: the opening and the mark, and the value itself or what its bytes cost. Assumes nothing.
-use borrow.Author.Rules.{rules}
+use Rattle.std.proofs.Common.{ap, length}
 use native.Mathlib.Omega.{arith}
 use Rattle.writer.proofs.Measuring.{bytes_most, opening_most, measured_whole, measured_units}
 use Rattle.writer.proofs.lengths.measure.Goals as goal
 
-pub overflow_add-marks : goal.overflow_add-marks
-overflow_add-marks c = omega (arith, c.opening_len-marks.ensures, opening_most c.args.manner)
-
-pub overflow_add-result : goal.overflow_add-result
-overflow_add-result c = omega (arith, c.opening_len-marks.ensures, opening_most c.args.manner, c.requires.short)
-
 pub returns-then-is_all_kept : goal.returns-then-is_all_kept
-returns-then-is_all_kept c = search measured_whole
+returns-then-is_all_kept g c = measured_whole _ _ c.requires _ (ap length c.opening.ensures) _ c.is_all_kept.ensures c.if-is_all_kept.true
 
 pub overflow_add-result-2 : goal.overflow_add-result-2
-overflow_add-result-2 c = let a = c.args in
+overflow_add-result-2 g c = let a = c.args in
     omega (
       arith,
-      c.opening_len-marks.ensures,
-      opening_most a.manner,
+      ap length c.opening.ensures,
+      opening_most (g.S.Spelling.manner a.spelling.now),
       c.units_len.ensures,
-      bytes_most a.manner a.value.now,
+      bytes_most (g.S.Spelling.manner a.spelling.now) a.value.now,
       c.requires.short,
     )
 
 pub returns : goal.returns
-returns c = search measured_units
+returns g c = measured_units _ _ c.requires _ (ap length c.opening.ensures) _ c.is_all_kept.ensures c.if-is_all_kept.false _ c.units_len.ensures

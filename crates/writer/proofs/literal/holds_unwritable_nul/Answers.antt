@@ -1,5 +1,4 @@
 -- `writer::literal::holds_unwritable_nul` meets its contract. Assumes nothing.
-use borrow.Author.Rules.{rules}
 use Rattle.writer.proofs.Answering.{nul_spelled, nul_unspelled}
 use Rattle.writer.proofs.literal.holds_unwritable_nul.Goals as goal
 

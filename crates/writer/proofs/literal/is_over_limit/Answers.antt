@@ -2,7 +2,6 @@
 use mathlib.Core.Path.{sym}
 use mathlib.Core.Bool.{or-false}
 use Rattle.meaning.specs.Writer.{over_limit}
-use borrow.Author.Rules.{rules}
 use Rattle.writer.proofs.literal.is_over_limit.Goals as goal
 
 pub returns-in-Whole : goal.returns-in-Whole

@@ -1,7 +1,6 @@
 -- `writer::literal::write_literal` meets its contract: nothing is written before all tests are passed and the text is measured. Assumes nothing.
 use Prim.Native.Nat.{◌+◌, ◌*◌, ◌≤◌}
 use native.Mathlib.Omega.{arith}
-use borrow.Author.Rules.{rules}
 use Rattle.laws.proofs.writing.WriterParts.{Accepted}
 use Rattle.meaning.specs.Writer.{write_question}
 use Rattle.writer.proofs.Refusing.{over_limit_lem, not_utf8, holds_nul, all_passed}

@@ -1,10 +1,8 @@
 -- `writer::parts::count_later` meets its contract. The loop's invariant, `Counted`: what is counted, with the parts behind the place. The measure is what is
 -- left of the value. Assumes nothing.
 use Prim.Native.Nat.{◌-◌}
-use native.Mathlib.Omega.{arith}
-use borrow.Author.Rules.{rules}
 use lib.ListN.{length}
-use Rattle.writer.proofs.Parting.{Counted, counted_start, counted_turn, counted_onward, counted_end}
+use Rattle.writer.proofs.Parting.{Counted}
 use Rattle.writer.proofs.parts.count_later.Given as goal
 
 abbrev pub invariant-loop-end : goal.invariant-loop-end

@@ -1,8 +1,7 @@
 -- `writer::parts::part_end` meets its contract. The loop's invariant, `Ending`: the part ends at the place or before it. The measure is the place.
 -- Assumes nothing.
 use native.Mathlib.Omega.{arith}
-use borrow.Author.Rules.{rules}
-use Rattle.writer.proofs.Parting.{Ending, part_last, ending_start, ending_inside, ending_some, ending_turn, ending_end}
+use Rattle.writer.proofs.Parting.{part_last, ending_start, ending_some, ending_turn, ending_end}
 use Rattle.writer.proofs.parts.part_end.Goals as goal
 
 pub returns-then-value-from : goal.returns-then-value-from
@@ -10,9 +9,6 @@ returns-then-value-from c = search part_last
 
 pub loop-end-init : goal.loop-end-init
 loop-end-init c = search ending_start
-
-pub bounds-value-end : goal.bounds-value-end
-bounds-value-end c = search ending_inside
 
 pub overflow_sub-end : goal.overflow_sub-end
 overflow_sub-end c = search ending_some

@@ -1,8 +1,6 @@
 -- `writer::parts::part_end` meets its contract. The loop's invariant, `Ending`: the part ends at the place or before it. The measure is the place.
 -- Assumes nothing.
-use native.Mathlib.Omega.{arith}
-use borrow.Author.Rules.{rules}
-use Rattle.writer.proofs.Parting.{Ending, part_last, ending_start, ending_inside, ending_some, ending_turn, ending_end}
+use Rattle.writer.proofs.Parting.{Ending}
 use Rattle.writer.proofs.parts.part_end.Given as goal
 
 abbrev pub invariant-loop-end : goal.invariant-loop-end

@@ -1,7 +1,6 @@
 -- `writer::texts::put_value` meets its contract. Assumes nothing.
 use Rattle.writer.proofs.Writings.{copied_whole}
-use borrow.Author.Rules.{rules}
 use Rattle.writer.proofs.texts.put_value.Goals as goal
 
 pub returns-then-whole : goal.returns-then-whole
-returns-then-whole c = search copied_whole
+returns-then-whole g c = search copied_whole

@@ -1,6 +1,5 @@
 -- `cutting::cursor::Cursor::next` meets its contract. Each way out has its law, by what the first segment from the cursor is; its end and the white space
 -- behind it lie inside the text, so no sum wraps. Assumes nothing.
-use borrow.Author.Rules.{rules}
 use Prim.Native.Nat.{◌+◌, ◌≤◌}
 use native.Mathlib.Omega.{arith}
 use lib.ListN.{length}
@@ -11,17 +10,17 @@ pub returns-then-text-at : goal.returns-then-text-at
 returns-then-text-at c = search next_end
 
 pub overflow_add-end : goal.overflow_add-end
-overflow_add-end c = let end_inside_here : c.args.self.at + c.in-Found.len
+overflow_add-end c = let end_inside_here : c.args.self.at + c.in-Some.segment.len
     ≤ length c.args.text.now = search segment_inside in
     omega (arith, end_inside_here)
 
 pub overflow_add-result : goal.overflow_add-result
-overflow_add-result c = let next_inside_here : c.args.self.at + c.in-Found.len + c.gap_at.result
+overflow_add-result c = let next_inside_here : c.args.self.at + c.in-Some.segment.len + c.gap_at.result
     ≤ length c.args.text.now = search gap_inside in
     omega (arith, next_inside_here)
 
-pub returns-in-Found : goal.returns-in-Found
-returns-in-Found c = search next_segment
+pub returns : goal.returns
+returns c = search next_segment
 
-pub returns-in-Nothing : goal.returns-in-Nothing
-returns-in-Nothing c = search next_remainder
+pub returns-in_default : goal.returns-in_default
+returns-in_default c = search next_remainder
