@@ -73,22 +73,6 @@ module _ {store ends : List ℕ} {k : ℕ} {older₀ before₀ heads older befor
   pub same_heads : length heads ≡ k
   same_heads = ap length t.firsts ∙ length_table (head_of store ends k row) k
 
-  pub same_links : length older ≡ length older₀
-  same_links = ap length t.links ∙ length_put (older_of store ends k) row older₀ (omega (arith, t.inside, t.link_room))
-
-  pub same_befores : length before ≡ length before₀
-  same_befores = ap length t.befores ∙ length_put (before_of store ends) row before₀ (omega (arith, t.inside, t.room))
-
-  pub taken_ready : row < length ends → Ready store ends heads older before row
-  taken_ready h = record {
-    bucket = omega (arith, same_heads, t.bucket);
-    room = omega (arith, same_befores, t.room);
-    link_room = omega (arith, same_links, t.link_room);
-    links =
-        rw same_heads (ap (take row) t.links ∙ take_at (table (older_of store ends k) row) (drop row older₀) row (length_table (older_of store ends k) row));
-    firsts = rw same_heads t.firsts;
-  }
-
   pub taken_turn : row < length ends → {heads' older' before' : List ℕ} → Took store ends heads older before row heads' older' before'
       → Taken store ends k older₀ before₀ heads' older' before' (row + 1)
   taken_turn h w = record {
@@ -132,11 +116,6 @@ module _ (store ends heads older before : List ℕ) where
 
   pub finds_short_befores : length before < length ends → Finds store ends heads older before false heads older before
   finds_short_befores h = nothing (short_befores ends heads older before h)
-
-  -- the heads are as many as were lent
-  pub taken_heads : {cleared heads' older' before' : List ℕ} {row : ℕ} → cleared ≡ replicate (length heads) 0
-      → Taken store ends (length cleared) older before heads' older' before' row → length heads' ≡ length heads
-  taken_heads {cleared} e t = same_heads t ∙ length_cleared heads cleared e
 
   -- all rows are taken
   pub taken_end : {cleared heads' older' before' : List ℕ} {row : ℕ} → cleared ≡ replicate (length heads) 0

@@ -13,10 +13,6 @@ use Rattle.laws.proofs.basics.Tests.{and_left, and_right, eqb_same}
 use Rattle.doubles.specs.Rows.{start_of, key_at, key_place}
 
 -- CUT OUT
-pub start_later : (ends : List ℕ) (i r : ℕ) → (i ≡ 0 → ⊥) → r ≡ ends ! (i - 1) → r ≡ start_of ends i
-start_later ends zero r h e = absurd (h refl)
-start_later ends (suc i) r h e = let z : suc i - 1 ≡ i = omega arith in e ∙ ap (ends !◌) z
-
 pub key_part : (store key : Bor (List ℕ)) (ends : List ℕ) (i from until : ℕ) → from ≡ start_of ends i → until ≡ ends ! i
     → IsPart (part_shown from until store.now) (part_place from until store) key
     → IsPart (key_at store.now ends i) (key_place store ends i) key

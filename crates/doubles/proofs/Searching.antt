@@ -59,10 +59,6 @@ module _ {store ends older : List ℕ} {row first : ℕ} (l : Linked store ends 
   searching_first = on_from row first (omega arith) refl (l.first ∙ older_in store ends l.buckets row row refl)
 
 module _ {store ends older : List ℕ} {row first at : ℕ} (s : Searching store ends older row first at) where
-  -- none is left
-  pub searching_end : at ≡ 0 → before_of store ends row ≡ 0
-  searching_end z = s.left ∙ ap (newest (same_key store ends row)) z
-
   -- row m is the last that is left
   module _ (m : ℕ) (last : at ≡ suc m) where
     inside : m < row
@@ -72,9 +68,6 @@ module _ {store ends older : List ℕ} {row first at : ℕ} (s : Searching store
     link =
         sym (get_or-take row older m 0 inside) ∙ ap (λ (l : List ℕ). get_or l m 0) s.linked.links
         ∙ get_d_table (older_of store ends s.linked.buckets) row m inside ∙ older_in store ends s.linked.buckets row m (s.chained m last)
-
-    pub searching_room : m < length older
-    searching_room = omega (arith, inside, s.linked.room)
 
     pub searching_less : get_or older m 0 < at
     searching_less = omega (arith, link, newest_le (in_one store ends s.linked.buckets row) m)

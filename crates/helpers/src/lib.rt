@@ -32,6 +32,7 @@ pub fn uescape_argument_is_legal(text: &[u8]) -> bool
 }
 
 // Whether a body can be read to its end. A raw NUL does not stop it as such.
+// Stays: three arms say which readings go through; a negated `matches!` of the one that does not is no plainer.
 fn is_readable(body: &[u8], family: Family, escape: &[u8]) -> bool
     ensures { result ≡ not (stops (course_of family escape.now body.now)) }
 {

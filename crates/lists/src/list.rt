@@ -29,7 +29,8 @@ struct Left {
     after_cr: bool,
 }
 
-// Moves the last bytes of a text to its front. The two places may overlap, so that `copy_from_slice` does not serve.
+// Moves the last bytes of a text to its front. The two places may overlap.
+// Stays: `copy_within` is C's memmove, and of C's functions what we lend asks for memcpy alone (docs/TRUST).
 // Stays: `len` is not the text's length, but how many of its last bytes move.
 fn to_front(text: &mut [u8], len: usize)
     requires { len ≤ length text.old }

@@ -36,13 +36,6 @@ use Rattle.questions.proofs.Spanned.{span_barred, span_passes}
 use Rattle.std.specs.Prelude.{Option, Some, None}
 
 -- A DAY, or none
-module _ (sp : Span) (x : Option CalendarDay) where
-  pub dated_day : (d : CalendarDay) → x ≡ Some d → Ok d ≡ dated_on sp x
-  dated_day d e = ap (dated_on sp) (sym e)
-
-  pub dated_none : x ≡ None → Err (InvalidDate sp) ≡ dated_on sp x
-  dated_none e = ap (dated_on sp) (sym e)
-
 -- A READING into ten bytes
 abbrev ten : List ℕ
 ten = replicate 10 0

@@ -58,17 +58,8 @@ module _ {s : ℕ} {q : Result ReadText ReadRefusal} (i : InText s q) (f u : ℕ
 
 -- AS A RANGE
 module _ (bad : Refusal) (s : ℕ) (q : Result ReadText ReadRefusal) where
-  pub range_borrowed : (f u : ℕ) → q ≡ Ok (ReadText'.Borrowed f u) → Ok (part_at (s + f) (s + u)) ≡ range_by bad s q
-  range_borrowed f u e = ap (range_by bad s) (sym e)
-
-  pub range_written : (n : ℕ) → q ≡ Ok (ReadText'.Written n) → Err bad ≡ range_by bad s q
-  range_written n e = ap (range_by bad s) (sym e)
-
   pub range_refused : (p : ℕ) → q ≡ Err (ReadRefusal'.At p) → Err bad ≡ range_by bad s q
   range_refused p e = ap (range_by bad s) (sym e)
-
-  pub range_short : (n : ℕ) → q ≡ Err (ReadRefusal'.NoRoom n) → Err bad ≡ range_by bad s q
-  range_short n e = ap (range_by bad s) (sym e)
 
 told_as_lem : (bad : ℕ → Refusal) (s : ℕ) (out : List ℕ) (a : Answer)
     → told_by bad s (read_of (length out) a) ≡ (told_as bad s out a).answer

@@ -74,9 +74,6 @@ module _ (s : Span) (β : ℕ) (p : Result Packed PackingError) where
     pub packed_written : Ok (packed_at π.len (k * π.digits)) ≡ packed_by s (bits_per β) p
     packed_written = rw (e, ek)
 
-  pub packed_refused : p ≡ Err PackingError'.Refused → Err (Refusal'.InvalidBitString s) ≡ packed_by s (bits_per β) p
-  packed_refused e = rw e
-
   pub packed_short : (n : ℕ) → p ≡ Err (PackingError'.NoRoom n) → Err (Refusal'.NoRoom n) ≡ packed_by s (bits_per β) p
   packed_short n e = rw e
 

@@ -118,8 +118,3 @@ module _ (t : List ℕ) (r : Option CalendarDay) where
           (v, subst (λ (k : List ℕ). value_of k (temporal off k) ≡ means v) (sym u) its, w)
 
 -- WHAT IS TOLD is the text's day
-module _ (t : List ℕ) (sp : Span) (r : Option CalendarDay) (q : Quick t r) where
-  pub quick_told : (c : CalendarDay) → r ≡ Some c → Ok c ≡ dated_as sp (value_of t (temporal off t))
-  quick_told c e =
-      let w = q.tells c e in
-      sym (ap (dated_as sp) w.1 ∙ ap (dated_on sp) w.2)

@@ -29,9 +29,6 @@ module _ (S r : Bor (List ℕ)) (a : Result Part Refusal) where
   abbrev RangeShown : Result Part Refusal → Type 0
   RangeShown b = IsPart (range_shown S.now b) (range_place S b) r
 
-  pub range_found : (f u : ℕ) → a ≡ Ok (part_at f u) → IsPart (part_shown f u S.now) (part_place f u S) r → RangeShown a
-  range_found f u q p = subst RangeShown (sym q) p
-
   pub range_refused : (e : Refusal) → a ≡ Err e → r.now ≡ [] → r.ref_ptr ≡ S.ref_ptr → RangeShown a
   range_refused e q b p = subst RangeShown (sym q) (record { bytes = b; place = p })
 
@@ -43,14 +40,8 @@ module _ (S r : Bor (List ℕ)) (a : Result (Option Part) Refusal) where
   abbrev CharsetShown : Result (Option Part) Refusal → Type 0
   CharsetShown b = IsPart (charset_shown S.now b) (charset_place S b) r
 
-  pub charset_named : (f u : ℕ) → a ≡ Ok (Some (part_at f u)) → IsPart (part_shown f u S.now) (part_place f u S) r → CharsetShown a
-  charset_named f u q p = subst CharsetShown (sym q) p
-
   pub charset_unnamed : a ≡ Ok None → r.now ≡ [] → r.ref_ptr ≡ S.ref_ptr → CharsetShown a
   charset_unnamed q b p = subst CharsetShown (sym q) (record { bytes = b; place = p })
-
-  pub charset_refused : (e : Refusal) → a ≡ Err e → r.now ≡ [] → r.ref_ptr ≡ S.ref_ptr → CharsetShown a
-  charset_refused e q b p = subst CharsetShown (sym q) (record { bytes = b; place = p })
 
   pub charset_as : (b : Result (Option Part) Refusal) → b ≡ a → CharsetShown b → CharsetShown a
   charset_as b q p = subst CharsetShown q p

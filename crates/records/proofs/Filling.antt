@@ -28,10 +28,6 @@ pub record Answered (input start buffer rest : List ℕ) (full : ℕ) : Type 0 w
   pub room : full ≤ length start
   pub same : length buffer ≡ length start
 
-pub answered_none : (input start : List ℕ) → Answered input start start input 0
-answered_none input start =
-    record { lines = []; counted = refl; put = refl; whole = refl; few = λ h. omega arith; room = omega arith; same = refl }
-
 module _ {input start buffer rest : List ℕ} {full : ℕ} (c : Answered input start buffer rest full) where
   pub answered_end : length rest ≡ 0 → Lines input start full buffer
   answered_end h =

@@ -2,10 +2,10 @@
 // the year, the month, the day and the number; of packed bits the second is the bit count.
 use admitting::kinds::kind_code;
 use meaning::{
-    BitWritingError, CalendarDay, IdentifierError, LiteralExpected, PackedBits, Part, Refusal,
-    Span, Text, WritingError,
+    BitWritingError, CalendarDay, IdentifierError, PackedBits, Part, Refusal, Span, Text,
+    WritingError,
 };
-use questions::refusals::refusal_number;
+use questions::refusals::{expected_code, refusal_number};
 
 #[derive(Clone, Copy, PartialEq)]
 pub(crate) struct Told {
@@ -80,21 +80,6 @@ pub(crate) fn agreed(told: Told, agrees: bool) -> Told {
     refused(0, 0, 0)
 }
 
-// The number of a family, in the order of the enum.
-fn family_of(expected: LiteralExpected) -> usize {
-    match expected {
-        LiteralExpected::Integer => 1,
-        LiteralExpected::DecimalText => 2,
-        LiteralExpected::String => 3,
-        LiteralExpected::Boolean => 4,
-        LiteralExpected::Null => 5,
-        LiteralExpected::Temporal => 6,
-        LiteralExpected::BitString => 7,
-        LiteralExpected::Money => 8,
-        LiteralExpected::Date => 9,
-    }
-}
-
 fn refused_span(number: u32, span: Span) -> Told {
     refused(number, span.start as usize, span.end as usize)
 }
@@ -116,7 +101,7 @@ fn refusal_told(refusal: Refusal) -> Told {
     match refusal {
         Refusal::WrongKind(expected, kind) => refused(
             number,
-            family_of(expected),
+            expected_code(expected) as usize,
             kind_code(kind) as usize,
         ),
         Refusal::MissingSource(span) => refused_span(number, span),

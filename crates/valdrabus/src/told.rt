@@ -1,14 +1,12 @@
 // An answer in five numbers: 0 or the refusal's number; how a text is answered; two numbers more, a range, a span, or what a refusal returns; and the place
 // where the reading of a string stops.
 ghost use Rattle.std.specs.Prelude.{◌≡◌};
-ghost use Rattle.meaning.specs.Answers.{expected_code};
 ghost use Rattle.valdrabus.specs.Numbers.{number_told, borrowed_told, written_told, room_told, span_told, place_told, refusal_told, Says, SaysPlace};
 ghost use Rattle.valdrabus.specs.Numbers.{text_told, range_told, charset_told, truth_told, nullness_told, identifier_told, writing_told, bit_writing_told};
 
 use admitting::kinds::kind_code;
-use meaning::{
-    BitWritingError, IdentifierError, LiteralExpected, Part, Refusal, Span, Text, WritingError,
-};
+use meaning::{BitWritingError, IdentifierError, Part, Refusal, Span, Text, WritingError};
+use questions::refusals::expected_code;
 
 // Stays: the numbers that exports hand to C; of a boolean's question `how` is the value (`truth_told` of specs/Numbers).
 #[derive(Clone, Copy)]
@@ -18,23 +16,6 @@ pub(crate) struct Told {
     pub first: usize,
     pub second: usize,
     pub place: usize,
-}
-
-// The families of kinds, in the order of `LiteralExpected`, from 1.
-fn expected_code(expected: LiteralExpected) -> u32
-    ensures { result ≡ expected_code expected }
-{
-    match expected {
-        LiteralExpected::Integer => 1,
-        LiteralExpected::DecimalText => 2,
-        LiteralExpected::String => 3,
-        LiteralExpected::Boolean => 4,
-        LiteralExpected::Null => 5,
-        LiteralExpected::Temporal => 6,
-        LiteralExpected::BitString => 7,
-        LiteralExpected::Money => 8,
-        LiteralExpected::Date => 9,
-    }
 }
 
 // A number alone.

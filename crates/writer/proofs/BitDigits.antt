@@ -85,25 +85,9 @@ pub record Digiting (r : BitStringRadix) (n : ℕ) (t d out : List ℕ) (put at 
   pub rest : drop put (take n (digits_by r t)) ≡ take (n - put) (digits_by r (drop at t))
   pub some : n - put ≤ length (digits_by r (drop at t))
 
-pub digiting_start : (r : BitStringRadix) (n : ℕ) (t d : List ℕ) → n ≤ length (digits_by r t) → n ≤ length d → Digiting r n t d d 0 0
-digiting_start r n t d h l =
-    let z : n - 0 ≡ n = omega arith in
-    record {
-      laid = laid_none (take n (digits_by r t)) d (omega (arith, length-take-le n (digits_by r t) h));
-      rest = ap (λ (k : ℕ). take k (digits_by r t)) (sym z);
-      some = omega arith;
-    }
-
 module _ {r : BitStringRadix} {n : ℕ} {t d out : List ℕ} {put at : ℕ} (g : Digiting r n t d out put at) where
   abbrev text : List ℕ
   text = take n (digits_by r t)
-
-  -- with no digit left
-  pub digiting_end : n ≤ put → PutBytes text d put out
-  digiting_end h =
-      let z : n - put ≡ 0 = omega arith in
-      let l = laid_all g.laid (g.rest ∙ ap (λ (k : ℕ). take k (digits_by r (drop at t))) z) in
-      record { answer = l.0; buffer = l.1 }
 
   -- with a digit left there is a byte; and the loop's test, by w
   module _ (h : put < n) where

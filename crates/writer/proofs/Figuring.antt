@@ -25,16 +25,6 @@ pub record Figuring (c β : ℕ) (d out : List ℕ) (rest left : ℕ) : Type 0 w
   pub to_come : rest ≡ c / β ^ (length d - left)
   pub put : drop left out ≡ figures β (length d - left) c
 
-pub figuring_start : (c β : ℕ) (d : List ℕ) → Figuring c β d d c (length d)
-figuring_start c β d =
-    let z : length d - length d ≡ 0 = omega arith in
-    record {
-      inside = omega arith;
-      same = refl;
-      to_come = rw (z, pow-zero β) (sym (div-one c));
-      put = rw z (drop-length d);
-    }
-
 module _ {c β : ℕ} {d out : List ℕ} {rest left : ℕ} (v : Figuring c β d out rest left) where
   pub figuring_on : 0 < left → (r : ℕ) → r ≡ figure (rest % β) → Figuring c β d (set out (left - 1) r) (rest / β) (left - 1)
   figuring_on some r e =

@@ -112,9 +112,6 @@ module _ {w : ℕ} {bs whole : Bool} {v d out : List ℕ} {n from end : ℕ} (m 
     more_fits = fits between (literals bs (parts_from w w (drop end v))) left_more
 
     module _ (r : ℕ) (last : List ℕ) (p : PutBytes (text ++ between) (take (length out - n) (drop n out)) r last) where
-      pub more_few : n + r ≤ length d
-      more_few = few between (literals bs (parts_from w w (drop end v))) left_more r last p
-
       pub writing_more : (next : ℕ) → next ≡ end + length (first_part w (drop end v))
           → Writing w bs whole v d (take n out ++ (last ++ drop (length out - n) (drop n out))) (n + r) end next
       writing_more next e = record {
@@ -133,9 +130,6 @@ module _ {w : ℕ} {bs whole : Bool} {v d out : List ℕ} {n from end : ℕ} (m 
     last_fits = fits [] [] left_last
 
     module _ (r : ℕ) (last : List ℕ) (p : PutBytes (text ++ []) (take (length out - n) (drop n out)) r last) where
-      pub last_few : n + r ≤ length d
-      last_few = few [] [] left_last r last p
-
       pub all_put : PutBytes (literals bs (parts_from w w v)) d (n + r) (take n out ++ (last ++ drop (length out - n) (drop n out)))
       all_put =
           let z = laid_all (laid' [] [] left_last r last p) (behind [] [] left_last r last p) in

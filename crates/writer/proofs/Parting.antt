@@ -37,9 +37,6 @@ pub ending_start : {w from : ℕ} {v : List ℕ} → Cuttable w from v → w < l
 ending_start c h = record { cuttable = c; more = omega arith; above = omega (arith, size c, (ends c).few); below = omega arith }
 
 module _ {w from : ℕ} {v : List ℕ} {end : ℕ} (e : Ending w from v end) where
-  pub ending_inside : end < length v
-  ending_inside = omega (arith, e.more, e.below)
-
   byte : (j : ℕ) → from + j ≡ end → get_or (drop from v) j 0 ≡ get_or v end 0
   byte j z = get_or-drop from v j 0 ∙ ap (λ (k : ℕ). get_or v k 0) z
 
