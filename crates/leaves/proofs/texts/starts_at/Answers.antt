@@ -8,4 +8,4 @@ pub returns-then-body-at : goal.returns-then-body-at
 returns-then-body-at c = starts_none c.args.prefix.now (drop c.args.at c.args.body.now) (omega (arith, length-drop c.args.at c.args.body.now))
 
 pub returns : goal.returns
-returns c = starts_told _ _ _ _ (rest_all c.args.at c.args.body.now) c.starts_with.ensures.value
+returns c = search (starts_told, rest_all)
