@@ -1,5 +1,4 @@
--- `kinds::temporal::found_from` meets its contract. The loop's invariant: the text wanted stands nowhere from `at` up to `i`. The measure is what is left of
--- the text. Assumes nothing.
+-- `kinds::temporal::found_from` meets its contract. The loop's invariant: the text wanted stands nowhere from `at` up to `place`. Assumes nothing.
 use Rattle.kinds.proofs.Finding.{FoundBehind}
 use Rattle.kinds.proofs.temporal.found_from.Given as goal
 

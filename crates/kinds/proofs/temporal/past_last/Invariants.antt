@@ -1,4 +1,4 @@
--- `kinds::temporal::past_last` meets its contract. The loop's invariant: the byte does not stand from `i` on. Assumes nothing.
+-- `kinds::temporal::past_last` meets its contract. The loop's invariant: the byte does not stand from `place` on. Assumes nothing.
 use Rattle.kinds.proofs.Finding.{LastBefore}
 use Rattle.kinds.proofs.temporal.past_last.Given as goal
 
