@@ -36,7 +36,7 @@ abbrev pub before : (ℕ → ℕ) → ℕ → ℕ
 before f zero = 0
 before f (suc n) = before f n + f (suc n)
 
--- "Option CalendarDay 1 is 0001-01-01": the days of all earlier years, of the year's earlier months, and the day
+-- "Day 1 is 0001-01-01": the days of all earlier years, of the year's earlier months, and the day
 unfoldable pub day_number : ℕ → ℕ → ℕ → ℕ
 day_number y m d = before year_length (y - 1) + before (month_length y) (m - 1) + d
 
