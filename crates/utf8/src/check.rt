@@ -30,7 +30,7 @@ pub fn utf8_from(tail: Utf8Tail, bytes: &[u8]) -> Utf8Tail
 }
 
 // Whether a slice is UTF-8, by std, a character at a time: the quickest way for few bytes.
-// Stays: a match and no `is_ok`: tried, and its goal is harder to prove; the clause of each case is at hand in its arm.
+// Stays: `is_ok` is no plainer: std's clause of each case is about the arm, and with `is_ok` it would have to be asked for again.
 fn is_short_text(bytes: &[u8]) -> bool
     ensures { result ≡ utf8 bytes.now }
 {
