@@ -56,7 +56,8 @@ fn is_block<const N: usize, T: ByteTest>(block: &[u8; N], test: &T) -> bool
 }
 
 // Whether each byte of a text of N bytes or more does, by blocks of N.
-// Rules out: a byte between two blocks passed over; a last block that begins too late (must-fail: byte_between_blocks).
+// Rules out: a byte between two blocks passed over; a last block that begins too late; one not looked at, or the first asked again in its place (must-fail:
+// byte_between_blocks, rest_not_looked_at, start_asked_again).
 fn is_all_by<const N: usize, T: ByteTest>(text: &[u8], test: &T) -> bool
     requires { (0 < N) × (N ≤ length text.now) × (N < 256) }
     ensures { result ≡ passes (T.takes test.now) (length text.now) text.now }
@@ -124,7 +125,7 @@ pub fn is_free(text: &[u8], stops: Stops) -> bool
 }
 
 // Whether eight bytes from a place on are there, and none of them is one of the three.
-// Stays: the size in the name; a public function keeps its name.
+// Stays: no crate calls it since runs go by blocks of their own; a public function keeps its name and its clause (docs/CONTRACTS).
 // Rules out: the block at the text's start asked; the last eight bytes not looked at (must-fail: other_bytes, rest_not_looked_at).
 pub fn is_free_eight(text: &[u8], at: usize, stops: Stops) -> bool
     ensures { result ≡ passes (free_of stops) 8 (drop at text.now) }
@@ -139,6 +140,8 @@ pub fn is_free_eight(text: &[u8], at: usize, stops: Stops) -> bool
 }
 
 // How many bytes at a text's front, by whole blocks of N, pass.
+// Rules out: a byte behind a block passed over; a block that does not pass told as past; one that is not looked at (must-fail: byte_between_blocks,
+// limit_off_by_one, rest_not_looked_at).
 #[inline(always)]
 fn past_blocks<const N: usize, T: ByteTest>(text: &[u8], test: &T) -> usize
     requires { (0 < N) × (N < 256) }

@@ -10,14 +10,14 @@ loop-block-init g c = let z : 0 * g.row.N ≡ 0 = omega arith in subst (λ (i : 
 
 pub returns-then-not-is_block : goal.returns-then-not-is_block
 returns-then-not-is_block g c =
-    let f = front_passes (g.T.ByteTest.takes c.args.test.now) g.row.N c.loop-block.block-index (length c.args.text.now - 1) c.args.text.now
+    let f = front_passes (g.T.ByteTest.takes c.args.test.now) g.row.N c.loop-block.block-index _ c.args.text.now
     c.as_chunks.result.0.now c.block-item.result c.is_block.result (omega arith) c.requires.0 c.as_chunks.ensures.front
     (omega (arith, c.as_chunks.ensures.front_len)) c.block-item.is c.is_block.ensures in
     block_fails c.loop-block.invariant g.row.N c.requires.1 c.is_block.result (omega (arith, f.0, c.requires)) f.1 (ap not c.if-not-is_block.true)
 
 pub loop-block-preserved : goal.loop-block-preserved
 loop-block-preserved g c =
-    let f = front_passes (g.T.ByteTest.takes c.args.test.now) g.row.N c.loop-block.block-index (length c.args.text.now - 1) c.args.text.now
+    let f = front_passes (g.T.ByteTest.takes c.args.test.now) g.row.N c.loop-block.block-index _ c.args.text.now
     c.as_chunks.result.0.now c.block-item.result c.is_block.result (omega arith) c.requires.0 c.as_chunks.ensures.front
     (omega (arith, c.as_chunks.ensures.front_len)) c.block-item.is c.is_block.ensures in
     let z : c.loop-block.block-index * g.row.N + g.row.N ≡ (c.loop-block.block-index + 1) * g.row.N = omega arith in
