@@ -8,7 +8,7 @@ pub loop-byte-init : goal.loop-byte-init
 loop-byte-init g c = counting_start _ _ _ _ (omega arith)
 
 pub overflow_add-count : goal.overflow_add-count
-overflow_add-count g c = omega (arith, one_most c.takes.result _ (byte_one _ _ c.from-count.ensures), c.loop-byte.invariant.most)
+overflow_add-count g c = omega (arith, one_most _ _ (byte_one _ _ c.from-count.ensures), c.loop-byte.invariant.most)
 
 pub loop-byte-preserved : goal.loop-byte-preserved
 loop-byte-preserved g c = search counting_next
