@@ -1,5 +1,5 @@
 -- The spelling of a character that does not stand for itself, in the order of the code's tests. Assumes nothing.
-use mathlib.Core.Path.{◌≡◌, refl, ap, sym, ◌∙◌}
+use mathlib.Core.Path.{◌≡◌, refl, ap, sym, subst, ◌∙◌}
 use mathlib.Core.Bool.{Bool, true, false, ◌&&◌, ◌||◌, not, and-true, or-true, false≢true}
 use mathlib.Core.List.{List, [], ◌∷◌}
 use Prim.Native.Nat.{ℕ, suc, ◌-◌, ◌≤◌, ◌<◌}
@@ -8,7 +8,7 @@ use native.Mathlib.Omega.{arith}
 use lib.Dec.{eqb, leb, ltb}
 use lib.ListN.{length, drop}
 use lib.Seq.{drop-cons}
-use borrow.Author.Tests.{eqb-true, le-leb, ltb-false}
+use borrow.Author.Tests.{eqb-true, eq-eqb, le-leb, leb-true, ltb-false}
 use Rattle.meaning.specs.Bytes.{◌!◌, within, quote, backslash}
 use Rattle.std.specs.Prelude.{if◌then◌else◌}
 use Rattle.meaning.specs.Chars.{Due, due, broken, lead, width}
@@ -78,6 +78,30 @@ plain_nul false b h e =
 pub letter_other : (b : ℕ) → (b ≡ 8 → ⊥) → (b ≡ 9 → ⊥) → (b ≡ 10 → ⊥) → (b ≡ 12 → ⊥) → (b ≡ 13 → ⊥) → None ≡ letter_for b
 unfolding letter_for
 letter_other b p q r s t = sym (ap (λ (n : ℕ). if ltb n 256 then Some n else None) (letter_none b p q r s t))
+
+-- the code's test for a byte that has one; of these 13 is the one behind the others
+abbrev lettered : ℕ → Bool
+lettered b = leb 8 b && leb b 13 && not (eqb b 11)
+
+pub letter_outside : (b : ℕ) → not (lettered b) ≡ true → None ≡ letter_for b
+letter_outside b h =
+    letter_other b (λ e. false≢true (at 8 e)) (λ e. false≢true (at 9 e)) (λ e. false≢true (at 10 e)) (λ e. false≢true (at 12 e)) (λ e. false≢true (at 13 e))
+  where
+    at : (n : ℕ) → b ≡ n → not (lettered n) ≡ true
+    at n e = subst (λ (b : ℕ). not (lettered b) ≡ true) e h
+
+pub letter_last : (b : ℕ) → not (lettered b) ≡ false → (b ≡ 8 → ⊥) → (b ≡ 9 → ⊥) → (b ≡ 10 → ⊥) → (b ≡ 12 → ⊥) → b ≡ 13
+letter_last b h p q r s = go (leb 8 b) (leb b 13) (eqb b 11) refl refl refl h
+  where
+    go : (x y z : Bool) → leb 8 b ≡ x → leb b 13 ≡ y → eqb b 11 ≡ z → not (x && y && not z) ≡ false → b ≡ 13
+    go true true false ex ey ez h =
+        let low : 8 ≤ b = leb-true 8 b ex in
+        let high : b ≤ 13 = leb-true b 13 ey in
+        let other : b ≡ 11 → ⊥ = λ e. false≢true (sym ez ∙ eq-eqb b 11 e) in
+        omega (arith, p, q, r, s, other)
+    go false y z ex ey ez h = absurd (false≢true (sym h))
+    go true false z ex ey ez h = absurd (false≢true (sym h))
+    go true true true ex ey ez h = absurd (false≢true (sym h))
 
 -- A CHARACTER, b its first byte
 module _ (b : ℕ) (t : List ℕ) where

@@ -10,19 +10,22 @@ use crate::figures::put_figures;
 use crate::manners::Spelling;
 use scalars::reading::scalar_at;
 
-// E's letter for a byte, where it has one.
+// E's letter for a byte, where it has one. One test tells those that have: a match over all of them is compiled into one table of jumps with the test of a
+// doubled byte, and a backslash is then told by a jump.
 // Rules out: 0B by a letter; 0C without its own (must-fail: another_byte_or_limit, no_plus_sign).
 pub(crate) fn escape_letter(byte: u8) -> Option<u8>
     ensures { result ≡ letter_for byte }
 {
-    match byte {
-        8 => Some(98),
-        9 => Some(116),
-        10 => Some(110),
-        12 => Some(102),
-        13 => Some(114),
-        _ => None,
+    if !((8 <= byte) & (byte <= 13) & (byte != 11)) {
+        return None;
     }
+    Some(match byte {
+        8 => 98,
+        9 => 116,
+        10 => 110,
+        12 => 102,
+        _ => 114,
+    })
 }
 
 pub(crate) fn put_two(first: u8, second: u8, out: &mut [u8]) -> usize

@@ -1,7 +1,7 @@
--- `writer::units::escape_letter` meets its contract: at each arm the table computes, and at the last it has no such byte. Assumes nothing.
-use mathlib.Core.Path.{ap, sym}
+-- `writer::units::escape_letter` meets its contract: at each arm the table computes, and outside them it has no such byte. Assumes nothing.
+use mathlib.Core.Path.{◌≡◌, ap, sym}
 use Rattle.writer.specs.Manners.{letter_for}
-use Rattle.writer.proofs.Spelled.{letter_other}
+use Rattle.writer.proofs.Spelled.{letter_outside, letter_last}
 use Rattle.std.proofs.Common.{arith}
 use Rattle.writer.proofs.units.escape_letter.Goals as goal
 
@@ -21,9 +21,11 @@ pub returns-in-12 : goal.returns-in-12
 unfolding letter_for
 returns-in-12 c = sym (ap letter_for c.in-12.is)
 
-pub returns-in-13 : goal.returns-in-13
-unfolding letter_for
-returns-in-13 c = sym (ap letter_for c.in-13.is)
-
 pub returns-in_default : goal.returns-in_default
-returns-in_default c = letter_other _ (omega arith) (omega arith) (omega arith) (omega arith) (omega arith)
+unfolding letter_for
+returns-in_default c =
+    let left : c.args.byte ≡ 13 = search (letter_last, arith) in
+    sym (ap letter_for left)
+
+pub returns-then-not-byte : goal.returns-then-not-byte
+returns-then-not-byte c = search letter_outside
