@@ -2,5 +2,6 @@
 pub mod Running
 pub mod Hexes
 pub mod UnitLaws
+pub mod AnyCharacter
 pub mod Turns
 pub mod Readings
