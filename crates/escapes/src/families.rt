@@ -1,5 +1,5 @@
 // [01 One segment] An escape family: how a unit of a body is read, what its escape character is, and whether UTF-8 counts. Each family is a type, so that one
-// pass serves them all and no turn of it asks which family it is. Other crates ask `units::unit_at`, which answers at every place.
+// pass serves them all and no turn of it asks which family it is. The pass asks `units::unit_at`, which answers at every place.
 ghost use Rattle.std.specs.Prelude.{◌≡◌, ◌<◌, Bool, List, [], ℕ, drop, length};
 ghost use Rattle.meaning.specs.Walk.{Step, stop};
 ghost use Rattle.laws.proofs.walking.StepBounds.{Steady};

@@ -177,7 +177,7 @@ pub(crate) fn uescaped_unit(body: &[u8], at: usize, escape: &[u8]) -> Piece
 }
 
 // The unit at a place of a body; behind its end nothing stands, and nothing can be read.
-// Rules out: the unit at the start told; each unit refused (must-fail: unit_at_the_start, unit_refused).
+// Rules out: the unit at the start told; a unit cut off behind its first byte; each unit refused (must-fail: unit_at_the_start, unit_cut_off, unit_refused).
 pub fn unit_at<F: EscapeFamily>(body: &[u8], at: usize, family: &F) -> Piece
     ensures { IsBy (F.escape family.now) result (F.step family.now (drop at body.now)) }
 {
