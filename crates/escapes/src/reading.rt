@@ -42,7 +42,9 @@ fn read_by<F: EscapeFamily>(
 // Reads a body: all of it where each byte stands for itself, so many bytes at the buffer's start, the place of the unit at which reading stops, or the length
 // for which there is no room.
 // Stays: a public function, which takes a body and an escape character; inside, `Unicode` holds that, and its two helpers take it once each.
+// It is compiled into its callers, since its own frame would stand between theirs and the pass: some 100 bytes of stack more.
 // Rules out: the setting on the backslash lost; the body taken for the escape character (must-fail: body_for_character, setting_lost).
+#[inline(always)]
 pub fn read_units(
     body: &[u8],
     family: Family,
