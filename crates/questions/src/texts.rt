@@ -37,7 +37,8 @@ fn text_of<F: FnOnce(usize) -> Refusal>(
 }
 
 // What a string literal means at a setting.
-// Rules out: the setting passed over; dates asked (must-fail: one_for_another, another_kind_asked).
+// Rules out: the setting passed over; dates asked; 7 for 6; the text's start told for the place (must-fail: one_for_another, another_kind_asked,
+// seven_for_six, start_for_place).
 pub fn as_str_in(
     literal: Literal,
     source: &[u8],
@@ -101,7 +102,8 @@ pub fn as_bit_text(literal: Literal, source: &[u8], out: &mut [u8]) -> Result<Te
 }
 
 // What a temporal literal's token means with the setting off.
-// Rules out: intervals refused; strings asked (must-fail: off_by_one, another_kind_asked).
+// Rules out: intervals refused; strings asked; 7 for 6; the text's start told for the place (must-fail: off_by_one, another_kind_asked, seven_for_six,
+// start_for_place).
 pub fn as_temporal_text(literal: Literal, source: &[u8], out: &mut [u8]) -> Result<Text, Refusal>
     ensures { Meets (temporal_question literal source.now out.old) result out.new }
 {
