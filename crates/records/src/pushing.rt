@@ -1,10 +1,11 @@
 // A line, as it grows.
-ghost use Rattle.std.specs.Prelude.{◌≡◌, [], ◌∷◌, List, ℕ, ◌≤◌, ◌<◌, take};
+ghost use Rattle.std.specs.Prelude.{◌≡◌, [], ◌∷◌, List, ℕ, ◌*◌, ◌≤◌, ◌<◌, length, take};
 ghost use Rattle.meaning.specs.Numbers.{digits_of, printed};
 ghost use Rattle.meaning.specs.Records.{hex_digit, hex_of, hex_text};
 ghost use Rattle.records.specs.Adding.{pushed};
 
 use crate::printing::print_number;
+use leaves::puts::put_bytes;
 use std::marker::Model;
 
 // The bytes that are put into it, one behind the other. It has a place for each byte of any record's line; what finds none is left out.
@@ -35,6 +36,17 @@ fn hex_digit(value: u8) -> u8
     55 + value
 }
 
+// Two digits for each byte, over the whole of a place that is just as long.
+fn put_hex(text: &[u8], place: &mut [u8])
+    requires { length place.old ≡ 2 * length text.now }
+    ensures { place.new ≡ hex_of text.now }
+{
+    for (at, byte) in text.iter().enumerate() {
+        place[2 * at] = hex_digit(*byte / 16);
+        place[2 * at + 1] = hex_digit(*byte % 16);
+    }
+}
+
 impl Line {
     pub(crate) fn new() -> Self
         ensures { result ≡ [] }
@@ -62,10 +74,16 @@ impl Line {
         }
     }
 
-    // A run of bytes.
+    // A run of bytes. Whether there is room is asked once for all of it: asked for each byte, the length is stored and read again with each.
     pub(crate) fn push_all(&mut self, bytes: &[u8])
         ensures { self.new ≡ pushed self.old bytes.now }
     {
+        if bytes.len() <= 192 - self.len {
+            let end = self.len + bytes.len();
+            put_bytes(bytes, &mut self.bytes[self.len..end]);
+            self.len = end;
+            return;
+        }
         for byte in bytes {
             self.push(*byte);
         }
@@ -90,10 +108,16 @@ impl Line {
         self.push_number(value.unsigned_abs());
     }
 
-    // Two digits for each byte.
+    // Two digits for each byte; whether there is room is asked once, as in `push_all`.
     fn push_hex(&mut self, text: &[u8])
         ensures { self.new ≡ pushed self.old (hex_of text.now) }
     {
+        if text.len() <= (192 - self.len) / 2 {
+            let end = self.len + 2 * text.len();
+            put_hex(text, &mut self.bytes[self.len..end]);
+            self.len = end;
+            return;
+        }
         for byte in text {
             self.push(hex_digit(*byte / 16));
             self.push(hex_digit(*byte % 16));
