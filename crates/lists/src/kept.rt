@@ -1,5 +1,6 @@
 // Keys kept for comparing, one behind the other in a store, with where each ends there and on which line it stands.
 use doubles::key_at;
+use leaves::puts::put_bytes;
 
 // Rows with a key for which there was no room, and the line of the first.
 #[derive(Clone, Copy)]
@@ -43,7 +44,7 @@ impl<'a> Kept<'a> {
         let Some(place) = self.store.get_mut(from..until) else {
             return false;
         };
-        place.copy_from_slice(key);
+        put_bytes(key, place);
         let Some(end) = self.ends.get_mut(row) else {
             return false;
         };
