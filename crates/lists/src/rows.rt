@@ -2,7 +2,7 @@
 use crate::answers::{say_answer, whole};
 use crate::kept::Kept;
 use crate::lines::{Line, line_of, may_set, without_order_mark};
-use crate::said::{Stopped, Stream, say_line, tell};
+use crate::said::{Stopped, Stream, say_line, tell, tell_number};
 use crate::shown::show_key;
 use crate::turned::say_if_turned;
 use meaning::Settings;
@@ -62,9 +62,10 @@ impl<'a> Rows<'a> {
 
     // A line that may be a setting, and is none that is known.
     fn no_setting(&self, line: &[u8]) -> Stopped {
-        let mut error = Stream::Error;
-        let _ = write!(error, "keys: line {}: ", self.lines);
-        let _ = show_key(error, line);
+        tell(b"keys: line ");
+        tell_number(self.lines);
+        tell(b": ");
+        let _ = show_key(Stream::Error, line);
         tell(
             b" is neither -- backslash on nor -- backslash off; no row from here on is read, and none is compared\n",
         );
@@ -113,12 +114,9 @@ impl<'a> Rows<'a> {
 
     // Reading fails: the line at hand may be cut off, so it is no row.
     pub(crate) fn cut_off(&self) -> Stopped {
-        let mut error = Stream::Error;
-        let _ = writeln!(
-            error,
-            "keys: behind line {} the list cannot be read on; no row from there on is read, and none is compared",
-            self.lines
-        );
+        tell(b"keys: behind line ");
+        tell_number(self.lines);
+        tell(b" the list cannot be read on; no row from there on is read, and none is compared\n");
         Stopped::Told
     }
 }

@@ -53,3 +53,9 @@ pub(crate) fn say_line(n: usize) -> fmt::Result {
 pub(crate) fn tell(bytes: &[u8]) {
     let _ = Stream::Error.put(bytes);
 }
+
+// A number alone: what stands before and behind it is told by itself, so that each part is tried whatever became of the one before.
+pub(crate) fn tell_number(n: usize) {
+    let mut error = Stream::Error;
+    let _ = write!(error, "{n}");
+}
