@@ -1,15 +1,32 @@
 // A list, read through a window: lines end with a line feed, with CR and a line feed, or with CR alone; the last needs no end.
-ghost use Rattle.std.specs.Prelude.{◌≡◌, ◌<◌, ◌≤◌, length, IfOk, IfSome};
+ghost use Rattle.std.specs.Prelude.{◌≡◌, ◌+◌, ◌-◌, ◌<◌, ◌≤◌, length, take, drop, IfOk, IfSome};
 
 use crate::rows::Rows;
 use crate::said::Stopped;
+use leaves::blocks::{Stops, free_run};
 use std::io::{Read, Stdin};
 
-// The first line of a text, and what stands behind its end: a CR and a line feed are one end.
-fn split_line(text: &[u8]) -> Option<(&[u8], &[u8])>
-    ensures { IfSome result (λ parts. length parts.1.now < length text.now) }
+const LINE_ENDS: Stops = Stops {
+    first: b'\n',
+    second: b'\r',
+    third: b'\r',
+};
+
+// How many bytes stand before the first end of a line.
+fn line_len(text: &[u8]) -> usize
+    ensures { result ≤ length text.now }
 {
-    let end = text.iter().position(|byte| matches!(*byte, b'\n' | b'\r'))?;
+    free_run(text, 0, LINE_ENDS)
+}
+
+// The first line of a text, and what stands behind its end: a CR and a line feed are one end.
+// Rules out: what is behind begun at the line's end or inside the line (must-fail: line_left_in_the_rest).
+fn split_line(text: &[u8]) -> Option<(&[u8], &[u8])>
+    ensures apart { IfSome result (λ parts. length parts.0.now + length parts.1.now < length text.now) }
+    ensures front { IfSome result (λ parts. parts.0.now ≡ take (length parts.0.now) text.now) }
+    ensures rest { IfSome result (λ parts. parts.1.now ≡ drop (length text.now - length parts.1.now) text.now) }
+{
+    let end = line_len(text);
     let behind = match &text[end..] {
         [b'\r', b'\n', behind @ ..] => behind,
         [_, behind @ ..] => behind,
