@@ -11,7 +11,7 @@ mod said;
 mod seen;
 mod told;
 
-ghost use Rattle.std.specs.Prelude.{◌<◌, length, IfSome};
+ghost use Rattle.std.specs.Prelude.{◌≡◌, ◌<◌, ◌++◌, length, IfNone, IfSome};
 
 use askings::Tally;
 use rows::{Row, row_len};
@@ -19,8 +19,11 @@ use rows::{Row, row_len};
 const STDIN_FILENO: i32 = 0;
 
 // The first row of a block, by its head, and what stands behind it; a row that is cut short, or has no length, is the last.
+// Rules out: a block's last row left out (must-fail: last_row_left_out).
 fn split_row(block: &[u8]) -> Option<(&[u8], &[u8])>
-    ensures { IfSome result (λ parts. length parts.1.now < length block.now) }
+    ensures shorter { IfSome result (λ parts. length parts.1.now < length block.now) }
+    ensures whole { IfSome result (λ parts. block.now ≡ parts.0.now ++ parts.1.now) }
+    ensures none_left { IfNone result (length block.now ≡ 0) }
 {
     if block.is_empty() {
         return None;
