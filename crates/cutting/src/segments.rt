@@ -48,7 +48,10 @@ pub fn first_segment(text: &[u8], settings: Settings) -> Option<Segment>
     }
     let mark = mark_of(text[open - 1]);
     let hides = backslash_hides(text, settings);
-    let place = closing_mark(&text[open..], mark, hides)?;
+    // Stays: `let else` for `?`: what is told where no mark closes is written out, as a wrong program tells it otherwise (must-fail: unclosed_is_found).
+    let Some(place) = closing_mark(&text[open..], mark, hides) else {
+        return None;
+    };
     Some(Segment {
         opening: open,
         len: open + place + 1,

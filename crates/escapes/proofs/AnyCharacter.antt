@@ -1,6 +1,6 @@
 -- What is told of a unit of a standard or an E body by no escape character holds by any: no such unit is empty, so that none is told as the escape character.
 -- Assumes nothing.
-use mathlib.Core.Path.{◌≡◌, refl, sym, subst}
+use mathlib.Core.Path.{sym, subst}
 use mathlib.Core.Bool.{Bool, true, false, ◌&&◌}
 use mathlib.Core.List.{List, [], ◌∷◌}
 use Prim.Native.Nat.{ℕ, suc, ◌%◌}

@@ -45,7 +45,8 @@ fn past_last(text: &[u8], byte: u8) -> usize
 }
 
 // How many bytes lie between a place and where a text next stands; None if it stands nowhere behind. Each byte is compared with the delimiter's first; behind
-// a $ alone more are compared, by blocks up to the first that differs. A delimiter has its $ at its ends alone: beyond such a block no byte is compared again.
+// a $ alone more are compared, up to the first that differs or the end of its block (`starts_at`). A delimiter has its $ at its ends alone: beyond that no
+// byte is compared again.
 fn found_from(text: &[u8], at: usize, wanted: &[u8]) -> Option<usize>
     ensures { result ≡ place_of (found wanted.now (drop at text.now)) }
 {

@@ -19,19 +19,19 @@ slice_bounds-closing_mark-start c = search opened_fits
 pub overflow_add-result : goal.overflow_add-result
 overflow_add-result c = let behind_here : Searched c.args.settings c.args.text.now
     c.opening_len-open.result c.closing_mark.result = search searched in
-    let i = found_inside behind_here _ c.in_ok-place.was in omega arith
+    let i = found_inside behind_here _ c.in-Some.is in omega arith
 
 pub overflow_add-result-2 : goal.overflow_add-result-2
 overflow_add-result-2 c = let behind_here : Searched c.args.settings c.args.text.now
     c.opening_len-open.result c.closing_mark.result = search searched in
-    let i = found_inside behind_here _ c.in_ok-place.was in omega arith
+    let i = found_inside behind_here _ c.in-Some.is in omega arith
 
 pub returns : goal.returns
 returns c = let behind_here : Searched c.args.settings c.args.text.now
     c.opening_len-open.result c.closing_mark.result = search searched in
-    segment_found behind_here _ c.in_ok-place.was
+    segment_found behind_here _ c.in-Some.is
 
-pub returns-in_err-place : goal.returns-in_err-place
-returns-in_err-place c = let behind_here : Searched c.args.settings c.args.text.now
+pub returns-in_default : goal.returns-in_default
+returns-in_default c = let behind_here : Searched c.args.settings c.args.text.now
     c.opening_len-open.result c.closing_mark.result = search searched in
-    rw c.from_residual.ensures (segment_unclosed behind_here c.in_err-place.was)
+    search (segment_unclosed, behind_here)
